@@ -1,0 +1,3 @@
+-- The laws of integers that proofs above cite.
+pub mod Parts
+pub mod Within

@@ -1,0 +1,163 @@
+-- Linear arithmetic over ℤ, read by `omega` as arithmetic over ℕ: an integer is its positive part less its negative part.
+-- `linear` turns orders, equations and tests of integers into facts on parts; `parts-add`, `parts-neg` and the laws of `half` are listed
+-- for the sums, negations and halves in sight. Assumes nothing.
+use mathlib.Core.Path.{_≡_, refl, ap, sym, subst}
+use mathlib.Core.Bool.{Bool, true, false, not, cond}
+use mathlib.Core.Logic.{⊎-elim, _⊎_}
+use Prim.Native.Nat.{ℕ, zero, suc, _+_, _-_, _*_, _^_, _/_, _%_, _≤_, _<_}
+use native.Mathlib.Omega.{arith}
+use lib.Dec.{T, ltb, leb, ltb→lt, lt→ltb, leb→le, le→leb, nltb→le}
+use lib.IntN.{ℤ, pos, negsuc, negℤ, _+ℤ_, subℕ}
+use lib.Signed.{ltZ, leZ, mag, shrZ, _≤ℤ_, _<ℤ_, leZ-yes, ltZ-yes, ltZ-no}
+use mir.Syntax.{w64}
+use mir.Val.{SFits, toZ, ofZ}
+use mir.ValLaws.{toZ-ofZ}
+use borrow.Author.Tests.{ltb-true, ltb-false, lt-ltb, le-ltb}
+use Rattle.integers.specs.Bound.{half, oppositeBound, inWord}
+
+unfoldable pub positivePart : ℤ → ℕ
+positivePart (pos n) = n
+positivePart (negsuc n) = 0
+
+unfoldable pub negativePart : ℤ → ℕ
+negativePart (pos n) = 0
+negativePart (negsuc n) = suc n
+
+-- ---- operations
+
+parts-sub : (a b : ℕ) → (t : Bool) → ltb a b ≡ t → positivePart (cond t (negsuc (b - suc a)) (pos (a - b))) + b ≡ a + negativePart (cond t (negsuc (b - suc a)) (pos (a - b)))
+unfolding positivePart negativePart
+parts-sub a b true e = omega (arith, ltb-true a b e)
+parts-sub a b false e = omega (arith, ltb-false a b e)
+
+pub parts-add : (a b : ℤ) → positivePart (a +ℤ b) + negativePart a + negativePart b ≡ positivePart a + positivePart b + negativePart (a +ℤ b)
+unfolding positivePart negativePart
+parts-add (pos a) (pos b) = omega arith
+parts-add (pos a) (negsuc b) = omega (arith, parts-sub a (suc b) (ltb a (suc b)) refl)
+parts-add (negsuc a) (pos b) = omega (arith, parts-sub b (suc a) (ltb b (suc a)) refl)
+parts-add (negsuc a) (negsuc b) = omega arith
+
+pub parts-neg : (a : ℤ) → (positivePart (negℤ a) ≡ negativePart a) × (negativePart (negℤ a) ≡ positivePart a)
+unfolding positivePart negativePart
+parts-neg (pos zero) = (refl, refl)
+parts-neg (pos (suc n)) = (refl, refl)
+parts-neg (negsuc n) = (refl, refl)
+
+-- ---- orders and equations
+
+pub le-to : {a b : ℤ} → a ≤ℤ b → positivePart a + negativePart b ≤ positivePart b + negativePart a
+unfolding positivePart negativePart
+le-to {a} {b} h = go a b (h .le)
+  where
+    go : (a b : ℤ) → T (leZ a b) → positivePart a + negativePart b ≤ positivePart b + negativePart a
+    go (pos a) (pos b) t = omega (arith, leb→le a b t)
+    go (pos a) (negsuc b) t = absurd t
+    go (negsuc a) (pos b) t = omega arith
+    go (negsuc a) (negsuc b) t = omega (arith, leb→le b a t)
+
+pub le-of : {a b : ℤ} → positivePart a + negativePart b ≤ positivePart b + negativePart a → a ≤ℤ b
+unfolding positivePart negativePart
+le-of {a} {b} h = record { le = go a b h }
+  where
+    go : (a b : ℤ) → positivePart a + negativePart b ≤ positivePart b + negativePart a → T (leZ a b)
+    go (pos a) (pos b) t = le→leb a b (omega arith)
+    go (pos a) (negsuc b) t = let z : ⊥ = omega arith in absurd z
+    go (negsuc a) (pos b) t = tt
+    go (negsuc a) (negsuc b) t = le→leb b a (omega arith)
+
+pub lt-to : {a b : ℤ} → a <ℤ b → positivePart a + negativePart b < positivePart b + negativePart a
+unfolding positivePart negativePart
+lt-to {a} {b} h = go a b (h .lt)
+  where
+    go : (a b : ℤ) → T (ltZ a b) → positivePart a + negativePart b < positivePart b + negativePart a
+    go (pos a) (pos b) t = omega (arith, ltb→lt a b t)
+    go (pos a) (negsuc b) t = absurd t
+    go (negsuc a) (pos b) t = omega arith
+    go (negsuc a) (negsuc b) t = omega (arith, ltb→lt b a t)
+
+pub lt-of : {a b : ℤ} → positivePart a + negativePart b < positivePart b + negativePart a → a <ℤ b
+unfolding positivePart negativePart
+lt-of {a} {b} h = record { lt = go a b h }
+  where
+    go : (a b : ℤ) → positivePart a + negativePart b < positivePart b + negativePart a → T (ltZ a b)
+    go (pos a) (pos b) t = lt→ltb a b (omega arith)
+    go (pos a) (negsuc b) t = let z : ⊥ = omega arith in absurd z
+    go (negsuc a) (pos b) t = tt
+    go (negsuc a) (negsuc b) t = lt→ltb b a (omega arith)
+
+pub eq-to : {a b : ℤ} → a ≡ b → positivePart a + negativePart b ≡ positivePart b + negativePart a
+eq-to {a} {b} e = rw e
+
+pub eq-of : {a b : ℤ} → positivePart a + negativePart b ≡ positivePart b + negativePart a → a ≡ b
+unfolding positivePart negativePart
+eq-of {a} {b} = go a b
+  where
+    go : (a b : ℤ) → positivePart a + negativePart b ≡ positivePart b + negativePart a → a ≡ b
+    go (pos a) (pos b) e = ap pos (omega arith)
+    go (pos a) (negsuc b) e = let z : ⊥ = omega arith in absurd z
+    go (negsuc a) (pos b) e = let z : ⊥ = omega arith in absurd z
+    go (negsuc a) (negsuc b) e = ap negsuc (omega arith)
+
+pub ltZ-true : (a b : ℤ) → ltZ a b ≡ true → positivePart a + negativePart b < positivePart b + negativePart a
+ltZ-true a b e = lt-to (ltZ-yes (subst T (sym e) tt))
+
+pub ltZ-false : (a b : ℤ) → ltZ a b ≡ false → positivePart b + negativePart a ≤ positivePart a + negativePart b
+ltZ-false a b e = le-to (ltZ-no (subst (λ (t : Bool). T (not t)) (sym e) tt))
+
+-- what `omega` reads of integers
+pub ruleset linear = (arith, ltZ-true, ltZ-false, lt-to, lt-of, eq-to, eq-of, le-to, le-of)
+
+-- ---- a word of 64 bits: from -2 ^ 63 up to, and without, 2 ^ 63
+
+pub word-to : {z : ℤ} → SFits w64 z → (positivePart z < 2 ^ 63 + negativePart z) × (negativePart z ≤ 2 ^ 63 + positivePart z)
+unfolding positivePart negativePart
+word-to {z} h = go z (h .sfits)
+  where
+    go : (z : ℤ) → mag z < 2 ^ 63 → (positivePart z < 2 ^ 63 + negativePart z) × (negativePart z ≤ 2 ^ 63 + positivePart z)
+    go (pos n) t = omega arith
+    go (negsuc n) t = omega arith
+
+pub word-of : {z : ℤ} → positivePart z < 2 ^ 63 + negativePart z → negativePart z ≤ 2 ^ 63 + positivePart z → SFits w64 z
+unfolding positivePart negativePart
+word-of {z} p q = record { sfits = go z p q }
+  where
+    go : (z : ℤ) → positivePart z < 2 ^ 63 + negativePart z → negativePart z ≤ 2 ^ 63 + positivePart z → mag z < 2 ^ 63
+    go (pos n) p q = omega arith
+    go (negsuc n) p q = omega arith
+
+-- a word that is read back from its bits
+pub word-value : {z : ℤ} → SFits w64 z → toZ w64 (ofZ w64 z) ≡ z
+word-value {z} f = toZ-ofZ w64 z f
+
+-- the test of a word
+pub word-inWord : {z : ℤ} → SFits w64 z → inWord z ≡ true
+unfolding inWord
+word-inWord {z} h = lt-ltb (mag z) (2 ^ 63) (h .sfits)
+
+pub inWord-word : (z : ℤ) → inWord z ≡ true → SFits w64 z
+unfolding inWord
+inWord-word z e = record { sfits = ltb-true (mag z) (2 ^ 63) e }
+
+pub below-inWord : (z : ℤ) → 2 ^ 63 + positivePart z < negativePart z → inWord z ≡ false
+unfolding positivePart negativePart inWord
+below-inWord (pos n) h = let z : ⊥ = omega arith in absurd z
+below-inWord (negsuc n) h = le-ltb n (2 ^ 63) (omega arith)
+
+pub above-inWord : (z : ℤ) → 2 ^ 63 + negativePart z ≤ positivePart z → inWord z ≡ false
+unfolding positivePart negativePart inWord
+above-inWord (pos n) h = le-ltb n (2 ^ 63) (omega arith)
+above-inWord (negsuc n) h = let z : ⊥ = omega arith in absurd z
+
+-- ---- halving, the opposite's bound and the smaller of two
+
+-- twice the half is at most the number, and more than the number less two
+pub parts-half : (c : ℤ) → (positivePart (half c) + positivePart (half c) + negativePart c ≤ positivePart c + negativePart (half c) + negativePart (half c))
+    × (positivePart c + negativePart (half c) + negativePart (half c) < positivePart (half c) + positivePart (half c) + 2 + negativePart c)
+unfolding positivePart negativePart half
+parts-half (pos n) = omega arith
+parts-half (negsuc n) = omega arith
+
+-- the opposite's bound plus the bound is -1
+pub parts-opposite : (c : ℤ) → positivePart (oppositeBound c) + positivePart c + 1 ≡ negativePart (oppositeBound c) + negativePart c
+unfolding positivePart negativePart oppositeBound
+parts-opposite c = omega (arith, parts-add (negℤ c) (negsuc 0), parts-neg c)

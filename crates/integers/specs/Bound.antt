@@ -1,0 +1,37 @@
+-- The operations on a bound, over unbounded integers, and the range of a signed 64-bit word.
+use mathlib.Core.Bool.{Bool, true, false, cond}
+use Prim.Native.Nat.{ℕ, _^_}
+use lib.Dec.{ltb}
+use lib.IntN.{ℤ, pos, negsuc, negℤ, _+ℤ_}
+use lib.Signed.{mag, ltZ, shrZ, _≤ℤ_}
+use Rattle.integers.specs.declared.Total.{Total}
+use Rattle.integers.specs.declared.Total.the-variants.{Sum, Overflow}
+
+-- c halved and rounded toward minus infinity: 7 gives 3, 0 gives 0, -1 gives -1, -3 gives -2
+unfoldable pub half : ℤ → ℤ
+half c = shrZ c 2
+
+-- the bound of the opposite of `t ≤ c`, which is `-t ≤ -c - 1`
+unfoldable pub oppositeBound : ℤ → ℤ
+oppositeBound c = negℤ c +ℤ negsuc 0
+
+-- the smaller of two bounds
+unfoldable pub smaller : ℤ → ℤ → ℤ
+smaller a b = cond (ltZ b a) b a
+
+-- z is a signed 64-bit word
+unfoldable pub inWord : ℤ → Bool
+inWord z = ltb (mag z) (2 ^ 63)
+
+abbrev pub pickTotal : Bool → Total → Total → Total
+pickTotal true t u = t
+pickTotal false t u = u
+
+-- the sum of two words, where it is a word
+unfoldable pub totalOf : ℤ → ℤ → Total
+totalOf a b = pickTotal (inWord (a +ℤ b)) (Sum (a +ℤ b)) Overflow
+
+-- the integer z is at most B in magnitude
+pub record Within (B : ℕ) (z : ℤ) : Type 0 where
+  pub above : negℤ (pos B) ≤ℤ z
+  pub below : z ≤ℤ pos B

@@ -1,0 +1,46 @@
+// The operations on a bound that is a signed 64-bit word. Each answers for every pair of words.
+ghost use mathlib.Core.Path.{_≡_};
+ghost use Rattle.integers.specs.Bound.{half, oppositeBound, smaller, totalOf};
+
+// `c` halved and rounded toward minus infinity.
+pub fn halved(c: i64) -> i64
+    ensures { λ r. ⌜ r ≡ half c ⌝ }
+{
+    c >> 1
+}
+
+// The bound of the opposite rule, `-c - 1`, which fits for every word.
+pub fn opposite(c: i64) -> i64
+    ensures { λ r. ⌜ r ≡ oppositeBound c ⌝ }
+{
+    -1 - c
+}
+
+// The smaller of two words.
+pub fn least(a: i64, b: i64) -> i64
+    ensures { λ r. ⌜ r ≡ smaller a b ⌝ }
+{
+    if b < a { b } else { a }
+}
+
+// The sum of two words, which may be no word.
+pub enum Total {
+    Sum(i64),
+    Overflow,
+}
+
+// The sum of `a` and `b` where it fits a word.
+pub fn add(a: i64, b: i64) -> Total
+    ensures { λ r. ⌜ r ≡ totalOf a b ⌝ }
+{
+    if b < 0 {
+        if a < -9223372036854775808 - b {
+            return Total::Overflow;
+        }
+        return Total::Sum(a + b);
+    }
+    if 9223372036854775807 - b < a {
+        return Total::Overflow;
+    }
+    Total::Sum(a + b)
+}

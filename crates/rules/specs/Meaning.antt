@@ -1,0 +1,32 @@
+-- What a rule means, over unbounded integers and apart from any algorithm.
+use mathlib.Core.Bool.{Bool, cond}
+use Prim.Native.Nat.{ℕ, _%_}
+use lib.Dec.{eqb}
+use lib.IntN.{ℤ, pos, negℤ, _+ℤ_}
+use lib.Signed.{_≤ℤ_}
+use Rattle.rules.specs.declared.Rule.{Rule}
+use Rattle.rules.specs.declared.Rule.the-variants.{One, Two, Nothing}
+use Rattle.rules.specs.Literal.{quantityOf}
+
+-- integers for quantities, by their numbers from 1
+abbrev pub Assignment : Type 0
+Assignment = ℕ → ℤ
+
+-- the integer of a literal: that of its quantity, with its sign
+unfoldable pub literalValue : Assignment → ℕ → ℤ
+literalValue σ x = cond (eqb (x % 2) 0) (σ (quantityOf x)) (negℤ (σ (quantityOf x)))
+
+-- the integer of a rule's term: of one quantity, of two together, or 0 where the rule has none
+abbrev pub termValue : Assignment → Rule → ℤ
+termValue σ (One x c) = literalValue σ x
+termValue σ (Two x y c) = literalValue σ x +ℤ literalValue σ y
+termValue σ (Nothing c) = pos 0
+
+abbrev pub boundOf : Rule → ℤ
+boundOf (One x c) = c
+boundOf (Two x y c) = c
+boundOf (Nothing c) = c
+
+-- an assignment meets a rule (document 01: satisfies it): the term is at most the bound
+pub record Meets (σ : Assignment) (r : Rule) : Type 0 where
+  pub met : termValue σ r ≤ℤ boundOf r

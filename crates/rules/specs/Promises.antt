@@ -1,0 +1,37 @@
+-- What each method of a rule promises: which rule comes back, and what it means.
+use mathlib.Core.Path.{_≡_}
+use mathlib.Core.Logic.{_↔_, _⊎_}
+use mathlib.Core.Bool.{true}
+use Prim.Native.Nat.{ℕ}
+use lib.IntN.{ℤ, _+ℤ_}
+use lib.Signed.{_≤ℤ_}
+use Rattle.integers.specs.Bound.{inWord}
+use Rattle.rules.specs.declared.Rule.{Rule}
+use Rattle.rules.specs.declared.Rule.the-variants.{One, Two, Nothing}
+use Rattle.rules.specs.Literal.{negated}
+use Rattle.rules.specs.Meaning.{Assignment, Meets, termValue, boundOf}
+use Rattle.rules.specs.Steps.{oppositeOf, halvedOf, sumOver}
+
+-- s is the opposite of r: met exactly where r is not
+pub record Opposite (r s : Rule) : Type 0 where
+  pub reply : s ≡ oppositeOf r
+  pub meaning : (σ : Assignment) → Meets σ s ↔ (Meets σ r → ⊥)
+
+-- s is r halved: met by exactly the same integers
+pub record Halved (r s : Rule) : Type 0 where
+  pub reply : s ≡ halvedOf r
+  pub meaning : (σ : Assignment) → Meets σ s ↔ Meets σ r
+
+-- the literal z stands in the rule's term
+abbrev pub Stands : ℕ → Rule → Type 0
+Stands z (One x c) = x ≡ z
+Stands z (Two x y c) = (x ≡ z) ⊎ (y ≡ z)
+Stands z (Nothing c) = ⊥
+
+-- t is the sum of r and s over z: every assignment that meets both meets it, and where z cancels and the bounds' sum is a word it says just
+-- that both terms together are at most both bounds together
+pub record Sum (z : ℕ) (r s t : Rule) : Type 0 where
+  pub reply : t ≡ sumOver z r s
+  pub sound : (σ : Assignment) → Meets σ r → Meets σ s → Meets σ t
+  pub exact : Stands z r → Stands (negated z) s → inWord (boundOf r +ℤ boundOf s) ≡ true
+      → (σ : Assignment) → Meets σ t ↔ ((termValue σ r +ℤ termValue σ s) ≤ℤ (boundOf r +ℤ boundOf s))

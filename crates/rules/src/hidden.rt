@@ -1,0 +1,31 @@
+// The hidden set, a number with bit q - 1 for quantity q, decoded here alone.
+use crate::sheet::Sheet;
+ghost use mathlib.Core.Path.{_≡_};
+ghost use mathlib.Core.Bool.{true, false, Bool·and};
+ghost use lib.Dec.{leb};
+ghost use Rattle.rules.specs.Hidden.{hiddenIn, setWithin};
+ghost use Rattle.rules.specs.Limits.{maxQuantities};
+
+// Whether the set has quantity `q`; no number outside 1 to 32 is in any set.
+pub fn is_hidden(set: u32, q: usize) -> bool
+    ensures { λ r. ⌜ r ≡ hiddenIn set q ⌝ }
+{
+    if q == 0 {
+        return false;
+    }
+    if 32 < q {
+        return false;
+    }
+    let bit = q - 1;
+    (set >> bit) % 2 == 1
+}
+
+// Whether the set names quantities of 1 to `n` only; at 32 or more every set does.
+pub fn is_within(set: u32, n: usize) -> bool
+    ensures { λ r. ⌜ r ≡ setWithin n set ⌝ }
+{
+    if 32 <= n {
+        return true;
+    }
+    (set >> n) == 0
+}

@@ -1,0 +1,35 @@
+// Document 01's refusals. Their numbers, and what is returned beside them, are in specs/Refusal.antt.
+ghost use mathlib.Core.Path.{_≡_};
+ghost use Rattle.rules.specs.Refusal.{refusalNumber};
+
+pub enum Refusal {
+    // 1: n, a table's length or a text's size
+    Size,
+    // 2: a malformed or missing line
+    Malformed { line: usize },
+    // 3: a number outside its limit; line 0 outside texts
+    OutOfLimit { line: usize },
+    // 4: a rule +q-q or -q+q; line 0 outside texts
+    Cancelling { line: usize },
+    // 5: no integers satisfy
+    NoAssignment,
+    // 6: something lent is too short
+    TooShort { needed: usize },
+    // 7: the script does not fit the sheet
+    Mismatch,
+}
+
+// The paper's number of a refusal.
+pub fn number(r: Refusal) -> u32
+    ensures { λ k. ⌜ k ≡ refusalNumber r ⌝ }
+{
+    match r {
+        Refusal::Size => 1,
+        Refusal::Malformed { line: _ } => 2,
+        Refusal::OutOfLimit { line: _ } => 3,
+        Refusal::Cancelling { line: _ } => 4,
+        Refusal::NoAssignment => 5,
+        Refusal::TooShort { needed: _ } => 6,
+        Refusal::Mismatch => 7,
+    }
+}

@@ -1,0 +1,225 @@
+// A rule by value: the term of one literal, of two, or of none, and the bound that it is at most.
+use crate::literal;
+use crate::sheet::Sheet;
+use integers::Total;
+ghost use mathlib.Core.Path.{_≡_};
+ghost use lib.IntN.{ℤ};
+ghost use Rattle.rules.specs.Meaning.{boundOf};
+ghost use Rattle.rules.specs.Steps.{ruleOf, trivialRule, partnerOf, ruleOfPair, ruleOfRest};
+ghost use Rattle.rules.specs.Promises.{Opposite, Halved, Sum};
+
+// A rule as written: its literals stand in the order given, and a doubled term stays doubled. The bare rule 0 ≤ c keeps its c.
+pub enum Rule {
+    One {
+        literal: usize,
+        bound: i64,
+    },
+    Two {
+        first: usize,
+        second: usize,
+        bound: i64,
+    },
+    Nothing {
+        bound: i64,
+    },
+}
+
+// What a rule leaves when a literal is taken from its term.
+pub enum Partner {
+    Literal(usize),
+    Alone,
+    Absent,
+}
+
+impl Rule {
+    // The rule of signed quantity numbers, +q as q and -q as -q, 0 standing for none. Every bound is taken as it is.
+    pub fn new(first: i64, second: i64, bound: i64) -> Rule
+        ensures { λ r. ⌜ r ≡ ruleOf first second bound ⌝ }
+    {
+        if first == 0 {
+            if second == 0 {
+                return Rule::Nothing { bound };
+            }
+            return Rule::One {
+                literal: literal::of_signed(second),
+                bound,
+            };
+        }
+        if second == 0 {
+            return Rule::One {
+                literal: literal::of_signed(first),
+                bound,
+            };
+        }
+        Rule::Two {
+            first: literal::of_signed(first),
+            second: literal::of_signed(second),
+            bound,
+        }
+    }
+
+    // The rule that says nothing, for where there is none to hand back.
+    pub fn trivial() -> Rule
+        ensures { λ r. ⌜ r ≡ trivialRule ⌝ }
+    {
+        Rule::Nothing {
+            bound: Sheet::NO_RULE,
+        }
+    }
+
+    // The bound.
+    pub fn bound(self) -> i64
+        ensures { λ c. ⌜ c ≡ boundOf self ⌝ }
+    {
+        match self {
+            Rule::One { literal: _, bound } => bound,
+            Rule::Two {
+                first: _,
+                second: _,
+                bound,
+            } => bound,
+            Rule::Nothing { bound } => bound,
+        }
+    }
+
+    // The opposite, which is met exactly where the rule is not. Its bound fits for every word.
+    pub fn opposite(self) -> Rule
+        ensures { λ r. ⌜ Opposite self r ⌝ }
+    {
+        match self {
+            Rule::One { literal, bound } => Rule::One {
+                literal: literal::negate(literal),
+                bound: integers::opposite(bound),
+            },
+            Rule::Two {
+                first,
+                second,
+                bound,
+            } => Rule::Two {
+                first: literal::negate(first),
+                second: literal::negate(second),
+                bound: integers::opposite(bound),
+            },
+            Rule::Nothing { bound } => Rule::Nothing {
+                bound: integers::opposite(bound),
+            },
+        }
+    }
+
+    // A doubled term as the single one with its bound halved; any other rule as it is.
+    pub fn halved(self) -> Rule
+        ensures { λ r. ⌜ Halved self r ⌝ }
+    {
+        match self {
+            Rule::Two {
+                first,
+                second,
+                bound,
+            } => {
+                if first == second {
+                    return Rule::One {
+                        literal: first,
+                        bound: integers::halved(bound),
+                    };
+                }
+                self
+            }
+            Rule::One {
+                literal: _,
+                bound: _,
+            } => self,
+            Rule::Nothing { bound: _ } => self,
+        }
+    }
+
+    // What is left of the term when `literal` is taken from it.
+    pub fn partner(self, literal: usize) -> Partner
+        ensures { λ p. ⌜ p ≡ partnerOf literal self ⌝ }
+    {
+        match self {
+            Rule::One {
+                literal: x,
+                bound: _,
+            } => {
+                if x == literal {
+                    return Partner::Alone;
+                }
+                Partner::Absent
+            }
+            Rule::Two {
+                first,
+                second,
+                bound: _,
+            } => {
+                if first == literal {
+                    return Partner::Literal(second);
+                }
+                if second == literal {
+                    return Partner::Literal(first);
+                }
+                Partner::Absent
+            }
+            Rule::Nothing { bound: _ } => Partner::Absent,
+        }
+    }
+
+    // The sum with another rule over a literal of this one whose negation stands in the other: both terms without it, both bounds together,
+    // halved where the rest is alike. The trivial rule where nothing cancels or the bounds' sum does not fit.
+    pub fn sum(self, other: Rule, literal: usize) -> Rule
+        ensures { λ r. ⌜ Sum literal self other r ⌝ }
+    {
+        let mine = self.partner(literal);
+        let theirs = other.partner(literal::negate(literal));
+        let together = integers::add(self.bound(), other.bound());
+        match together {
+            Total::Sum(bound) => of_rest(mine, theirs, bound),
+            Total::Overflow => Rule::trivial(),
+        }
+    }
+}
+
+// The rule of two literals that are left of a sum: halved where alike, bare where they cancel, else with the lower first.
+pub fn of_pair(x: usize, y: usize, bound: i64) -> Rule
+    ensures { λ r. ⌜ r ≡ ruleOfPair x y bound ⌝ }
+{
+    if x == y {
+        return Rule::One {
+            literal: x,
+            bound: integers::halved(bound),
+        };
+    }
+    if y == literal::negate(x) {
+        return Rule::Nothing { bound };
+    }
+    if x < y {
+        return Rule::Two {
+            first: x,
+            second: y,
+            bound,
+        };
+    }
+    Rule::Two {
+        first: y,
+        second: x,
+        bound,
+    }
+}
+
+// The rule of what two terms leave; the trivial one where either has nothing to take.
+pub fn of_rest(mine: Partner, theirs: Partner, bound: i64) -> Rule
+    ensures { λ r. ⌜ r ≡ ruleOfRest mine theirs bound ⌝ }
+{
+    match mine {
+        Partner::Literal(x) => match theirs {
+            Partner::Literal(y) => of_pair(x, y, bound),
+            Partner::Alone => Rule::One { literal: x, bound },
+            Partner::Absent => Rule::trivial(),
+        },
+        Partner::Alone => match theirs {
+            Partner::Literal(y) => Rule::One { literal: y, bound },
+            Partner::Alone => Rule::Nothing { bound },
+            Partner::Absent => Rule::trivial(),
+        },
+        Partner::Absent => Rule::trivial(),
+    }
+}

@@ -6,8 +6,8 @@ use Prim.Native.Nat.{ℕ}
 use lib.IntN.{ℤ, _+ℤ_}
 use lib.Signed.{_≤ℤ_}
 use Rattle.integers.specs.Bound.{inWord}
-use Rattle.rules.specs.declared.Rule.{Rule}
-use Rattle.rules.specs.declared.Rule.the-variants.{One, Two, Nothing}
+use Rattle.rules.specs.declared.rule.Rule.{Rule}
+use Rattle.rules.specs.declared.rule.Rule.the-variants.{One, Two, Nothing}
 use Rattle.rules.specs.Literal.{negated}
 use Rattle.rules.specs.Meaning.{Assignment, Meets, termValue, boundOf}
 use Rattle.rules.specs.Steps.{oppositeOf, halvedOf, sumOver}

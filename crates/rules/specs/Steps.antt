@@ -4,10 +4,10 @@ use Prim.Native.Nat.{ℕ, zero, suc}
 use lib.Dec.{eqb, ltb}
 use lib.IntN.{ℤ, pos, negsuc, _+ℤ_}
 use Rattle.integers.specs.Bound.{half, oppositeBound, inWord}
-use Rattle.rules.specs.declared.Rule.{Rule}
-use Rattle.rules.specs.declared.Rule.the-variants.{One, Two, Nothing}
-use Rattle.rules.specs.declared.Partner.{Partner}
-use Rattle.rules.specs.declared.Partner.the-variants.{Literal, Alone, Absent}
+use Rattle.rules.specs.declared.rule.Rule.{Rule}
+use Rattle.rules.specs.declared.rule.Rule.the-variants.{One, Two, Nothing}
+use Rattle.rules.specs.declared.rule.Partner.{Partner}
+use Rattle.rules.specs.declared.rule.Partner.the-variants.{Literal, Alone, Absent}
 use Rattle.rules.specs.Limits.{noRule}
 use Rattle.rules.specs.Literal.{negated, literalOf}
 use Rattle.rules.specs.Meaning.{boundOf}

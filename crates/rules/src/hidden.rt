@@ -1,7 +1,7 @@
 // The hidden set, a number with bit q - 1 for quantity q, decoded here alone.
 use crate::sheet::Sheet;
 ghost use mathlib.Core.Path.{_≡_};
-ghost use mathlib.Core.Bool.{true, false, Bool·and};
+ghost use mathlib.Core.Bool.{true, false};
 ghost use lib.Dec.{leb};
 ghost use Rattle.rules.specs.Hidden.{hiddenIn, setWithin};
 ghost use Rattle.rules.specs.Limits.{maxQuantities};

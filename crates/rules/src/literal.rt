@@ -4,28 +4,28 @@ ghost use lib.IntN.{ℤ, pos};
 ghost use Rattle.rules.specs.Literal.{quantityOf, negated, literalOf};
 
 // The quantity that a literal names, counted from 1.
-pub fn quantity(x: usize) -> usize
+pub fn quantity(x: u32) -> usize
     ensures { λ r. ⌜ r ≡ quantityOf x ⌝ }
 {
-    x / 2 + 1
+    x as usize / 2 + 1
 }
 
 // The same quantity with the other sign.
-pub fn negate(x: usize) -> usize
+pub fn negate(x: u32) -> u32
     ensures { λ r. ⌜ r ≡ negated x ⌝ }
 {
     2 * (x / 2) + (1 - x % 2)
 }
 
 // The literal of a signed quantity number; 0, which names none, gets that of quantity 1.
-pub fn of_signed(q: i64) -> usize
+pub fn of_signed(q: i32) -> u32
     ensures { λ r. ⌜ r ≡ literalOf q ⌝ }
 {
     if q < 0 {
-        return (-1 - q) as usize * 2 + 1;
+        return (-1 - q) as u32 * 2 + 1;
     }
     if q == 0 {
         return 0;
     }
-    (q - 1) as usize * 2
+    (q - 1) as u32 * 2
 }

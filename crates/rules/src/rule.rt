@@ -11,12 +11,12 @@ ghost use Rattle.rules.specs.Promises.{Opposite, Halved, Sum};
 // A rule as written: its literals stand in the order given, and a doubled term stays doubled. The bare rule 0 ≤ c keeps its c.
 pub enum Rule {
     One {
-        literal: usize,
+        literal: u32,
         bound: i64,
     },
     Two {
-        first: usize,
-        second: usize,
+        first: u32,
+        second: u32,
         bound: i64,
     },
     Nothing {
@@ -26,14 +26,14 @@ pub enum Rule {
 
 // What a rule leaves when a literal is taken from its term.
 pub enum Partner {
-    Literal(usize),
+    Literal(u32),
     Alone,
     Absent,
 }
 
 impl Rule {
     // The rule of signed quantity numbers, +q as q and -q as -q, 0 standing for none. Every bound is taken as it is.
-    pub fn new(first: i64, second: i64, bound: i64) -> Rule
+    pub fn new(first: i32, second: i32, bound: i64) -> Rule
         ensures { λ r. ⌜ r ≡ ruleOf first second bound ⌝ }
     {
         if first == 0 {
@@ -133,7 +133,7 @@ impl Rule {
     }
 
     // What is left of the term when `literal` is taken from it.
-    pub fn partner(self, literal: usize) -> Partner
+    pub fn partner(self, literal: u32) -> Partner
         ensures { λ p. ⌜ p ≡ partnerOf literal self ⌝ }
     {
         match self {
@@ -165,7 +165,7 @@ impl Rule {
 
     // The sum with another rule over a literal of this one whose negation stands in the other: both terms without it, both bounds together,
     // halved where the rest is alike. The trivial rule where nothing cancels or the bounds' sum does not fit.
-    pub fn sum(self, other: Rule, literal: usize) -> Rule
+    pub fn sum(self, other: Rule, literal: u32) -> Rule
         ensures { λ r. ⌜ Sum literal self other r ⌝ }
     {
         let mine = self.partner(literal);
@@ -179,7 +179,7 @@ impl Rule {
 }
 
 // The rule of two literals that are left of a sum: halved where alike, bare where they cancel, else with the lower first.
-pub fn of_pair(x: usize, y: usize, bound: i64) -> Rule
+pub fn of_pair(x: u32, y: u32, bound: i64) -> Rule
     ensures { λ r. ⌜ r ≡ ruleOfPair x y bound ⌝ }
 {
     if x == y {

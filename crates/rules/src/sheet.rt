@@ -1,4 +1,4 @@
-// The sheet type and its limits, each spelled here and in specs/Limits.antt, tied by `limits`.
+// The sheet type and its limits, each spelled here and in specs/Limits.antt, tied by `constants`.
 ghost use mathlib.Core.Path.{_≡_};
 ghost use Rattle.rules.specs.Limits.{maxQuantities, maxBound, maxRules, noRule, maxText};
 ghost use lib.IntN.{pos};
@@ -31,7 +31,7 @@ pub struct Limits {
 }
 
 // The sheet's constants are the numbers of specs/Limits.antt.
-pub fn limits() -> Limits
+pub fn constants() -> Limits
     ensures quantities { λ r. ⌜ r .quantities ≡ maxQuantities ⌝ }
     ensures bound { λ r. ⌜ r .bound ≡ pos maxBound ⌝ }
     ensures rules { λ r. ⌜ r .rules ≡ maxRules ⌝ }

@@ -1,0 +1,3 @@
+-- The laws of rules that proofs above cite: of literals and their integers, and of what a rule means after each step.
+pub mod Literals
+pub mod Meanings

@@ -18,7 +18,7 @@ use Rattle.rules.specs.declared.rule.Partner.the-variants.{Literal, Alon
 use Rattle.rules.specs.Limits.{noRule}
 use Rattle.rules.specs.Literal.{negated}
 use Rattle.rules.specs.Meaning.{Assignment, literalValue, termValue, boundOf, Meets}
-use Rattle.rules.specs.Steps.{pickRule, trivialRule, oppositeOf, halvedOf, partnerOf, ruleOfPair, ruleOfRest, sumOver}
+use Rattle.rules.specs.Steps.{pickRule, trivialRule, oppositeOf, halvedOf, pickPartner, partnerOf, ruleOfPair, ruleOfRest, sumOver}
 use Rattle.rules.specs.Promises.{Stands}
 use Rattle.rules.proofs.Literals.{value-negated}
 
@@ -60,9 +60,141 @@ opposite-meaning σ r =
 pub half-order : (t c : ℤ) → (t ≤ℤ half c) ↔ ((t +ℤ t) ≤ℤ c)
 half-order t c = (λ h. omega (linear, parts-add t t, parts-half c), λ h. omega (linear, parts-add t t, parts-half c))
 
+-- two literals that are alike, as one
+pub doubled-meaning : (σ : Assignment) (x y : ℕ) (c : ℤ) → x ≡ y → Meets σ (One x (half c)) ↔ ((literalValue σ x +ℤ literalValue σ y) ≤ℤ c)
+doubled-meaning σ x y c e =
+    rw (← e) (λ h. half-order (literalValue σ x) c .0 (h .met), λ h. record { met = half-order (literalValue σ x) c .1 h })
+
 pub halved-meaning : (σ : Assignment) (r : Rule) → Meets σ (halvedOf r) ↔ Meets σ r
 unfolding halvedOf
 halved-meaning σ (One x c) = (λ h. h, λ h. h)
 halved-meaning σ (Nothing c) = (λ h. h, λ h. h)
-halved-meaning σ (Two x y c) = ?
+halved-meaning σ (Two x y c) = go (eqb x y) refl
+  where
+    go : (t : Bool) → eqb x y ≡ t → Meets σ (pickRule t (One x (half c)) (Two x y c)) ↔ Meets σ (Two x y c)
+    go true e = let d = doubled-meaning σ x y c (eqb-true x y e) in (λ h. record { met = d .0 h }, λ h. d .1 (h .met))
+    go false e = (λ h. h, λ h. h)
 
+-- ---- what a sum leaves
+
+swapped : (a b : ℤ) → a +ℤ b ≡ b +ℤ a
+swapped a b = omega (linear, parts-add a b, parts-add b a)
+
+-- a rule means that its term is at most its bound, whatever form the term has
+meets-as : (σ : Assignment) (r : Rule) {t : ℤ} → termValue σ r ≡ t → Meets σ r ↔ (t ≤ℤ boundOf r)
+meets-as σ r e = (λ h. rw e at (h .met), λ h. record { met = rw e h })
+
+pub pair-meaning : (σ : Assignment) (x y : ℕ) (c : ℤ) → Meets σ (ruleOfPair x y c) ↔ ((literalValue σ x +ℤ literalValue σ y) ≤ℤ c)
+unfolding ruleOfPair positivePart negativePart
+pair-meaning σ x y c = go (eqb x y) refl (eqb y (negated x)) refl (ltb x y)
+  where
+    cancels : y ≡ negated x → pos 0 ≡ literalValue σ x +ℤ literalValue σ y
+    cancels e = rw (e, value-negated σ x) (omega (linear, parts-add (literalValue σ x) (negℤ (literalValue σ x)), parts-neg (literalValue σ x)))
+    go : (t : Bool) → eqb x y ≡ t → (u : Bool) → eqb y (negated x) ≡ u → (v : Bool)
+        → Meets σ (pickRule t (One x (half c)) (pickRule u (Nothing c) (pickRule v (Two x y c) (Two y x c))))
+        ↔ ((literalValue σ x +ℤ literalValue σ y) ≤ℤ c)
+    go true e u f v = doubled-meaning σ x y c (eqb-true x y e)
+    go false e true f v = meets-as σ (Nothing c) (cancels (eqb-true y (negated x) f))
+    go false e false f true = meets-as σ (Two x y c) refl
+    go false e false f false = meets-as σ (Two y x c) (swapped (literalValue σ y) (literalValue σ x))
+
+pub trivial-met : (σ : Assignment) → Meets σ trivialRule
+trivial-met σ = record { met = record { le = tt } }
+
+-- the integer of what is left of a term, and that the literal taken was there
+abbrev pub restValue : Assignment → Partner → ℤ
+restValue σ (Literal x) = literalValue σ x
+restValue σ Alone = pos 0
+restValue σ Absent = pos 0
+
+abbrev pub Present : Partner → Type 0
+Present (Literal x) = Unit {0}
+Present Alone = Unit {0}
+Present Absent = ⊥
+
+pub stands-present : (z : ℕ) (r : Rule) → Stands z r → Present (partnerOf z r)
+unfolding partnerOf
+stands-present z (One x c) e = rw (eq-eqb x z e) tt
+stands-present z (Two x y c) (inl e) = rw (eq-eqb x z e) tt
+stands-present z (Two x y c) (inr e) = rw (eq-eqb y z e) (go (eqb x z))
+  where
+    go : (t : Bool) → Present (pickPartner t (Literal y) (Literal x))
+    go true = tt
+    go false = tt
+stands-present z (Nothing c) e = e
+
+-- a term is the literal taken and what is left
+pub partner-term : (σ : Assignment) (z : ℕ) (r : Rule) → Present (partnerOf z r)
+    → termValue σ r ≡ literalValue σ z +ℤ restValue σ (partnerOf z r)
+unfolding partnerOf positivePart negativePart
+partner-term σ z (One x c) = go (eqb x z) refl
+  where
+    go : (t : Bool) → eqb x z ≡ t → Present (pickPartner t Alone Absent)
+        → literalValue σ x ≡ literalValue σ z +ℤ restValue σ (pickPartner t Alone Absent)
+    go true e p = rw (eqb-true x z e) (omega (linear, parts-add (literalValue σ z) (pos 0)))
+    go false e p = absurd p
+partner-term σ z (Two x y c) = go (eqb x z) refl (eqb y z) refl
+  where
+    go : (t : Bool) → eqb x z ≡ t → (u : Bool) → eqb y z ≡ u → Present (pickPartner t (Literal y) (pickPartner u (Literal x) Absent))
+        → literalValue σ x +ℤ literalValue σ y
+        ≡ literalValue σ z +ℤ restValue σ (pickPartner t (Literal y) (pickPartner u (Literal x) Absent))
+    go true e u f p = rw (eqb-true x z e)
+    go false e true f p = rw (← eqb-true y z f) (swapped (literalValue σ x) (literalValue σ y))
+    go false e false f p = absurd p
+partner-term σ z (Nothing c) = λ p. absurd p
+
+pub rest-meaning : (σ : Assignment) (p q : Partner) (c : ℤ) → Present p → Present q
+    → Meets σ (ruleOfRest p q c) ↔ ((restValue σ p +ℤ restValue σ q) ≤ℤ c)
+unfolding ruleOfRest positivePart negativePart
+rest-meaning σ (Literal x) (Literal y) c h k = pair-meaning σ x y c
+rest-meaning σ (Literal x) Alone c h k = meets-as σ (One x c) (omega (linear, parts-add (literalValue σ x) (pos 0)))
+rest-meaning σ (Literal x) Absent c h k = absurd k
+rest-meaning σ Alone (Literal y) c h k = meets-as σ (One y c) (omega (linear, parts-add (pos 0) (literalValue σ y)))
+rest-meaning σ Alone Alone c h k = meets-as σ (Nothing c) refl
+rest-meaning σ Alone Absent c h k = absurd k
+rest-meaning σ Absent q c h k = absurd h
+
+-- where the literal is missing on either side, the trivial rule is left, which is met
+pub rest-met : (σ : Assignment) (p q : Partner) (c : ℤ) → (Present p → Present q → Meets σ (ruleOfRest p q c)) → Meets σ (ruleOfRest p q c)
+unfolding ruleOfRest
+rest-met σ (Literal x) (Literal y) c h = h tt tt
+rest-met σ (Literal x) Alone c h = h tt tt
+rest-met σ (Literal x) Absent c h = trivial-met σ
+rest-met σ Alone (Literal y) c h = h tt tt
+rest-met σ Alone Alone c h = h tt tt
+rest-met σ Alone Absent c h = trivial-met σ
+rest-met σ Absent q c h = trivial-met σ
+
+-- ---- the sum
+
+cancelled : (v a b : ℤ) → (v +ℤ a) +ℤ (negℤ v +ℤ b) ≡ a +ℤ b
+cancelled v a b =
+    omega (linear, parts-add v a, parts-neg v, parts-add (negℤ v) b, parts-add (v +ℤ a) (negℤ v +ℤ b), parts-add a b)
+
+-- both terms together are what both leave
+pub sum-term : (σ : Assignment) (z : ℕ) (r s : Rule) → Present (partnerOf z r) → Present (partnerOf (negated z) s)
+    → termValue σ r +ℤ termValue σ s ≡ restValue σ (partnerOf z r) +ℤ restValue σ (partnerOf (negated z) s)
+sum-term σ z r s p q =
+    rw (partner-term σ z r p, partner-term σ (negated z) s q, value-negated σ z)
+    (cancelled (literalValue σ z) (restValue σ (partnerOf z r)) (restValue σ (partnerOf (negated z) s)))
+
+pub sum-meaning : (σ : Assignment) (z : ℕ) (r s : Rule) (c : ℤ) → Present (partnerOf z r) → Present (partnerOf (negated z) s)
+    → Meets σ (ruleOfRest (partnerOf z r) (partnerOf (negated z) s) c) ↔ ((termValue σ r +ℤ termValue σ s) ≤ℤ c)
+sum-meaning σ z r s c p q = rw (sum-term σ z r s p q) (rest-meaning σ (partnerOf z r) (partnerOf (negated z) s) c p q)
+
+pub sum-exact : (z : ℕ) (r s : Rule) → Stands z r → Stands (negated z) s → inWord (boundOf r +ℤ boundOf s) ≡ true
+    → (σ : Assignment) → Meets σ (sumOver z r s) ↔ ((termValue σ r +ℤ termValue σ s) ≤ℤ (boundOf r +ℤ boundOf s))
+unfolding sumOver
+sum-exact z r s p q w σ =
+    rw w (sum-meaning σ z r s (boundOf r +ℤ boundOf s) (stands-present z r p) (stands-present (negated z) s q))
+
+pub sum-sound : (z : ℕ) (r s : Rule) (σ : Assignment) → Meets σ r → Meets σ s → Meets σ (sumOver z r s)
+unfolding sumOver
+sum-sound z r s σ h k =
+    go (inWord (boundOf r +ℤ boundOf s)) (boundOf r +ℤ boundOf s)
+    (omega (linear, h .met, k .met, parts-add (termValue σ r) (termValue σ s), parts-add (boundOf r) (boundOf s)))
+  where
+    go : (t : Bool) (c : ℤ) → (termValue σ r +ℤ termValue σ s) ≤ℤ c
+        → Meets σ (pickRule t (ruleOfRest (partnerOf z r) (partnerOf (negated z) s) c) trivialRule)
+    go true c l = rest-met σ (partnerOf z r) (partnerOf (negated z) s) c (λ p q. sum-meaning σ z r s c p q .1 l)
+    go false c l = trivial-met σ

@@ -1,32 +1,43 @@
+-- `hidden::is_hidden` meets its contract: a quantity past 32 has its bit past every set's last one. Assumes nothing.
+use mathlib.Core.Path.{_≡_, refl}
+use mathlib.Core.Bool.{Bool, true, false}
+use Prim.Native.Nat.{ℕ, zero, suc, _+_, _-_, _/_, _%_, _^_, _<_, _≤_}
+use native.Mathlib.Omega.{arith}
+use native.Mathlib.Nat.{div-eq-of-lt, lt-of-lt-of-le, pow-le-pow-right}
+use native.Mathlib.Numerals.{unary-clauses}
+use lib.Dec.{eqb}
 use borrow.Author.Needs.{needs}
+use Rattle.rules.specs.Hidden.{hiddenIn}
 use Rattle.rules.proofs.hidden.is_hidden.Statement.{statement}
 use Rattle.rules.proofs.hidden.is_hidden.Tie as tie
-use Rattle.rules.proofs.hidden.is_hidden.Reads as reads
-use Rattle.rules.proofs.hidden.is_hidden.Lts as lts
 
--- src/hidden.rt:14:9
+past : (h q : ℕ) → h < 2 ^ 32 → 32 < q → false ≡ hiddenIn h q
+past h zero f l = refl
+past h (suc j) f l =
+    let small : h < 2 ^ j = lt-of-lt-of-le f (pow-le-pow-right {n = 2} (omega arith) {i = 32} {j = j} (omega arith)) in
+    rw (div-eq-of-lt small)
+
+bit : (h q : ℕ) → (q ≡ 0 → ⊥) → eqb (h / 2 ^ (q - 1) % 2) 1 ≡ hiddenIn h q
+bit h zero n = absurd (n refl)
+bit h (suc j) n = simp unary-clauses
+
 returns : tie.Need-returns
 returns c = search needs
 
--- src/hidden.rt:17:9
 returns-2 : tie.Need-returns-2
-returns-2 c = ?
+returns-2 c = let s = c .before .before in past (s .args .set) (s .args .q) (s .fits .set .fits) (c .if2 .taken)
 
--- src/hidden.rt:19:15
 sub-bit : tie.Need-sub-bit
 sub-bit c = search needs
 
--- src/hidden.rt:20:13
 cast-result : tie.Need-cast-result
 cast-result c = search needs
 
--- src/hidden.rt:20:6
 shr-result : tie.Need-shr-result
 shr-result c = search needs
 
--- src/hidden.rt:10:1
 returns-3 : tie.Need-returns-3
-returns-3 c = ?
+returns-3 c = let s = c .before .before in bit (s .args .set) (s .args .q) (c .before .if1 .left)
 
 pub is-hidden-spec : {M : Type 1} → statement M
 is-hidden-spec = tie.close (tie.spec returns returns-2 sub-bit cast-result shr-result returns-3)

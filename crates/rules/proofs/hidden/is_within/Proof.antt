@@ -1,24 +1,39 @@
+-- `hidden::is_within` meets its contract: a set is below 2 ^ n exactly where nothing of it is left after n bits. Assumes nothing.
+use mathlib.Core.Path.{_≡_, refl, sym}
+use mathlib.Core.Bool.{Bool, true, false}
+use Prim.Native.Nat.{ℕ, zero, suc, _/_, _^_, _<_, _≤_}
+use native.Mathlib.Omega.{arith}
+use native.Mathlib.Nat.{div-eq-of-lt, lt-of-lt-of-le, pow-le-pow-right, le-div-iff-mul-le, one-le-pow}
+use lib.Dec.{eqb, ltb}
 use borrow.Author.Needs.{needs}
+use borrow.Author.Tests.{lt-ltb, ltb-true, ltb-false, ne-eqb}
+use Rattle.rules.specs.Hidden.{setWithin}
 use Rattle.rules.proofs.hidden.is_within.Statement.{statement}
 use Rattle.rules.proofs.hidden.is_within.Tie as tie
-use Rattle.rules.proofs.hidden.is_within.Reads as reads
-use Rattle.rules.proofs.hidden.is_within.Lts as lts
 
--- src/hidden.rt:28:9
+wide : (h n : ℕ) → h < 2 ^ 32 → 32 ≤ n → true ≡ setWithin n h
+wide h n f l = rw (lt-ltb h (2 ^ n) (lt-of-lt-of-le f (pow-le-pow-right {n = 2} (omega arith) {i = 32} {j = n} l)))
+
+narrow : (h n : ℕ) → eqb (h / 2 ^ n) 0 ≡ setWithin n h
+narrow h n = go (ltb h (2 ^ n)) refl
+  where
+    left : 2 ^ n ≤ h → 1 ≤ h / 2 ^ n
+    left l = le-div-iff-mul-le (one-le-pow n 2 (omega arith)) .1 (omega arith)
+    go : (t : Bool) → ltb h (2 ^ n) ≡ t → eqb (h / 2 ^ n) 0 ≡ t
+    go true e = rw (div-eq-of-lt (ltb-true h (2 ^ n) e))
+    go false e = ne-eqb (h / 2 ^ n) 0 (λ z. omega (arith, left (ltb-false h (2 ^ n) e)))
+
 returns : tie.Need-returns
-returns c = ?
+returns c = let s = c .before in wide (s .args .set) (s .args .n) (s .fits .set .fits) (c .if1 .taken)
 
--- src/hidden.rt:30:13
 cast-result : tie.Need-cast-result
 cast-result c = search needs
 
--- src/hidden.rt:30:6
 shr-result : tie.Need-shr-result
 shr-result c = search needs
 
--- src/hidden.rt:24:1
 returns-2 : tie.Need-returns-2
-returns-2 c = ?
+returns-2 c = narrow (c .before .args .set) (c .before .args .n)
 
 pub is-within-spec : {M : Type 1} → statement M
 is-within-spec = tie.close (tie.spec returns cast-result shr-result returns-2)

@@ -1,3 +1,4 @@
+use Prim.Native.Nat.{ℕ}
 use borrow.Author.Needs.{needs}
 use Rattle.rules.proofs.rule.Rule.bound.Statement.{statement}
 use Rattle.rules.proofs.rule.Rule.bound.Tie as tie
@@ -18,11 +19,11 @@ enum-known-self-3 c = search needs
 
 -- src/rule.rt:71:5
 returns : tie.Need-returns
-returns c = ?
+returns c = let x : ℕ = c .before .self .given .1 in ?
 
 -- src/rule.rt:71:5
 returns-2 : tie.Need-returns-2
-returns-2 c = ?
+returns-2 c = let x : ℕ = c .known-told2 .given in ?
 
 -- src/rule.rt:71:5
 returns-3 : tie.Need-returns-3

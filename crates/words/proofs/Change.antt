@@ -1,0 +1,105 @@
+-- What a changed list holds at each place, and how one more word is changed. Assumes nothing.
+use mathlib.Core.Path.{_≡_, refl, sym, _∙_, ap}
+use mathlib.Core.List.{List, [], _∷_}
+use mathlib.Core.Logic.{_≢_}
+use mathlib.Core.Bool.{Bool, true, false}
+use Prim.Native.Nat.{ℕ, zero, suc, _+_, _≤_, _<_}
+use native.Mathlib.Nat.{add-zero, zero-add, add-suc, suc-add}
+use native.Mathlib.Omega.{arith}
+use lib.Dec.{eqb, ltb}
+use lib.IntN.{ℤ, pos}
+use lib.ListN.{length, getD, set, length-set}
+use lib.Seq.{getD-set-same, getD-set-other, set-out, ext-getD}
+use borrow.Author.Tests.{eqb-true, eqb-false, ltb-true, ltb-false}
+use Rattle.integers.specs.Bound.{smaller}
+use Rattle.words.specs.Change.{wordAt, changeFrom, change, lowered}
+
+-- ---- the first words changed
+
+from-length : (i m : ℕ) (f : ℕ → ℤ → ℤ) (t : List ℤ) → length (changeFrom i m f t) ≡ length t
+unfolding changeFrom
+from-length i zero f t = refl
+from-length i (suc m) f [] = refl
+from-length i (suc m) f (w ∷ t) = ap suc (from-length (suc i) m f t)
+
+pub change-length : (m : ℕ) (f : ℕ → ℤ → ℤ) (t : List ℤ) → length (change m f t) ≡ length t
+unfolding change
+change-length m f t = from-length 0 m f t
+
+from-below : (i m : ℕ) (f : ℕ → ℤ → ℤ) (t : List ℤ) (k : ℕ) → k < m → k < length t → wordAt (changeFrom i m f t) k ≡ f (i + k) (wordAt t k)
+unfolding changeFrom
+from-below i zero f t k h l = let z : ⊥ = omega arith in absurd z
+from-below i (suc m) f [] k h l = let z : ⊥ = omega arith in absurd z
+from-below i (suc m) f (w ∷ t) zero h l = rw (add-zero i)
+from-below i (suc m) f (w ∷ t) (suc k) h l = from-below (suc i) m f t k (omega arith) (omega arith) ∙ ap (λ (j : ℕ). f j (wordAt t k)) (omega arith)
+
+pub change-below : (m : ℕ) (f : ℕ → ℤ → ℤ) (t : List ℤ) (k : ℕ) → k < m → k < length t → wordAt (change m f t) k ≡ f k (wordAt t k)
+unfolding change
+change-below m f t k h l = from-below 0 m f t k h l ∙ rw (zero-add k)
+
+from-past : (i m : ℕ) (f : ℕ → ℤ → ℤ) (t : List ℤ) (k : ℕ) → m ≤ k → wordAt (changeFrom i m f t) k ≡ wordAt t k
+unfolding changeFrom
+from-past i zero f t k h = refl
+from-past i (suc m) f [] k h = refl
+from-past i (suc m) f (w ∷ t) zero h = let z : ⊥ = omega arith in absurd z
+from-past i (suc m) f (w ∷ t) (suc k) h = from-past (suc i) m f t k (omega arith)
+
+pub change-past : (m : ℕ) (f : ℕ → ℤ → ℤ) (t : List ℤ) (k : ℕ) → m ≤ k → wordAt (change m f t) k ≡ wordAt t k
+unfolding change
+change-past m f t k h = from-past 0 m f t k h
+
+pub change-none : (f : ℕ → ℤ → ℤ) (t : List ℤ) → change 0 f t ≡ t
+unfolding change changeFrom
+change-none f t = refl
+
+-- a list that holds at each place what the changed one does is the changed one
+pub change-is : (m : ℕ) (f : ℕ → ℤ → ℤ) (t u : List ℤ) → length u ≡ length t
+    → ((k : ℕ) → k < m → k < length t → wordAt u k ≡ f k (wordAt t k))
+    → ((k : ℕ) → m ≤ k → k < length t → wordAt u k ≡ wordAt t k)
+    → u ≡ change m f t
+change-is m f t u e below past = ext-getD (pos 0) u (change m f t) (rw (change-length m f t) e) at-each
+  where
+    go : (k : ℕ) → k < length t → (b : Bool) → ltb k m ≡ b → wordAt u k ≡ wordAt (change m f t) k
+    go k l true q = below k (ltb-true k m q) l ∙ sym (change-below m f t k (ltb-true k m q) l)
+    go k l false q = past k (ltb-false k m q) l ∙ sym (change-past m f t k (ltb-false k m q))
+
+    at-each : (k : ℕ) → k < length u → wordAt u k ≡ wordAt (change m f t) k
+    at-each k l = go k (omega arith) (ltb k m) refl
+
+-- one word more
+pub change-more : (m : ℕ) (f : ℕ → ℤ → ℤ) (t : List ℤ) → m < length t → set (change m f t) m (f m (wordAt t m)) ≡ change (suc m) f t
+change-more m f t l = change-is (suc m) f t (set (change m f t) m (f m (wordAt t m))) (length-set (change m f t) m _ ∙ change-length m f t) below past
+  where
+    go : (k : ℕ) → k < suc m → k < length t → (b : Bool) → eqb k m ≡ b → wordAt (set (change m f t) m (f m (wordAt t m))) k ≡ f k (wordAt t k)
+    go k h l true q = rw (eqb-true k m q) (getD-set-same (change m f t) m _ (pos 0) (rw (change-length m f t) (omega (arith, eqb-true k m q))))
+    go k h l false q = getD-set-other (change m f t) m k _ (pos 0) (eqb-false k m q) ∙ change-below m f t k (omega (arith, eqb-false k m q)) l
+
+    below : (k : ℕ) → k < suc m → k < length t → wordAt (set (change m f t) m (f m (wordAt t m))) k ≡ f k (wordAt t k)
+    below k h l = go k h l (eqb k m) refl
+
+    past : (k : ℕ) → suc m ≤ k → k < length t → wordAt (set (change m f t) m (f m (wordAt t m))) k ≡ wordAt t k
+    past k h l = getD-set-other (change m f t) m k _ (pos 0) (omega arith) ∙ change-past m f t k (omega arith)
+
+-- no more words than there are
+pub change-all : (m : ℕ) (f : ℕ → ℤ → ℤ) (t : List ℤ) → length t ≤ m → change (length t) f t ≡ change m f t
+change-all m f t h = change-is m f t (change (length t) f t) (change-length (length t) f t)
+  (λ k p l. change-below (length t) f t k l l)
+  (λ k p l. let z : ⊥ = omega arith in absurd z)
+
+-- ---- one word by minimum
+
+pub lowered-length : (t : List ℤ) (k : ℕ) (w : ℤ) → length (lowered t k w) ≡ length t
+unfolding lowered
+lowered-length t k w = length-set t k (smaller (wordAt t k) w)
+
+pub lowered-same : (t : List ℤ) (k : ℕ) (w : ℤ) → k < length t → wordAt (lowered t k w) k ≡ smaller (wordAt t k) w
+unfolding lowered
+lowered-same t k w h = getD-set-same t k (smaller (wordAt t k) w) (pos 0) h
+
+pub lowered-other : (t : List ℤ) (k j : ℕ) (w : ℤ) → j ≢ k → wordAt (lowered t k w) j ≡ wordAt t j
+unfolding lowered
+lowered-other t k j w h = getD-set-other t k j (smaller (wordAt t k) w) (pos 0) h
+
+pub lowered-none : (t : List ℤ) (k : ℕ) (w : ℤ) → length t ≤ k → lowered t k w ≡ t
+unfolding lowered
+lowered-none t k w h = set-out t k (smaller (wordAt t k) w) h

@@ -1,0 +1,2 @@
+-- The laws of changed lists that proofs above cite.
+pub mod Change

@@ -1,0 +1,24 @@
+-- A list of words changed at places: at one, or at each of the first m by a function of the place and the word. No order of work is in it.
+use mathlib.Core.List.{List, [], _∷_}
+use Prim.Native.Nat.{ℕ, zero, suc}
+use lib.ListN.{getD, set}
+use lib.IntN.{ℤ, pos}
+use Rattle.integers.specs.Bound.{smaller}
+
+-- the word at a place; 0 past the end, where nothing asks
+abbrev pub wordAt : List ℤ → ℕ → ℤ
+wordAt t k = getD t k (pos 0)
+
+-- the words from place i on, the first m of them changed
+unfoldable pub changeFrom : ℕ → ℕ → (ℕ → ℤ → ℤ) → List ℤ → List ℤ
+changeFrom i zero f t = t
+changeFrom i (suc m) f [] = []
+changeFrom i (suc m) f (w ∷ t) = f i w ∷ changeFrom (suc i) m f t
+
+-- the list with its first m words changed
+unfoldable pub change : ℕ → (ℕ → ℤ → ℤ) → List ℤ → List ℤ
+change m f t = changeFrom 0 m f t
+
+-- the list with the word w by minimum at place k; unchanged where it has no such place
+unfoldable pub lowered : List ℤ → ℕ → ℤ → List ℤ
+lowered t k w = set t k (smaller (wordAt t k) w)

@@ -10,9 +10,9 @@ use lib.Dec.{eqb, ltb}
 use lib.IntN.{ℤ, pos}
 use lib.ListN.{length, getD, set, length-set}
 use lib.Seq.{getD-set-same, getD-set-other, set-out, ext-getD}
-use borrow.Author.Tests.{eqb-true, eqb-false, ltb-true, ltb-false}
+use borrow.Author.Tests.{eqb-true, eqb-false, ltb-true, ltb-false, lt-ltb, le-ltb}
 use Rattle.integers.specs.Bound.{smaller}
-use Rattle.words.specs.Change.{wordAt, changeFrom, change, lowered}
+use Rattle.words.specs.Change.{wordAt, changeFrom, change, fillFrom, lowered}
 
 -- ---- the first words changed
 
@@ -80,11 +80,26 @@ change-more m f t l = change-is (suc m) f t (set (change m f t) m (f m (wordAt t
     past : (k : ℕ) → suc m ≤ k → k < length t → wordAt (set (change m f t) m (f m (wordAt t m))) k ≡ wordAt t k
     past k h l = getD-set-other (change m f t) m k _ (pos 0) (omega arith) ∙ change-past m f t k (omega arith)
 
--- no more words than there are
-pub change-all : (m : ℕ) (f : ℕ → ℤ → ℤ) (t : List ℤ) → length t ≤ m → change (length t) f t ≡ change m f t
-change-all m f t h = change-is m f t (change (length t) f t) (change-length (length t) f t)
-  (λ k p l. change-below (length t) f t k l l)
+-- where a change leaves every word as it is, so does it the list
+pub change-nothing : (m : ℕ) (f : ℕ → ℤ → ℤ) (t : List ℤ) → ((k : ℕ) → k < m → f k (wordAt t k) ≡ wordAt t k) → change m f t ≡ t
+change-nothing m f t h = sym (change-is m f t t refl (λ k p l. sym (h k p)) (λ k p l. refl))
+
+-- past the end it does not matter how many words are to be changed
+pub change-end : (a b : ℕ) (f : ℕ → ℤ → ℤ) (t : List ℤ) → length t ≤ a → length t ≤ b → change a f t ≡ change b f t
+change-end a b f t h g = change-is b f t (change a f t) (change-length a f t)
+  (λ k p l. change-below a f t k (omega arith) l)
   (λ k p l. let z : ⊥ = omega arith in absurd z)
+
+-- a fill begins at its first place
+pub fill-at : (from k : ℕ) (w v : ℤ) → from ≤ k → fillFrom from w k v ≡ w
+fill-at from k w v h = rw (le-ltb k from h)
+
+pub fill-before : (from m : ℕ) (w : ℤ) (t : List ℤ) → m ≤ from → change m (fillFrom from w) t ≡ t
+fill-before from m w t h = change-nothing m (fillFrom from w) t (λ k p. rw (lt-ltb k from (omega arith)))
+
+pub fill-more : (from i : ℕ) (w : ℤ) (t : List ℤ) → from ≤ i → i < length t → set (change i (fillFrom from w) t) i w ≡ change (suc i) (fillFrom from w) t
+fill-more from i w t h l =
+    ap (λ (z : ℤ). set (change i (fillFrom from w) t) i z) (sym (fill-at from i w (wordAt t i) h)) ∙ change-more i (fillFrom from w) t l
 
 -- ---- one word by minimum
 

@@ -1,6 +1,8 @@
 -- A list of words changed at places: at one, or at each of the first m by a function of the place and the word. No order of work is in it.
+use mathlib.Core.Bool.{cond}
 use mathlib.Core.List.{List, [], _∷_}
 use Prim.Native.Nat.{ℕ, zero, suc}
+use lib.Dec.{ltb}
 use lib.ListN.{getD, set}
 use lib.IntN.{ℤ, pos}
 use Rattle.integers.specs.Bound.{smaller}
@@ -18,6 +20,10 @@ changeFrom i (suc m) f (w ∷ t) = f i w ∷ changeFrom (suc i) m f t
 -- the list with its first m words changed
 unfoldable pub change : ℕ → (ℕ → ℤ → ℤ) → List ℤ → List ℤ
 change m f t = changeFrom 0 m f t
+
+-- as a change: the word w at each place from the place i on
+abbrev pub fillFrom : ℕ → ℤ → ℕ → ℤ → ℤ
+fillFrom i w k v = cond (ltb k i) v w
 
 -- the list with the word w by minimum at place k; unchanged where it has no such place
 unfoldable pub lowered : List ℤ → ℕ → ℤ → List ℤ

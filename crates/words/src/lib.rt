@@ -1,16 +1,14 @@
-// Slices of words: all of the first words set to one, and a word put in by minimum.
+// Slices of words: a run of words set to one, and a word put in by minimum.
 ghost use mathlib.Core.Path.{_≡_};
-ghost use Prim.Native.Nat.{min};
-ghost use lib.ListN.{length};
 ghost use lib.IntN.{ℤ};
-ghost use Rattle.words.specs.Change.{change, lowered};
+ghost use Rattle.words.specs.Change.{change, fillFrom, lowered};
 
-// Sets the first `m` words to `w`, or all where there are fewer.
-pub fn fill(t: &mut [i64], m: usize, w: i64)
-    ensures { λ _. ⌜ now (t .exit) ≡ change m (λ k v. w) (now (t .entry)) ⌝ }
+// Sets the words from place `from` up to, and without, place `to` to `w`; past the end there is nothing to set.
+pub fn fill(t: &mut [i64], from: usize, to: usize, w: i64)
+    ensures { λ _. ⌜ now (t .exit) ≡ change to (fillFrom from w) (now (t .entry)) ⌝ }
 {
-    let mut i = 0;
-    while i < m {
+    let mut i = from;
+    while i < to {
         if t.len() <= i {
             return;
         }

@@ -1,48 +1,61 @@
 -- `words::fill` meets its contract. The loop's invariant: the words passed are changed, and the list keeps its length. The measure is what is
 -- left to change. Assumes nothing.
 use mathlib.Core.Path.{_≡_, refl, _∙_, sym, ap}
-use Prim.Native.Nat.{ℕ, _-_, _≤_}
+use mathlib.Core.Bool.{Bool, true, false}
+use mathlib.Core.List.{List}
+use Prim.Native.Nat.{ℕ, _-_, _≤_, max}
 use native.Mathlib.Numerals.{add-one}
 use native.Mathlib.Omega.{arith}
+use lib.Dec.{leb}
 use lib.ListN.{length, length-set}
 use lib.IntN.{ℤ}
 use mir.Syntax.{w64}
 use mir.Val.{toZ, ofZ}
 use denote.Ref.{now}
 use borrow.Author.Needs.{needs}
+use borrow.Author.Tests.{leb-true, leb-false}
 use Rattle.integers.proofs.Parts.{word-value}
-use Rattle.words.specs.Change.{change}
-use Rattle.words.proofs.Change.{change-none, change-more, change-all, change-length}
+use Rattle.words.specs.Change.{change, fillFrom}
+use Rattle.words.proofs.Change.{change-end, fill-more, fill-before}
 use Rattle.words.proofs.fill.Statement.{statement}
 use Rattle.words.proofs.fill.Tie as tie
 
 abbrev Inv-loop : tie.InvT-loop
-Inv-loop t₀ m w i₀ t i = (i ≤ m) × (i ≤ length t₀) × (length t ≡ length t₀) × (t ≡ change i (λ k v. toZ w64 w) t₀)
+Inv-loop t₀ from to w i₀ t i =
+    (from ≤ i) × (i ≤ max from to) × (length t ≡ length t₀) × (t ≡ change i (fillFrom from (toZ w64 w)) t₀)
 
 abbrev μ-loop : tie.MeasureT-loop
-μ-loop t₀ m w i₀ t i = m - i
+μ-loop t₀ from to w i₀ t i = to - i
 
 -- the word is that of its bits
-value : (c : tie.Start Inv-loop μ-loop) → change (c .args .m) (λ k v. toZ w64 (ofZ w64 (c .args .w))) (now (c .args .t)) ≡ change (c .args .m) (λ k v. c .args .w) (now (c .args .t))
-value c = ap (λ (z : ℤ). change (c .args .m) (λ k v. z) (now (c .args .t))) (word-value (c .fits .w))
+value : (c : tie.Start Inv-loop μ-loop)
+    → change (c .args .to) (fillFrom (c .args .from) (toZ w64 (ofZ w64 (c .args .w)))) (now (c .args .t))
+    ≡ change (c .args .to) (fillFrom (c .args .from) (c .args .w)) (now (c .args .t))
+value c = ap (λ (z : ℤ). change (c .args .to) (fillFrom (c .args .from) z) (now (c .args .t))) (word-value (c .fits .w))
 
--- where the words end first, all are changed
-filled : (c : tie.Then1 Inv-loop μ-loop) → c .before .before .loop .t ≡ change (c .before .before .before .args .m) (λ k v. toZ w64 (ofZ w64 (c .before .before .before .args .w))) (now (c .before .before .before .args .t))
-filled c =
-    let s = c .before .before .before in
-    let f : ℕ → ℤ → ℤ = λ k v. toZ w64 (ofZ w64 (s .args .w)) in
-    c .before .before .loop .inv .3
-    ∙ ap (λ (i : ℕ). change i f (now (s .args .t))) (omega (arith, c .before .before .loop .inv))
-    ∙ change-all (s .args .m) f (now (s .args .t)) (omega arith)
+-- a fill that has come to its end, or had nothing to do, is done
+done : (from to i : ℕ) (w : ℤ) (t : List ℤ) → from ≤ i → to ≤ i → i ≤ max from to → change i (fillFrom from w) t ≡ change to (fillFrom from w) t
+done from to i w t h g l = go (leb from to) refl
+  where
+    go : (b : Bool) → leb from to ≡ b → change i (fillFrom from w) t ≡ change to (fillFrom from w) t
+    go true e = ap (λ (m : ℕ). change m (fillFrom from w) t) (omega (arith, leb-true from to e))
+    go false e =
+      fill-before from i w t (omega (arith, leb-false from to e))
+      ∙ sym (fill-before from to w t (omega (arith, leb-false from to e)))
 
 loop-holds : tie.Need-loop-holds Inv-loop μ-loop
-loop-holds c = (omega arith, omega arith, refl, sym (change-none _ _))
+loop-holds c = (omega arith, omega arith, refl, sym (fill-before _ _ _ _ (omega arith)))
 
 same-length : tie.Need-same-length Inv-loop μ-loop
 same-length c = c .before .before .loop .inv .2
 
 returns : tie.Need-returns Inv-loop μ-loop
-returns c = filled c ∙ value (c .before .before .before)
+returns c =
+    let s = c .before .before .before in
+    let l = c .before .before .loop in
+    l .inv .3
+    ∙ change-end (l .i) (s .args .to) (fillFrom (s .args .from) (toZ w64 (ofZ w64 (s .args .w)))) (now (s .args .t)) (omega arith) (omega arith)
+    ∙ value s
 
 mul-w : tie.Need-mul-w Inv-loop μ-loop
 mul-w c = search needs
@@ -61,10 +74,11 @@ loop-again c =
     let s = c .before .before .before in
     let i = c .before .before .loop .i in
     let inv = c .before .before .loop .inv in
+    let w : ℤ = toZ w64 (ofZ w64 (s .args .w)) in
     (omega arith
     , omega arith
     , rw (length-set) (inv .2)
-    , rw (inv .3, add-one i) (change-more i (λ k v. toZ w64 (ofZ w64 (s .args .w))) (now (s .args .t)) (omega arith)))
+    , rw (inv .3, add-one i) (fill-more (s .args .from) i w (now (s .args .t)) (inv .0) (omega arith)))
 
 same-length-2 : tie.Need-same-length-2 Inv-loop μ-loop
 same-length-2 c = c .before .loop .inv .2
@@ -72,7 +86,10 @@ same-length-2 c = c .before .loop .inv .2
 returns-2 : tie.Need-returns-2 Inv-loop μ-loop
 returns-2 c =
     let s = c .before .before in
-    c .before .loop .inv .3 ∙ ap (λ (i : ℕ). change i (λ k v. toZ w64 (ofZ w64 (s .args .w))) (now (s .args .t))) (omega arith) ∙ value s
+    let l = c .before .loop in
+    l .inv .3
+    ∙ done (s .args .from) (s .args .to) (l .i) (toZ w64 (ofZ w64 (s .args .w))) (now (s .args .t)) (l .inv .0) (omega arith) (l .inv .1)
+    ∙ value s
 
 pub fill-spec : {M : Type 1} → statement M
 fill-spec =

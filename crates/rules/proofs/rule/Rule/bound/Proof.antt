@@ -1,33 +1,28 @@
-use Prim.Native.Nat.{ℕ}
+-- `rule::Rule::bound` meets its contract: each variant's bound is the word that it holds. Assumes nothing.
+use mathlib.Core.Path.{_≡_, _∙_, ap, sym}
 use borrow.Author.Needs.{needs}
+use Rattle.integers.proofs.Parts.{word-value}
+use Rattle.rules.specs.Meaning.{boundOf}
 use Rattle.rules.proofs.rule.Rule.bound.Statement.{statement}
 use Rattle.rules.proofs.rule.Rule.bound.Tie as tie
-use Rattle.rules.proofs.rule.Rule.bound.Reads as reads
-use Rattle.rules.proofs.rule.Rule.bound.Lts as lts
 
--- src/rule.rt:75:37
 enum-known-self : tie.Need-enum-known-self
 enum-known-self c = search needs
 
--- src/rule.rt:79:17
 enum-known-self-2 : tie.Need-enum-known-self-2
 enum-known-self-2 c = search needs
 
--- src/rule.rt:81:29
 enum-known-self-3 : tie.Need-enum-known-self-3
 enum-known-self-3 c = search needs
 
--- src/rule.rt:71:5
 returns : tie.Need-returns
-returns c = let x : ℕ = c .before .self .given .1 in ?
+returns c = word-value record { sfits = c .known-told .given .1 .0 .1 } ∙ ap boundOf (sym (c .before .self .given .1))
 
--- src/rule.rt:71:5
 returns-2 : tie.Need-returns-2
-returns-2 c = let x : ℕ = c .known-told2 .given in ?
+returns-2 c = word-value record { sfits = c .known-told2 .given .1 .1 .0 .1 } ∙ ap boundOf (sym (c .before .self2 .given .1))
 
--- src/rule.rt:71:5
 returns-3 : tie.Need-returns-3
-returns-3 c = ?
+returns-3 c = word-value record { sfits = c .known-told3 .given .0 .1 } ∙ ap boundOf (sym (c .before .self3 .given .1))
 
 pub bound-spec : {M : Type 1} → statement M
 bound-spec =

@@ -1,4 +1,12 @@
+-- `rule::Rule::opposite` meets its contract: each variant negates its literals and its bound. Assumes nothing.
+use mathlib.Core.Path.{_≡_}
+use lib.IntN.{ℤ}
 use borrow.Author.Needs.{needs}
+use Rattle.integers.proofs.Parts.{word-value}
+use Rattle.rules.specs.declared.rule.Rule.{Rule}
+use Rattle.rules.specs.Steps.{oppositeOf}
+use Rattle.rules.specs.Promises.{Opposite}
+use Rattle.rules.proofs.Meanings.{opposite-meaning}
 use Rattle.rules.proofs.rule.Rule.opposite.Statement.{statement}
 use Rattle.rules.proofs.rule.Rule.opposite.Tie as tie
 use Rattle.rules.proofs.rule.Rule.opposite.Reads as reads
@@ -6,53 +14,53 @@ use Rattle.rules.proofs.rule.Rule.opposite.Lts as lts
 use Rattle.integers.proofs.opposite.Reads as opposite-reads
 use Rattle.rules.proofs.literal.negate.Reads as negate-reads
 
--- src/rule.rt:90:25
+is-opposite : (r s : Rule) → s ≡ oppositeOf r → Opposite r s
+is-opposite r s e = record { reply = e; meaning = λ σ. rw e (opposite-meaning σ r) }
+
 enum-known-self : tie.Need-enum-known-self
 enum-known-self c = search needs
 
--- src/rule.rt:91:26
 negate-requires : tie.Need-negate-requires
 negate-requires c κs = search needs
 
--- src/rule.rt:92:24
 opposite-requires : tie.Need-opposite-requires
 opposite-requires c κs = search needs
 
--- src/rule.rt:95:17
 enum-known-self-2 : tie.Need-enum-known-self-2
 enum-known-self-2 c = search needs
 
--- src/rule.rt:99:24
 negate-requires-2 : tie.Need-negate-requires-2
 negate-requires-2 c κs = search needs
 
--- src/rule.rt:100:25
 negate-requires-3 : tie.Need-negate-requires-3
 negate-requires-3 c κs = search needs
 
--- src/rule.rt:101:24
 opposite-requires-2 : tie.Need-opposite-requires-2
 opposite-requires-2 c κs = search needs
 
--- src/rule.rt:103:29
 enum-known-self-3 : tie.Need-enum-known-self-3
 enum-known-self-3 c = search needs
 
--- src/rule.rt:104:24
 opposite-requires-3 : tie.Need-opposite-requires-3
 opposite-requires-3 c κs = search needs
 
--- src/rule.rt:86:5
 returns : tie.Need-returns
-returns c = ?
+unfolding oppositeOf
+returns c = let m = c .before .before in
+  is-opposite _ _
+  (rw (word-value (c .opposite .ok), c .opposite .ensures, word-value record { sfits = m .known-told .given .1 .0 .1 }, c .before .negate .ensures, m .before .self .given .1))
 
--- src/rule.rt:86:5
 returns-2 : tie.Need-returns-2
-returns-2 c = ?
+unfolding oppositeOf
+returns-2 c = let m = c .before .before .before in
+  is-opposite _ _
+  (rw (word-value (c .opposite2 .ok), c .opposite2 .ensures, word-value record { sfits = m .known-told2 .given .1 .1 .0 .1 }, c .before .negate3 .ensures, c .before .before .negate2 .ensures, m .before .self2 .given .1))
 
--- src/rule.rt:86:5
 returns-3 : tie.Need-returns-3
-returns-3 c = ?
+unfolding oppositeOf
+returns-3 c = let m = c .before in
+  is-opposite _ _
+  (rw (word-value (c .opposite3 .ok), c .opposite3 .ensures, word-value record { sfits = m .known-told3 .given .0 .1 }, m .before .self3 .given .1))
 
 pub opposite-spec : {M : Type 1} → statement M
 opposite-spec =

@@ -13,7 +13,7 @@ use mir.Syntax.{w64}
 use mir.Val.{SFits, toZ, ofZ}
 use mir.ValLaws.{toZ-ofZ}
 use borrow.Author.Tests.{ltb-true, ltb-false, lt-ltb, le-ltb}
-use Rattle.integers.specs.Bound.{half, oppositeBound, inWord}
+use Rattle.integers.specs.Bound.{half, oppositeBound, smaller, inWord}
 
 unfoldable pub positivePart : ℤ → ℕ
 positivePart (pos n) = n
@@ -161,3 +161,28 @@ parts-half (negsuc n) = omega arith
 pub parts-opposite : (c : ℤ) → positivePart (oppositeBound c) + positivePart c + 1 ≡ negativePart (oppositeBound c) + negativePart c
 unfolding positivePart negativePart oppositeBound
 parts-opposite c = omega (arith, parts-add (negℤ c) (negsuc 0), parts-neg c)
+
+-- the smaller of two is at most each, and is one of them
+pub smaller-left : (a b : ℤ) → smaller a b ≤ℤ a
+unfolding smaller
+smaller-left a b = go (ltZ b a) refl
+  where
+    go : (t : Bool) → ltZ b a ≡ t → cond t b a ≤ℤ a
+    go true e = omega (linear, ltZ-true b a e)
+    go false e = omega linear
+
+pub smaller-right : (a b : ℤ) → smaller a b ≤ℤ b
+unfolding smaller
+smaller-right a b = go (ltZ b a) refl
+  where
+    go : (t : Bool) → ltZ b a ≡ t → cond t b a ≤ℤ b
+    go true e = omega linear
+    go false e = omega (linear, ltZ-false b a e)
+
+pub smaller-either : (P : ℤ → Type 0) (a b : ℤ) → P a → P b → P (smaller a b)
+unfolding smaller
+smaller-either P a b p q = go (ltZ b a)
+  where
+    go : (t : Bool) → P (cond t b a)
+    go true = q
+    go false = p

@@ -1,3 +1,5 @@
--- The laws of rules that proofs above cite: of literals and their integers, and of what a rule means after each step.
+-- The laws of rules that proofs above cite: of words that fields hold, of literals and their integers, and of what a rule means after each
+-- step.
+pub mod Words
 pub mod Literals
 pub mod Meanings

@@ -1,21 +1,19 @@
 -- What a rule means after each step, over every assignment: the opposite is met exactly where the rule is not, halving keeps the
 -- meaning, and the sum over a literal says of both terms together what it says of the bounds. Assumes nothing.
-use mathlib.Core.Path.{_≡_, refl, ap, _∙_}
+use mathlib.Core.Path.{_≡_, refl}
 use mathlib.Core.Bool.{Bool, true, false}
-use mathlib.Core.Logic.{_↔_, _⊎_, inl, inr, ⊎-elim}
+use mathlib.Core.Logic.{_↔_, inl, inr}
 use Prim.Native.Nat.{ℕ}
-use native.Mathlib.Omega.{arith}
 use lib.Dec.{eqb, ltb}
 use lib.IntN.{ℤ, pos, negℤ, _+ℤ_}
 use lib.Signed.{ltZ, _≤ℤ_}
 use borrow.Author.Tests.{eqb-true, eq-eqb}
 use Rattle.integers.specs.Bound.{half, oppositeBound, inWord}
-use Rattle.integers.proofs.Parts.{linear, positivePart, negativePart, parts-add, parts-neg, parts-half, parts-opposite, inWord-word, word-to}
+use Rattle.integers.proofs.Parts.{linear, positivePart, negativePart, parts-add, parts-neg, parts-half, parts-opposite}
 use Rattle.rules.specs.declared.rule.Rule.{Rule}
 use Rattle.rules.specs.declared.rule.Rule.the-variants.{One, Two, Nothing}
 use Rattle.rules.specs.declared.rule.Partner.{Partner}
 use Rattle.rules.specs.declared.rule.Partner.the-variants.{Literal, Alone, Absent}
-use Rattle.rules.specs.Limits.{noRule}
 use Rattle.rules.specs.Literal.{negated}
 use Rattle.rules.specs.Meaning.{Assignment, literalValue, termValue, boundOf, Meets}
 use Rattle.rules.specs.Steps.{pickRule, trivialRule, oppositeOf, halvedOf, pickPartner, partnerOf, ruleOfPair, ruleOfRest, sumOver}
@@ -49,11 +47,12 @@ opposite-bound (Two x y c) = refl
 opposite-bound (Nothing c) = refl
 
 pub opposite-meaning : (σ : Assignment) (r : Rule) → Meets σ (oppositeOf r) ↔ (Meets σ r → ⊥)
-opposite-meaning σ r =
-    (λ h k. opposite-order (termValue σ r) (boundOf r) .0 (rw (opposite-term σ r, opposite-bound r) at (h .met)) (k .met),
-     λ n. record {
-       met = rw (opposite-term σ r, opposite-bound r) (opposite-order (termValue σ r) (boundOf r) .1 (λ h. n record { met = h }))
-     })
+opposite-meaning σ r = (
+  λ h k. opposite-order (termValue σ r) (boundOf r) .0 (rw (opposite-term σ r, opposite-bound r) at (h .met)) (k .met),
+  λ n. record {
+    met = rw (opposite-term σ r, opposite-bound r) (opposite-order (termValue σ r) (boundOf r) .1 (λ h. n record { met = h }));
+  },
+)
 
 -- ---- halving
 
@@ -61,7 +60,8 @@ pub half-order : (t c : ℤ) → (t ≤ℤ half c) ↔ ((t +ℤ t) ≤ℤ c)
 half-order t c = (λ h. omega (linear, parts-add t t, parts-half c), λ h. omega (linear, parts-add t t, parts-half c))
 
 -- two literals that are alike, as one
-pub doubled-meaning : (σ : Assignment) (x y : ℕ) (c : ℤ) → x ≡ y → Meets σ (One x (half c)) ↔ ((literalValue σ x +ℤ literalValue σ y) ≤ℤ c)
+pub doubled-meaning : (σ : Assignment) (x y : ℕ) (c : ℤ) → x ≡ y
+    → Meets σ (One x (half c)) ↔ ((literalValue σ x +ℤ literalValue σ y) ≤ℤ c)
 doubled-meaning σ x y c e =
     rw (← e) (λ h. half-order (literalValue σ x) c .0 (h .met), λ h. record { met = half-order (literalValue σ x) c .1 h })
 
@@ -80,16 +80,22 @@ halved-meaning σ (Two x y c) = go (eqb x y) refl
 swapped : (a b : ℤ) → a +ℤ b ≡ b +ℤ a
 swapped a b = omega (linear, parts-add a b, parts-add b a)
 
+minus-self : (a : ℤ) → pos 0 ≡ a +ℤ negℤ a
+unfolding positivePart negativePart
+minus-self a = omega (linear, parts-add a (negℤ a), parts-neg a)
+
 -- a rule means that its term is at most its bound, whatever form the term has
 meets-as : (σ : Assignment) (r : Rule) {t : ℤ} → termValue σ r ≡ t → Meets σ r ↔ (t ≤ℤ boundOf r)
 meets-as σ r e = (λ h. rw e at (h .met), λ h. record { met = rw e h })
 
+-- two literals that are left
 pub pair-meaning : (σ : Assignment) (x y : ℕ) (c : ℤ) → Meets σ (ruleOfPair x y c) ↔ ((literalValue σ x +ℤ literalValue σ y) ≤ℤ c)
-unfolding ruleOfPair positivePart negativePart
+unfolding ruleOfPair
 pair-meaning σ x y c = go (eqb x y) refl (eqb y (negated x)) refl (ltb x y)
   where
     cancels : y ≡ negated x → pos 0 ≡ literalValue σ x +ℤ literalValue σ y
-    cancels e = rw (e, value-negated σ x) (omega (linear, parts-add (literalValue σ x) (negℤ (literalValue σ x)), parts-neg (literalValue σ x)))
+    cancels e = rw (e, value-negated σ x) (minus-self (literalValue σ x))
+
     go : (t : Bool) → eqb x y ≡ t → (u : Bool) → eqb y (negated x) ≡ u → (v : Bool)
         → Meets σ (pickRule t (One x (half c)) (pickRule u (Nothing c) (pickRule v (Two x y c) (Two y x c))))
         ↔ ((literalValue σ x +ℤ literalValue σ y) ≤ℤ c)
@@ -155,7 +161,9 @@ rest-meaning σ Alone Absent c h k = absurd k
 rest-meaning σ Absent q c h k = absurd h
 
 -- where the literal is missing on either side, the trivial rule is left, which is met
-pub rest-met : (σ : Assignment) (p q : Partner) (c : ℤ) → (Present p → Present q → Meets σ (ruleOfRest p q c)) → Meets σ (ruleOfRest p q c)
+pub rest-met : (σ : Assignment) (p q : Partner) (c : ℤ)
+    → (Present p → Present q → Meets σ (ruleOfRest p q c))
+    → Meets σ (ruleOfRest p q c)
 unfolding ruleOfRest
 rest-met σ (Literal x) (Literal y) c h = h tt tt
 rest-met σ (Literal x) Alone c h = h tt tt

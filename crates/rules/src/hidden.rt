@@ -1,10 +1,6 @@
 // The hidden set, a number with bit q - 1 for quantity q, decoded here alone.
-use crate::sheet::Sheet;
 ghost use mathlib.Core.Path.{_≡_};
-ghost use mathlib.Core.Bool.{true, false};
-ghost use lib.Dec.{leb};
 ghost use Rattle.rules.specs.Hidden.{hiddenIn, setWithin};
-ghost use Rattle.rules.specs.Limits.{maxQuantities};
 
 // Whether the set has quantity `q`; no number outside 1 to 32 is in any set.
 pub fn is_hidden(set: u32, q: usize) -> bool

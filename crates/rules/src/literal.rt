@@ -1,6 +1,5 @@
 // Literals: a quantity with its sign, by a code that needs no cases (specs/Literal.antt).
 ghost use mathlib.Core.Path.{_≡_};
-ghost use lib.IntN.{ℤ, pos};
 ghost use Rattle.rules.specs.Literal.{quantityOf, negated, literalOf};
 
 // The quantity that a literal names, counted from 1.

@@ -3,25 +3,15 @@ use crate::literal;
 use crate::sheet::Sheet;
 use integers::Total;
 ghost use mathlib.Core.Path.{_≡_};
-ghost use lib.IntN.{ℤ};
 ghost use Rattle.rules.specs.Meaning.{boundOf};
 ghost use Rattle.rules.specs.Steps.{ruleOf, trivialRule, partnerOf, ruleOfPair, ruleOfRest};
 ghost use Rattle.rules.specs.Promises.{Opposite, Halved, Sum};
 
 // A rule as written: its literals stand in the order given, and a doubled term stays doubled. The bare rule 0 ≤ c keeps its c.
 pub enum Rule {
-    One {
-        literal: u32,
-        bound: i64,
-    },
-    Two {
-        first: u32,
-        second: u32,
-        bound: i64,
-    },
-    Nothing {
-        bound: i64,
-    },
+    One { literal: u32, bound: i64 },
+    Two { first: u32, second: u32, bound: i64 },
+    Nothing { bound: i64 },
 }
 
 // What a rule leaves when a literal is taken from its term.

@@ -1,7 +1,7 @@
 -- `hidden::is_within` meets its contract: a set is below 2 ^ n exactly where nothing of it is left after n bits. Assumes nothing.
-use mathlib.Core.Path.{_≡_, refl, sym}
+use mathlib.Core.Path.{_≡_, refl}
 use mathlib.Core.Bool.{Bool, true, false}
-use Prim.Native.Nat.{ℕ, zero, suc, _/_, _^_, _<_, _≤_}
+use Prim.Native.Nat.{ℕ, _/_, _^_, _<_, _≤_}
 use native.Mathlib.Omega.{arith}
 use native.Mathlib.Nat.{div-eq-of-lt, lt-of-lt-of-le, pow-le-pow-right, le-div-iff-mul-le, one-le-pow}
 use lib.Dec.{eqb, ltb}
@@ -19,6 +19,7 @@ narrow h n = go (ltb h (2 ^ n)) refl
   where
     left : 2 ^ n ≤ h → 1 ≤ h / 2 ^ n
     left l = le-div-iff-mul-le (one-le-pow n 2 (omega arith)) .1 (omega arith)
+
     go : (t : Bool) → ltb h (2 ^ n) ≡ t → eqb (h / 2 ^ n) 0 ≡ t
     go true e = rw (div-eq-of-lt (ltb-true h (2 ^ n) e))
     go false e = ne-eqb (h / 2 ^ n) 0 (λ z. omega (arith, left (ltb-false h (2 ^ n) e)))

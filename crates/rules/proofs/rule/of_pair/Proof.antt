@@ -1,34 +1,42 @@
+-- `rule::of_pair` meets its contract: the tests are the definition's, in its order. Assumes nothing.
+use mathlib.Core.Path.{_≡_, _∙_}
+use lib.Dec.{ltb}
 use borrow.Author.Needs.{needs}
+use borrow.Author.Tests.{eq-eqb, ne-eqb, lt-ltb, le-ltb}
+use Rattle.integers.proofs.Parts.{word-value}
+use Rattle.rules.specs.declared.rule.Rule.the-variants.{Two}
+use Rattle.rules.specs.Steps.{pickRule, ruleOfPair}
+use Rattle.rules.proofs.Words.{held-value}
 use Rattle.rules.proofs.rule.of_pair.Statement.{statement}
 use Rattle.rules.proofs.rule.of_pair.Tie as tie
-use Rattle.rules.proofs.rule.of_pair.Reads as reads
-use Rattle.rules.proofs.rule.of_pair.Lts as lts
-use Rattle.integers.proofs.halved.Reads as halved-reads
-use Rattle.rules.proofs.literal.negate.Reads as negate-reads
 
--- src/rule.rt:188:20
+-- two literals that are not alike and do not cancel
+unlike : (c : tie.Else2) → let s = c .before .before .before .args in
+    ruleOfPair (s .x) (s .y) (s .bound) ≡ pickRule (ltb (s .x) (s .y)) (Two (s .x) (s .y) (s .bound)) (Two (s .y) (s .x) (s .bound))
+unfolding ruleOfPair
+unlike c = rw (ne-eqb _ _ (c .before .before .if1 .left), ne-eqb _ _ (rw (c .before .negate .ensures) at (c .if2 .left)))
+
 halved-requires : tie.Need-halved-requires
 halved-requires c κs = search needs
 
--- src/rule.rt:186:9
 returns : tie.Need-returns
-returns c = ?
+unfolding ruleOfPair
+returns c =
+    rw (held-value (c .halved .ok), c .halved .ensures, word-value (c .before .before .fits .bound), eq-eqb _ _ (c .before .if1 .taken))
 
--- src/rule.rt:191:13
 negate-requires : tie.Need-negate-requires
 negate-requires c κs = search needs
 
--- src/rule.rt:192:9
 returns-2 : tie.Need-returns-2
-returns-2 c = ?
+unfolding ruleOfPair
+returns-2 c =
+    rw (word-value (c .before .before .before .fits .bound), ne-eqb _ _ (c .before .before .if1 .left), eq-eqb _ _ (c .if2 .taken ∙ c .before .negate .ensures))
 
--- src/rule.rt:195:9
 returns-3 : tie.Need-returns-3
-returns-3 c = ?
+returns-3 c = rw (word-value (c .before .before .before .before .fits .bound), unlike (c .before), lt-ltb _ _ (c .if3 .taken))
 
--- src/rule.rt:182:1
 returns-4 : tie.Need-returns-4
-returns-4 c = ?
+returns-4 c = rw (word-value (c .before .before .before .before .fits .bound), unlike (c .before), le-ltb _ _ (c .if3 .left))
 
 pub of-pair-spec : {M : Type 1} → statement M
 of-pair-spec =

@@ -1,18 +1,13 @@
 -- `rule::Rule::opposite` meets its contract: each variant negates its literals and its bound. Assumes nothing.
 use mathlib.Core.Path.{_≡_}
-use lib.IntN.{ℤ}
 use borrow.Author.Needs.{needs}
-use Rattle.integers.proofs.Parts.{word-value}
 use Rattle.rules.specs.declared.rule.Rule.{Rule}
 use Rattle.rules.specs.Steps.{oppositeOf}
 use Rattle.rules.specs.Promises.{Opposite}
+use Rattle.rules.proofs.Words.{held-value}
 use Rattle.rules.proofs.Meanings.{opposite-meaning}
 use Rattle.rules.proofs.rule.Rule.opposite.Statement.{statement}
 use Rattle.rules.proofs.rule.Rule.opposite.Tie as tie
-use Rattle.rules.proofs.rule.Rule.opposite.Reads as reads
-use Rattle.rules.proofs.rule.Rule.opposite.Lts as lts
-use Rattle.integers.proofs.opposite.Reads as opposite-reads
-use Rattle.rules.proofs.literal.negate.Reads as negate-reads
 
 is-opposite : (r s : Rule) → s ≡ oppositeOf r → Opposite r s
 is-opposite r s e = record { reply = e; meaning = λ σ. rw e (opposite-meaning σ r) }
@@ -47,20 +42,21 @@ opposite-requires-3 c κs = search needs
 returns : tie.Need-returns
 unfolding oppositeOf
 returns c = let m = c .before .before in
-  is-opposite _ _
-  (rw (word-value (c .opposite .ok), c .opposite .ensures, word-value record { sfits = m .known-told .given .1 .0 .1 }, c .before .negate .ensures, m .before .self .given .1))
+    is-opposite _ _
+    (rw (held-value (c .opposite .ok), c .opposite .ensures, held-value (m .known-told .given .1 .0 .1), c .before .negate .ensures, m .before .self .given .1))
 
 returns-2 : tie.Need-returns-2
 unfolding oppositeOf
 returns-2 c = let m = c .before .before .before in
-  is-opposite _ _
-  (rw (word-value (c .opposite2 .ok), c .opposite2 .ensures, word-value record { sfits = m .known-told2 .given .1 .1 .0 .1 }, c .before .negate3 .ensures, c .before .before .negate2 .ensures, m .before .self2 .given .1))
+    is-opposite _ _
+    (rw (held-value (c .opposite2 .ok), c .opposite2 .ensures, held-value (m .known-told2 .given .1 .1 .0 .1))
+    (rw (c .before .negate3 .ensures, c .before .before .negate2 .ensures, m .before .self2 .given .1)))
 
 returns-3 : tie.Need-returns-3
 unfolding oppositeOf
 returns-3 c = let m = c .before in
-  is-opposite _ _
-  (rw (word-value (c .opposite3 .ok), c .opposite3 .ensures, word-value record { sfits = m .known-told3 .given .0 .1 }, m .before .self3 .given .1))
+    is-opposite _ _
+    (rw (held-value (c .opposite3 .ok), c .opposite3 .ensures, held-value (m .known-told3 .given .0 .1), m .before .self3 .given .1))
 
 pub opposite-spec : {M : Type 1} → statement M
 opposite-spec =

@@ -1,0 +1,44 @@
+-- Signed words: one that a field or a call's result holds, read back from its bits, and what the sum of two tells. Assumes nothing.
+use mathlib.Core.Path.{_≡_, refl, ap}
+use mathlib.Core.Bool.{Bool, true, false}
+use Prim.Native.Nat.{_^_, _<_}
+use native.Mathlib.Omega.{arith}
+use lib.IntN.{ℤ, pos, negsuc, _+ℤ_}
+use lib.Signed.{mag}
+use mir.Syntax.{w32, w64}
+use mir.Val.{SFits, toZ, ofZ}
+use mir.ValLaws.{toZ-ofZ}
+use Rattle.integers.specs.declared.Total.the-variants.{Sum, Overflow}
+use Rattle.integers.specs.Bound.{inWord, totalOf, pickTotal}
+use Rattle.integers.proofs.Parts.{word-value}
+
+pub held-value : {z : ℤ} → mag z < 2 ^ 63 → toZ w64 (ofZ w64 z) ≡ z
+held-value h = word-value record { sfits = h }
+
+-- the same of 32 bits, and that a number is 0 exactly where its bits are
+pub narrow-value : {z : ℤ} → SFits w32 z → toZ w32 (ofZ w32 z) ≡ z
+narrow-value {z} f = toZ-ofZ w32 z f
+
+pub zero-bits : {z : ℤ} → SFits w32 z → ofZ w32 z ≡ 0 → z ≡ pos 0
+zero-bits {z = pos n} f e = ap pos e
+zero-bits {z = negsuc k} f e = let z : ⊥ = omega (arith, f .sfits) in absurd z
+
+pub nonzero-bits : {z : ℤ} → (ofZ w32 z ≡ 0 → ⊥) → z ≡ pos 0 → ⊥
+nonzero-bits n e = n (ap (ofZ w32) e)
+
+-- where two words have a sum, it is that of the integers
+pub sum-total : (a b x : ℤ) → totalOf a b ≡ Sum x → (inWord (a +ℤ b) ≡ true) × (a +ℤ b ≡ x)
+unfolding totalOf
+sum-total a b x = go (inWord (a +ℤ b))
+  where
+    go : (t : Bool) → pickTotal t (Sum (a +ℤ b)) Overflow ≡ Sum x → (t ≡ true) × (a +ℤ b ≡ x)
+    go true e = (refl, (cc))
+    go false e = ((cc), (cc))
+
+pub overflow-total : (a b : ℤ) → totalOf a b ≡ Overflow → inWord (a +ℤ b) ≡ false
+unfolding totalOf
+overflow-total a b = go (inWord (a +ℤ b))
+  where
+    go : (t : Bool) → pickTotal t (Sum (a +ℤ b)) Overflow ≡ Overflow → t ≡ false
+    go true e = cc
+    go false e = refl

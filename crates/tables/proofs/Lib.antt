@@ -1,0 +1,6 @@
+-- The laws of tables that proofs above cite.
+pub mod Places
+pub mod Values
+pub mod Meanings
+pub mod Tests
+pub mod Putting

@@ -1,0 +1,42 @@
+-- What tables mean: an assignment satisfies a table by the quantities 1 to n alone; the sheet allows visible integers whatever stands at the
+-- hidden quantities. Assumes nothing.
+use mathlib.Core.Path.{_≡_, refl, sym, _∙_, ap}
+use mathlib.Core.Bool.{Bool, true, false, cond}
+use mathlib.Core.List.{List}
+use mathlib.Core.Logic.{_↔_}
+use Prim.Native.Nat.{ℕ, _≤_, _<_}
+use lib.IntN.{ℤ, pos}
+use lib.Signed.{_≤ℤ_}
+use Rattle.words.specs.Change.{wordAt}
+use Rattle.places.specs.Numbering.{blockStart}
+use Rattle.rules.specs.Meaning.{Assignment, Meets, termValue}
+use Rattle.tables.specs.Places.{ruleAt}
+use Rattle.tables.specs.Tables.{hasRule}
+use Rattle.tables.specs.Meaning.{Satisfies, joined, Completes, SheetAllows, SameVisible}
+use Rattle.tables.proofs.Places.{ruleAt-undoubled}
+use Rattle.tables.proofs.Values.{Agree, term-agree, meets-at, at-meets}
+
+pub satisfies-agree : (n : ℕ) (t : List ℤ) (σ τ : Assignment) → Agree n σ τ → Satisfies n t σ → Satisfies n t τ
+satisfies-agree n t σ τ a s = record { each = go }
+  where
+    go : (k : ℕ) → k < blockStart n → hasRule (wordAt t k) ≡ true → Meets τ (ruleAt k (wordAt t k))
+    go k h e =
+      at-meets τ k (wordAt t k)
+      (rw (← term-agree n σ τ a (ruleAt k (pos 0)) (ruleAt-undoubled n k (pos 0) h)) (meets-at σ k (wordAt t k) (s .each k h e)))
+
+-- what the sheet allows does not depend on what stands at hidden quantities, nor on quantities past n
+pub allows-visible : (n : ℕ) (hidden : ℕ → Bool) (t : List ℤ) (σ τ : Assignment) → SameVisible n hidden σ τ
+    → SheetAllows n hidden t σ → SheetAllows n hidden t τ
+allows-visible n hidden t σ τ same a = record { hiddens = a .hiddens; complete = satisfies-agree n t (joined hidden σ (a .hiddens)) (joined hidden τ (a .hiddens)) agree (a .complete) }
+  where
+    pick : (q : ℕ) → (b : Bool) → (b ≡ false → σ q ≡ τ q) → cond b (a .hiddens q) (σ q) ≡ cond b (a .hiddens q) (τ q)
+    pick q true e = refl
+    pick q false e = e refl
+
+    agree : Agree n (joined hidden σ (a .hiddens)) (joined hidden τ (a .hiddens))
+    agree q l h = pick q (hidden q) (same q l h)
+
+-- where no quantity is visible there is one choice, the empty one: all visible integers are allowed or none are
+pub allows-none-visible : (n : ℕ) (hidden : ℕ → Bool) (t : List ℤ) (σ τ : Assignment)
+    → ((q : ℕ) → 1 ≤ q → q ≤ n → hidden q ≡ true) → SheetAllows n hidden t σ → SheetAllows n hidden t τ
+allows-none-visible n hidden t σ τ all = allows-visible n hidden t σ τ (λ q l h e. cc (all q l h))

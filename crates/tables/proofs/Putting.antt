@@ -1,0 +1,150 @@
+-- A rule put in: the table is satisfied afterwards exactly by what satisfied it before and meets the rule. Assumes nothing.
+use mathlib.Core.Path.{_≡_, refl, sym, _∙_, ap, subst}
+use mathlib.Core.Bool.{Bool, true, false, cond}
+use mathlib.Core.List.{List}
+use mathlib.Core.Logic.{_↔_}
+use Prim.Native.Nat.{ℕ, _+_, _-_, _*_, _/_, _%_, _≤_, _<_}
+use native.Mathlib.Omega.{arith}
+use lib.Dec.{eqb, ltb}
+use lib.IntN.{ℤ, pos}
+use lib.ListN.{length}
+use lib.Signed.{_≤ℤ_, ltZ}
+use borrow.Author.Tests.{eqb-true, eqb-false, ltb-true}
+use Rattle.integers.specs.Bound.{half, smaller}
+use Rattle.integers.proofs.Parts.{linear, positivePart, negativePart, ltZ-true, ltZ-false, parts-half, smaller-left, smaller-right, smaller-either}
+use Rattle.words.specs.Change.{wordAt, lowered}
+use Rattle.words.proofs.Change.{lowered-same, lowered-other}
+use Rattle.places.specs.Numbering.{blockStart}
+use Rattle.rules.specs.declared.rule.Rule.{Rule}
+use Rattle.rules.specs.declared.rule.Rule.the-variants.{One, Two, Nothing}
+use Rattle.rules.specs.Limits.{noRule}
+use Rattle.rules.specs.Literal.{negated}
+use Rattle.rules.specs.Meaning.{Assignment, Meets, termValue, boundOf}
+use Rattle.rules.specs.Steps.{pickRule, halvedOf}
+use Rattle.rules.proofs.Meanings.{doubled-meaning}
+use Rattle.tables.specs.declared.reply.Reply.the-variants.{Done, Refused}
+use Rattle.tables.specs.Places.{ruleAt, placeOf, Undoubled}
+use Rattle.tables.specs.Tables.{hasRule, both, ruleReply, putUndoubled, putRule}
+use Rattle.tables.specs.Meaning.{Satisfies}
+use Rattle.tables.proofs.Places.{undoubled-below}
+use Rattle.tables.proofs.Values.{place-value, meets-at, at-meets}
+use Rattle.tables.proofs.Tests.{passed, not-refused, both-true}
+
+-- a word that is at most a rule's bound holds a rule
+rule-below : (a b : ℤ) → a ≤ℤ b → hasRule b ≡ true → hasRule a ≡ true
+rule-below a b h e = go (hasRule a) refl
+  where
+    go : (t : Bool) → hasRule a ≡ t → t ≡ true
+    go true q = refl
+    go false q = let z : ⊥ = omega (linear, ltZ-false a noRule q, ltZ-true b noRule e) in absurd z
+
+module _ (n : ℕ) (t : List ℤ) (k : ℕ) (c : ℤ) (σ : Assignment) (l : k < length t) where
+  -- at the place itself the new word is at most the old one and at most the bound
+  stronger : Meets σ (ruleAt k (smaller (wordAt t k) c)) → Meets σ (ruleAt k (wordAt t k)) × Meets σ (ruleAt k c)
+  stronger m =
+    let v : termValue σ (ruleAt k (pos 0)) ≤ℤ smaller (wordAt t k) c = meets-at σ k (smaller (wordAt t k) c) m in
+    (at-meets σ k (wordAt t k) (omega (linear, smaller-left (wordAt t k) c))
+    , at-meets σ k c (omega (linear, smaller-right (wordAt t k) c)))
+
+  lowered-to : k < blockStart n → hasRule c ≡ true → Satisfies n (lowered t k c) σ → Satisfies n t σ × Meets σ (ruleAt k c)
+  lowered-to b e s = (record { each = λ j h q. go j h q (eqb j k) refl }, here .1)
+    where
+      here′ : (r : hasRule (smaller (wordAt t k) c) ≡ true) → Meets σ (ruleAt k (wordAt t k)) × Meets σ (ruleAt k c)
+      here′ r = stronger (rw (lowered-same t k c l) at (s .each k b (rw (lowered-same t k c l) r)))
+
+      here : Meets σ (ruleAt k (wordAt t k)) × Meets σ (ruleAt k c)
+      here = here′ (rule-below (smaller (wordAt t k) c) c (smaller-right (wordAt t k) c) e)
+
+      go : (j : ℕ) → j < blockStart n → hasRule (wordAt t j) ≡ true → (d : Bool) → eqb j k ≡ d → Meets σ (ruleAt j (wordAt t j))
+      go j h q true w = rw (eqb-true j k w) (here .0)
+      go j h q false w =
+        rw (lowered-other t k j c (eqb-false j k w)) at (s .each j h (rw (lowered-other t k j c (eqb-false j k w)) q))
+
+  lowered-of : Satisfies n t σ → Meets σ (ruleAt k c) → Satisfies n (lowered t k c) σ
+  lowered-of s m = record { each = λ j h q. go j h q (eqb j k) refl }
+    where
+      here : k < blockStart n → hasRule (wordAt (lowered t k c) k) ≡ true → Meets σ (ruleAt k (wordAt (lowered t k c) k))
+      here b =
+        rw (lowered-same t k c l)
+        (smaller-either (λ z. hasRule z ≡ true → Meets σ (ruleAt k z)) (wordAt t k) c (s .each k b) (λ q. m))
+
+      go : (j : ℕ) → j < blockStart n → hasRule (wordAt (lowered t k c) j) ≡ true → (d : Bool) → eqb j k ≡ d → Meets σ (ruleAt j (wordAt (lowered t k c) j))
+      go j h q true w =
+        subst (λ (i : ℕ). i < blockStart n → hasRule (wordAt (lowered t k c) i) ≡ true → Meets σ (ruleAt i (wordAt (lowered t k c) i)))
+        (sym (eqb-true j k w)) here h q
+      go j h q false w =
+        rw (lowered-other t k j c (eqb-false j k w)) (s .each j h (rw (lowered-other t k j c (eqb-false j k w)) at q))
+
+-- an undoubled rule, put in at its place
+pub undoubled-put : (n : ℕ) (t : List ℤ) (r : Rule) (σ : Assignment) → blockStart n ≤ length t → Undoubled n r → hasRule (boundOf r) ≡ true
+    → Satisfies n (lowered t (placeOf r) (boundOf r)) σ ↔ (Satisfies n t σ × Meets σ r)
+undoubled-put n t r σ l u e = (to, of)
+  where
+    b : placeOf r < blockStart n
+    b = undoubled-below n r u
+
+    to : Satisfies n (lowered t (placeOf r) (boundOf r)) σ → Satisfies n t σ × Meets σ r
+    to s =
+      let p = lowered-to n t (placeOf r) (boundOf r) σ (omega (arith, b)) b e s in
+      (p .0, record { met = rw (← place-value n σ r (pos 0) u) (meets-at σ (placeOf r) (boundOf r) (p .1)) })
+
+    of : Satisfies n t σ × Meets σ r → Satisfies n (lowered t (placeOf r) (boundOf r)) σ
+    of p =
+      lowered-of n t (placeOf r) (boundOf r) σ (omega (arith, b)) (p .0)
+      (at-meets σ (placeOf r) (boundOf r) (rw (place-value n σ r (pos 0) u) (p .1 .met)))
+
+-- ---- which rules are accepted
+
+half-rule : (c : ℤ) → hasRule c ≡ true → hasRule (half c) ≡ true
+unfolding positivePart negativePart
+half-rule c e = go (hasRule (half c)) refl
+  where
+    go : (t : Bool) → hasRule (half c) ≡ t → t ≡ true
+    go true q = refl
+    go false q = let z : ⊥ = omega (linear, ltZ-false (half c) noRule q, ltZ-true c noRule e, parts-half c) in absurd z
+
+-- literals that are neither alike nor opposite are of different quantities
+different : (x y : ℕ) → (x ≡ y → ⊥) → (y ≡ negated x → ⊥) → x / 2 + 1 ≡ y / 2 + 1 → ⊥
+different x y d e q = omega arith
+
+-- the rule that is accepted, halved, is undoubled and has a bound; or it is bare and always met
+pub one-accepted : (n x : ℕ) (c : ℤ) → ruleReply n (One x c) ≡ Done → (x < 2 * n) × (hasRule c ≡ true)
+unfolding ruleReply
+one-accepted n x c e =
+    let p = both-true (ltb x (2 * n)) (hasRule c) (passed _ _ _ e .0) in
+    (ltb-true x (2 * n) (p .0), p .1)
+
+pub two-accepted : (n x y : ℕ) (c : ℤ) → ruleReply n (Two x y c) ≡ Done
+    → (x < 2 * n) × (y < 2 * n) × (hasRule c ≡ true) × (y ≡ negated x → ⊥)
+unfolding ruleReply
+two-accepted n x y c e =
+    let a = passed _ _ _ e in
+    let p = both-true (both (ltb x (2 * n)) (ltb y (2 * n))) (hasRule c) (a .0) in
+    let q = both-true (ltb x (2 * n)) (ltb y (2 * n)) (p .0) in
+    (ltb-true x (2 * n) (q .0), ltb-true y (2 * n) (q .1), p .1, eqb-false y (negated x) (not-refused _ _ _ (a .1) .0))
+
+pub nothing-accepted : (n : ℕ) (c : ℤ) (σ : Assignment) → ruleReply n (Nothing c) ≡ Done → Meets σ (Nothing c)
+unfolding ruleReply
+nothing-accepted n c σ e = record { met = omega (linear, ltZ-false c (pos 0) (not-refused _ _ _ e .0)) }
+
+-- an accepted rule, put in
+pub accepted-put : (n : ℕ) (t : List ℤ) (r : Rule) (σ : Assignment) → blockStart n ≤ length t → ruleReply n r ≡ Done
+    → Satisfies n (putRule t r) σ ↔ (Satisfies n t σ × Meets σ r)
+unfolding putRule putUndoubled halvedOf
+accepted-put n t (One x c) σ l e =
+    let p = one-accepted n x c e in undoubled-put n t (One x c) σ l (p .0) (p .1)
+accepted-put n t (Two x y c) σ l e = go (eqb x y) refl
+  where
+    p : (x < 2 * n) × (y < 2 * n) × (hasRule c ≡ true) × (y ≡ negated x → ⊥)
+    p = two-accepted n x y c e
+
+    single : x ≡ y → Satisfies n (putUndoubled t (One x (half c))) σ ↔ (Satisfies n t σ × Meets σ (Two x y c))
+    single d =
+      let u = undoubled-put n t (One x (half c)) σ l (p .0) (half-rule c (p .2)) in
+      let m = doubled-meaning σ x y c d in
+      (λ s. (u .0 s .0, record { met = m .0 (u .0 s .1) }), λ s. u .1 (s .0, m .1 (s .1 .met)))
+
+    go : (b : Bool) → eqb x y ≡ b → Satisfies n (putUndoubled t (pickRule b (One x (half c)) (Two x y c))) σ ↔ (Satisfies n t σ × Meets σ (Two x y c))
+    go true d = single (eqb-true x y d)
+    go false d = undoubled-put n t (Two x y c) σ l (p .0, p .1, different x y (eqb-false x y d) (p .3)) (p .2)
+accepted-put n t (Nothing c) σ l e = (λ s. (s, nothing-accepted n c σ e), λ s. s .0)

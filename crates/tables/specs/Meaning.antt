@@ -1,0 +1,40 @@
+-- What tables mean, over unbounded integers and apart from any algorithm. An assignment gives an integer to each quantity; a predicate says which
+-- quantities are hidden, and the rest are visible.
+use mathlib.Core.Path.{_≡_}
+use mathlib.Core.Bool.{Bool, true, false, cond}
+use mathlib.Core.List.{List}
+use Prim.Native.Nat.{ℕ, _≤_, _<_}
+use lib.IntN.{ℤ}
+use Rattle.words.specs.Change.{wordAt}
+use Rattle.places.specs.Numbering.{blockStart}
+use Rattle.rules.specs.Meaning.{Assignment, Meets}
+use Rattle.tables.specs.Places.{ruleAt}
+use Rattle.tables.specs.Tables.{hasRule}
+
+-- an assignment satisfies a table over n quantities: it meets the rule of every place that has one
+pub record Satisfies (n : ℕ) (t : List ℤ) (σ : Assignment) : Type 0 where
+  pub each : (k : ℕ) → k < blockStart n → hasRule (wordAt t k) ≡ true → Meets σ (ruleAt k (wordAt t k))
+
+-- integers for the visible quantities from one assignment and for the hidden ones from another
+abbrev pub joined : (ℕ → Bool) → Assignment → Assignment → Assignment
+joined hidden visibles hiddens q = cond (hidden q) (hiddens q) (visibles q)
+
+-- hidden values complete visible integers: the two together satisfy every rule of the sheet
+abbrev pub Completes : ℕ → (ℕ → Bool) → List ℤ → Assignment → Assignment → Type 0
+Completes n hidden sheet visibles hiddens = Satisfies n sheet (joined hidden visibles hiddens)
+
+-- the sheet allows visible integers: some hidden values complete them
+pub record SheetAllows (n : ℕ) (hidden : ℕ → Bool) (sheet : List ℤ) (visibles : Assignment) : Type 0 where
+  pub hiddens : Assignment
+  pub complete : Completes n hidden sheet visibles hiddens
+
+-- the script allows the visible integers that satisfy every rule of its own, which name visible quantities alone; it forbids all others
+abbrev pub ScriptAllows : ℕ → List ℤ → Assignment → Type 0
+ScriptAllows n script visibles = Satisfies n script visibles
+
+abbrev pub ScriptForbids : ℕ → List ℤ → Assignment → Type 0
+ScriptForbids n script visibles = ScriptAllows n script visibles → ⊥
+
+-- two assignments give the visible quantities of 1 to n the same integers
+abbrev pub SameVisible : ℕ → (ℕ → Bool) → Assignment → Assignment → Type 0
+SameVisible n hidden σ τ = (q : ℕ) → 1 ≤ q → q ≤ n → hidden q ≡ false → σ q ≡ τ q

@@ -1,0 +1,5 @@
+// Tables of rules: one word for each term over n quantities (document 01, 'The table').
+pub mod limit;
+pub mod place;
+pub mod reply;
+pub mod table;

@@ -1,0 +1,151 @@
+// What changes a table: emptied, a rule put in, a quantity's places cleared. A refusal changes no word, and no call changes a word past the
+// first 2n².
+use crate::reply::Reply;
+use rules::refusal::Refusal;
+use rules::rule::Rule;
+use rules::sheet::Sheet;
+ghost use mathlib.Core.Path.{_≡_};
+ghost use Prim.Native.Nat.{suc, _<_, _≤_};
+ghost use Rattle.rules.specs.Limits.{maxQuantities};
+ghost use Rattle.tables.specs.Tables.{tableSize, serves, ruleReply, putUndoubled, cleared};
+ghost use Rattle.tables.specs.Promises.{Emptied, Put, Cleared};
+
+// The words of a table over `n` quantities; 0 where `n` is outside its range.
+pub fn size(n: usize) -> usize
+    ensures { λ r. ⌜ r ≡ tableSize n ⌝ }
+{
+    if n < 1 {
+        return 0;
+    }
+    if Sheet::MAX_QUANTITIES < n {
+        return 0;
+    }
+    2 * (n * n)
+}
+
+// Whether a table of so many words serves `n` quantities.
+pub fn is_table(n: usize, words: usize) -> bool
+    ensures { λ r. ⌜ r ≡ serves n words ⌝ }
+{
+    let needed = size(n);
+    if needed == 0 {
+        return false;
+    }
+    needed <= words
+}
+
+// Takes every rule out of the table.
+pub fn empty(n: usize, table: &mut [i64]) -> Reply
+    ensures { λ r. ⌜ Emptied n (now (table .entry)) r (now (table .exit)) ⌝ }
+{
+    let served = is_table(n, table.len());
+    if !served {
+        return Reply::Refused(Refusal::Size);
+    }
+    let needed = size(n);
+    words::fill(table, 0, needed, Sheet::NO_RULE);
+    Reply::Done
+}
+
+// The reply to a rule for a table over `n` quantities.
+fn accepts(n: usize, rule: Rule) -> Reply
+    ensures { λ r. ⌜ r ≡ ruleReply n rule ⌝ }
+{
+    match rule {
+        Rule::One { literal, bound } => {
+            if n <= literal as usize / 2 {
+                return Reply::Refused(Refusal::OutOfLimit { line: 0 });
+            }
+            if bound < Sheet::NO_RULE {
+                return Reply::Done;
+            }
+            Reply::Refused(Refusal::OutOfLimit { line: 0 })
+        }
+        Rule::Two { first, second, bound } => {
+            if n <= first as usize / 2 {
+                return Reply::Refused(Refusal::OutOfLimit { line: 0 });
+            }
+            if n <= second as usize / 2 {
+                return Reply::Refused(Refusal::OutOfLimit { line: 0 });
+            }
+            if bound < Sheet::NO_RULE {
+                if second == rules::literal::negate(first) {
+                    return Reply::Refused(Refusal::Cancelling { line: 0 });
+                }
+                return Reply::Done;
+            }
+            Reply::Refused(Refusal::OutOfLimit { line: 0 })
+        }
+        Rule::Nothing { bound } => {
+            if bound < 0 {
+                return Reply::Refused(Refusal::NoAssignment);
+            }
+            Reply::Done
+        }
+    }
+}
+
+// Puts an undoubled rule in at its place by minimum; a bare one has no place.
+fn store(table: &mut [i64], rule: Rule)
+    ensures { λ _. ⌜ now (table .exit) ≡ putUndoubled (now (table .entry)) rule ⌝ }
+{
+    match rule {
+        Rule::One { literal, bound } => {
+            words::lower(table, places::of_one(literal), bound);
+        }
+        Rule::Two { first, second, bound } => {
+            words::lower(table, places::of_two(first, second), bound);
+        }
+        Rule::Nothing { bound: _ } => {}
+    }
+}
+
+// Puts a rule in, a doubled term halved first: the smaller bound stays.
+pub fn put(n: usize, table: &mut [i64], rule: Rule) -> Reply
+    ensures { λ r. ⌜ Put n rule (now (table .entry)) r (now (table .exit)) ⌝ }
+{
+    let served = is_table(n, table.len());
+    if !served {
+        return Reply::Refused(Refusal::Size);
+    }
+    let reply = accepts(n, rule);
+    let Reply::Done = reply else {
+        return reply;
+    };
+    store(table, rule.halved());
+    Reply::Done
+}
+
+// Clears the places that name quantity `j + 1`: all of its own block, and four of each block after it.
+fn clear_places(n: usize, table: &mut [i64], j: usize)
+    requires { ⌜ (j < n) × (n ≤ maxQuantities) ⌝ }
+    ensures { λ _. ⌜ now (table .exit) ≡ cleared n (suc j) (now (table .entry)) ⌝ }
+{
+    let start = 2 * (j * j);
+    let mut next = start + 4 * j + 2;
+    words::fill(table, start, next, Sheet::NO_RULE);
+    let mut b = j + 1;
+    while b < n {
+        words::fill(table, next + 4 * j + 2, next + 4 * j + 6, Sheet::NO_RULE);
+        next = next + 4 * b + 2;
+        b = b + 1;
+    }
+}
+
+// Clears every place that names quantity `q`.
+pub fn clear(n: usize, table: &mut [i64], q: usize) -> Reply
+    ensures { λ r. ⌜ Cleared n q (now (table .entry)) r (now (table .exit)) ⌝ }
+{
+    let served = is_table(n, table.len());
+    if !served {
+        return Reply::Refused(Refusal::Size);
+    }
+    if q < 1 {
+        return Reply::Refused(Refusal::OutOfLimit { line: 0 });
+    }
+    if n < q {
+        return Reply::Refused(Refusal::OutOfLimit { line: 0 });
+    }
+    clear_places(n, table, q - 1);
+    Reply::Done
+}

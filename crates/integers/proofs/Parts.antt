@@ -1,7 +1,7 @@
 -- Linear arithmetic over ℤ, read by `omega` as arithmetic over ℕ: an integer is its positive part less its negative part.
 -- `linear` turns orders, equations and tests of integers into facts on parts; `parts-add`, `parts-neg` and the laws of `half` are listed
 -- for the sums, negations and halves in sight. Assumes nothing.
-use mathlib.Core.Path.{_≡_, refl, ap, sym, subst}
+use mathlib.Core.Path.{_≡_, refl, ap, sym, _∙_, subst}
 use mathlib.Core.Bool.{Bool, true, false, not, cond}
 use mathlib.Core.Logic.{⊎-elim, _⊎_}
 use Prim.Native.Nat.{ℕ, zero, suc, _+_, _-_, _*_, _^_, _/_, _%_, _≤_, _<_}
@@ -98,14 +98,53 @@ eq-of {a} {b} = go a b
     go (negsuc a) (pos b) e = let z : ⊥ = omega arith in absurd z
     go (negsuc a) (negsuc b) e = ap negsuc (omega arith)
 
+true-is : (t : Bool) → T t → t ≡ true
+true-is true h = refl
+true-is false h = absurd h
+
 pub ltZ-true : (a b : ℤ) → ltZ a b ≡ true → positivePart a + negativePart b < positivePart b + negativePart a
 ltZ-true a b e = lt-to (ltZ-yes (subst T (sym e) tt))
 
 pub ltZ-false : (a b : ℤ) → ltZ a b ≡ false → positivePart b + negativePart a ≤ positivePart a + negativePart b
 ltZ-false a b e = le-to (ltZ-no (subst (λ (t : Bool). T (not t)) (sym e) tt))
 
+pub leZ-true : (a b : ℤ) → leZ a b ≡ true → positivePart a + negativePart b ≤ positivePart b + negativePart a
+leZ-true a b e = le-to (leZ-yes (subst T (sym e) tt))
+
 -- what `omega` reads of integers
-pub ruleset linear = (arith, ltZ-true, ltZ-false, lt-to, lt-of, eq-to, eq-of, le-to, le-of)
+pub ruleset linear = (arith, ltZ-true, ltZ-false, leZ-true, lt-to, lt-of, eq-to, eq-of, le-to, le-of)
+
+-- a test from the order, as `lt-ltb` and its like have it of numbers
+pub lt-ltZ : (a b : ℤ) → a <ℤ b → ltZ a b ≡ true
+lt-ltZ a b h = go (ltZ a b) refl
+  where
+    go : (t : Bool) → ltZ a b ≡ t → t ≡ true
+    go true e = refl
+    go false e = let z : ⊥ = omega (linear, ltZ-false a b e) in absurd z
+
+pub le-ltZ : (a b : ℤ) → b ≤ℤ a → ltZ a b ≡ false
+le-ltZ a b h = go (ltZ a b) refl
+  where
+    go : (t : Bool) → ltZ a b ≡ t → t ≡ false
+    go true e = let z : ⊥ = omega (linear, ltZ-true a b e) in absurd z
+    go false e = refl
+
+pub le-leZ : (a b : ℤ) → a ≤ℤ b → leZ a b ≡ true
+le-leZ a b h = true-is (leZ a b) (h .le)
+
+pub lt-leZ : (a b : ℤ) → b <ℤ a → leZ a b ≡ false
+lt-leZ a b h = go (leZ a b) refl
+  where
+    go : (t : Bool) → leZ a b ≡ t → t ≡ false
+    go true e = let z : ⊥ = omega (linear, leZ-true a b e) in absurd z
+    go false e = refl
+
+pub leZ-false : (a b : ℤ) → leZ a b ≡ false → b <ℤ a
+leZ-false a b e = go (ltZ b a) refl
+  where
+    go : (t : Bool) → ltZ b a ≡ t → b <ℤ a
+    go true q = ltZ-yes (subst T (sym q) tt)
+    go false q = absurd (subst T (sym (le-leZ a b (omega (linear, ltZ-false b a q))) ∙ e) tt)
 
 -- ---- a word of 64 bits: from -2 ^ 63 up to, and without, 2 ^ 63
 

@@ -21,8 +21,8 @@ pub blockStart-suc : (j : ℕ) → blockStart (suc j) ≡ blockStart j + 4 * j +
 unfolding blockStart
 blockStart-suc j = omega arith
 
--- a block starts no sooner than its number
-pub blockStart-above : (j : ℕ) → j ≤ blockStart j
+-- a block starts no sooner than twice its number
+pub blockStart-above : (j : ℕ) → 2 * j ≤ blockStart j
 unfolding blockStart
 blockStart-above zero = omega arith
 blockStart-above (suc j) = omega arith

@@ -3,4 +3,7 @@ pub mod Places
 pub mod Values
 pub mod Meanings
 pub mod Tests
+pub mod Sizes
+pub mod Limits
 pub mod Putting
+pub mod Promised

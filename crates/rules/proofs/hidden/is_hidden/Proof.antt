@@ -1,4 +1,5 @@
--- `hidden::is_hidden` meets its contract: a quantity past 32 has its bit past every set's last one. Assumes nothing.
+-- `hidden::is_hidden` meets its contract: the bit is the definition's, and a quantity past 32 has its bit past every set's last one.
+-- Assumes nothing.
 use mathlib.Core.Path.{_≡_, refl}
 use mathlib.Core.Bool.{false}
 use Prim.Native.Nat.{ℕ, zero, suc, _-_, _/_, _%_, _^_, _<_}
@@ -11,15 +12,15 @@ use Rattle.rules.specs.Hidden.{hiddenIn}
 use Rattle.rules.proofs.hidden.is_hidden.Statement.{statement}
 use Rattle.rules.proofs.hidden.is_hidden.Tie as tie
 
+bit : (h q : ℕ) → (q ≡ 0 → ⊥) → eqb (h / 2 ^ (q - 1) % 2) 1 ≡ hiddenIn h q
+bit h zero n = absurd (n refl)
+bit h (suc j) n = simp unary-clauses
+
 past : (h q : ℕ) → h < 2 ^ 32 → 32 < q → false ≡ hiddenIn h q
 past h zero f l = refl
 past h (suc j) f l =
     let small : h < 2 ^ j = lt-of-lt-of-le f (pow-le-pow-right {n = 2} (omega arith) {i = 32} {j = j} (omega arith)) in
     rw (div-eq-of-lt small)
-
-bit : (h q : ℕ) → (q ≡ 0 → ⊥) → eqb (h / 2 ^ (q - 1) % 2) 1 ≡ hiddenIn h q
-bit h zero n = absurd (n refl)
-bit h (suc j) n = simp unary-clauses
 
 returns : tie.Need-returns
 returns c = search needs

@@ -1,25 +1,38 @@
+-- `limit::is_word_in` meets its contract: a word is below -limit where it is at most the opposite's bound. Assumes nothing.
+use mathlib.Core.Path.{_≡_, refl, sym, _∙_}
+use mathlib.Core.Bool.{true, false}
+use lib.IntN.{ℤ, negℤ}
+use lib.Signed.{leZ}
 use borrow.Author.Needs.{needs}
+use Rattle.integers.specs.Bound.{oppositeBound}
+use Rattle.integers.proofs.Parts.{linear, parts-neg, parts-opposite, leZ-true, leZ-false, le-leZ, lt-leZ, word-value}
+use Rattle.tables.specs.Tables.{hasRule, inLimit}
 use Rattle.tables.proofs.limit.is_word_in.Statement.{statement}
 use Rattle.tables.proofs.limit.is_word_in.Tie as tie
-use Rattle.tables.proofs.limit.is_word_in.Reads as reads
-use Rattle.tables.proofs.limit.is_word_in.Lts as lts
-use Rattle.integers.proofs.opposite.Reads as opposite-reads
 
--- src/limit.rt:11:17
+too-low : (w B : ℤ) → hasRule w ≡ true → leZ w (oppositeBound B) ≡ true → false ≡ inLimit B w
+unfolding inLimit
+too-low w B e l = rw (e, lt-leZ (negℤ B) w (omega (linear, leZ-true w (oppositeBound B) l, parts-neg B, parts-opposite B)))
+
+not-low : (w B : ℤ) → hasRule w ≡ true → leZ w (oppositeBound B) ≡ false → leZ w B ≡ inLimit B w
+unfolding inLimit
+not-low w B e l = rw (e, le-leZ (negℤ B) w (omega (linear, leZ-false w (oppositeBound B) l, parts-neg B, parts-opposite B)))
+
+no-rule : (w B : ℤ) → hasRule w ≡ false → true ≡ inLimit B w
+unfolding inLimit
+no-rule w B e = rw e
+
 opposite-requires : tie.Need-opposite-requires
 opposite-requires c κs = search needs
 
--- src/limit.rt:12:13
 returns : tie.Need-returns
 returns c = ?
 
--- src/limit.rt:14:9
 returns-2 : tie.Need-returns-2
 returns-2 c = ?
 
--- src/limit.rt:7:1
 returns-3 : tie.Need-returns-3
-returns-3 c = ?
+returns-3 c = let s = c .before in no-rule _ _ (rw (word-value (s .fits .w)) at (c .if1 .left))
 
 pub is-word-in-spec : {M : Type 1} → statement M
 is-word-in-spec = tie.close (tie.spec opposite-requires returns returns-2 returns-3)

@@ -1,77 +1,127 @@
+-- `table::accepts` meets its contract: its tests are the definition's, a literal being below 2n where its half is below n. Assumes nothing.
+use mathlib.Core.Path.{_≡_, refl, sym, _∙_}
+use mathlib.Core.Bool.{Bool, true, false}
+use Prim.Native.Nat.{ℕ, _*_, _/_, _≤_, _<_}
+use native.Mathlib.Omega.{arith}
+use lib.Dec.{eqb, ltb}
+use lib.IntN.{ℤ, pos}
+use lib.Signed.{ltZ}
 use borrow.Author.Needs.{needs}
+use borrow.Author.Tests.{lt-ltb, le-ltb, eq-eqb, ne-eqb}
+use Rattle.rules.specs.declared.rule.Rule.the-variants.{One, Two, Nothing}
+use Rattle.rules.specs.declared.refusal.Refusal.the-variants.{OutOfLimit, Cancelling, NoAssignment}
+use Rattle.rules.specs.Literal.{negated}
+use Rattle.rules.proofs.Words.{held-value}
+use Rattle.tables.specs.declared.reply.Reply.{Reply}
+use Rattle.tables.specs.declared.reply.Reply.the-variants.{Done, Refused}
+use Rattle.tables.specs.Tables.{ruleReply, pickReply, hasRule}
 use Rattle.tables.proofs.table.accepts.Statement.{statement}
 use Rattle.tables.proofs.table.accepts.Tie as tie
-use Rattle.tables.proofs.table.accepts.Reads as reads
-use Rattle.tables.proofs.table.accepts.Lts as lts
-use Rattle.rules.proofs.literal.negate.Reads as negate-reads
 
--- src/table.rt:55:21
+abbrev outside : Reply
+outside = Refused (OutOfLimit 0)
+
+-- ---- what the definition says of each way
+
+past : (n x : ℕ) → n ≤ x / 2 → ltb x (2 * n) ≡ false
+past n x h = le-ltb x (2 * n) (omega arith)
+
+inside : (n x : ℕ) → x / 2 < n → ltb x (2 * n) ≡ true
+inside n x h = lt-ltb x (2 * n) (omega arith)
+
+one-past : (n x : ℕ) (c : ℤ) → n ≤ x / 2 → outside ≡ ruleReply n (One x c)
+unfolding ruleReply
+one-past n x c h = rw (past n x h)
+
+one-inside : (n x : ℕ) (c : ℤ) (t : Bool) → x / 2 < n → hasRule c ≡ t → pickReply t Done outside ≡ ruleReply n (One x c)
+unfolding ruleReply
+one-inside n x c t h e = rw (inside n x h, e)
+
+two-past-first : (n x y : ℕ) (c : ℤ) → n ≤ x / 2 → outside ≡ ruleReply n (Two x y c)
+unfolding ruleReply
+two-past-first n x y c h = rw (past n x h)
+
+two-past-second : (n x y : ℕ) (c : ℤ) → x / 2 < n → n ≤ y / 2 → outside ≡ ruleReply n (Two x y c)
+unfolding ruleReply
+two-past-second n x y c h g = rw (inside n x h, past n y g)
+
+two-inside : (n x y : ℕ) (c : ℤ) (t u : Bool) → x / 2 < n → y / 2 < n → hasRule c ≡ t → eqb y (negated x) ≡ u
+    → pickReply t (pickReply u (Refused (Cancelling 0)) Done) outside ≡ ruleReply n (Two x y c)
+unfolding ruleReply
+two-inside n x y c t u h g e f = rw (inside n x h, inside n y g, e, f)
+
+bare : (n : ℕ) (c : ℤ) (t : Bool) → ltZ c (pos 0) ≡ t → pickReply t (Refused NoAssignment) Done ≡ ruleReply n (Nothing c)
+unfolding ruleReply
+bare n c t e = rw e
+
+-- ---- the ways of the code
+
 enum-known-rule : tie.Need-enum-known-rule
 enum-known-rule c = search needs
 
--- src/table.rt:56:21
 cast-if1 : tie.Need-cast-if1
 cast-if1 c = search needs
 
--- src/table.rt:57:17
 returns : tie.Need-returns
-returns c = ?
+returns c = let m = c .before in rw (m .before .rule .given .1) (one-past _ _ _ (c .if1 .taken))
 
--- src/table.rt:60:17
 returns-2 : tie.Need-returns-2
-returns-2 c = ?
+returns-2 c = let m = c .before .before in
+    rw (m .before .rule .given .1)
+    (one-inside _ _ _ true (c .before .if1 .left) (rw (held-value (m .known-told .given .1 .0 .1)) at (c .if2 .taken)))
 
--- src/table.rt:64:21
 enum-known-rule-2 : tie.Need-enum-known-rule-2
 enum-known-rule-2 c = search needs
 
--- src/table.rt:65:21
 cast-if3 : tie.Need-cast-if3
 cast-if3 c = search needs
 
--- src/table.rt:66:17
 returns-3 : tie.Need-returns-3
-returns-3 c = ?
+returns-3 c = let m = c .before in rw (m .before .rule2 .given .1) (two-past-first _ _ _ _ (c .if3 .taken))
 
--- src/table.rt:68:21
 cast-if4 : tie.Need-cast-if4
 cast-if4 c = search needs
 
--- src/table.rt:69:17
 returns-4 : tie.Need-returns-4
-returns-4 c = ?
+returns-4 c = let m = c .before .before in rw (m .before .rule2 .given .1) (two-past-second _ _ _ _ (c .before .if3 .left) (c .if4 .taken))
 
--- src/table.rt:72:30
 negate-requires : tie.Need-negate-requires
 negate-requires c κs = search needs
 
--- src/table.rt:73:21
 returns-5 : tie.Need-returns-5
-returns-5 c = ?
+returns-5 c = let g = c .before .before in let m = g .before .before .before in
+    rw (m .before .rule2 .given .1)
+    (two-inside _ _ _ _ true true (g .before .before .if3 .left) (g .before .if4 .left)
+    (rw (held-value (m .known-told2 .given .1 .1 .0 .1)) at (g .if5 .taken))
+    (eq-eqb _ _ (c .if6 .taken ∙ c .before .negate .ensures)))
 
--- src/table.rt:75:17
 returns-6 : tie.Need-returns-6
-returns-6 c = ?
+returns-6 c = let g = c .before .before in let m = g .before .before .before in
+    rw (m .before .rule2 .given .1)
+    (two-inside _ _ _ _ true false (g .before .before .if3 .left) (g .before .if4 .left)
+    (rw (held-value (m .known-told2 .given .1 .1 .0 .1)) at (g .if5 .taken))
+    (ne-eqb _ _ (λ e. c .if6 .left (e ∙ sym (c .before .negate .ensures)))))
 
--- src/table.rt:79:25
 enum-known-rule-3 : tie.Need-enum-known-rule-3
 enum-known-rule-3 c = search needs
 
--- src/table.rt:81:17
 returns-7 : tie.Need-returns-7
-returns-7 c = ?
+returns-7 c = let m = c .before in
+    rw (m .before .rule3 .given .1) (bare _ _ true (rw (held-value (m .known-told3 .given .0 .1)) at (c .if7 .taken)))
 
--- src/table.rt:51:1
 returns-8 : tie.Need-returns-8
-returns-8 c = ?
+returns-8 c = let m = c .before .before in
+    rw (m .before .rule .given .1)
+    (one-inside _ _ _ false (c .before .if1 .left) (rw (held-value (m .known-told .given .1 .0 .1)) at (c .if2 .left)))
 
--- src/table.rt:51:1
 returns-9 : tie.Need-returns-9
-returns-9 c = ?
+returns-9 c = let m = c .before .before .before in
+    rw (m .before .rule2 .given .1)
+    (two-inside _ _ _ _ false _ (c .before .before .if3 .left) (c .before .if4 .left) (rw (held-value (m .known-told2 .given .1 .1 .0 .1)) at (c .if5 .left)) refl)
 
--- src/table.rt:51:1
 returns-10 : tie.Need-returns-10
-returns-10 c = ?
+returns-10 c = let m = c .before in
+    rw (m .before .rule3 .given .1) (bare _ _ false (rw (held-value (m .known-told3 .given .0 .1)) at (c .if7 .left)))
 
 pub accepts-spec : {M : Type 1} → statement M
 accepts-spec =

@@ -1,35 +1,29 @@
+-- `table::empty` meets its contract: the words filled are the table's. Assumes nothing.
+use mathlib.Core.Path.{_≡_, sym, _∙_}
 use borrow.Author.Needs.{needs}
+use borrow.Author.Tests.{not-true, not-false}
+use Rattle.tables.proofs.Promised.{emptied-refused, emptied-done}
 use Rattle.tables.proofs.table.empty.Statement.{statement}
 use Rattle.tables.proofs.table.empty.Tie as tie
-use Rattle.tables.proofs.table.empty.Reads as reads
-use Rattle.tables.proofs.table.empty.Lts as lts
-use Rattle.tables.proofs.table.is_table.Reads as is-table-reads
-use Rattle.tables.proofs.table.size.Reads as size-reads
-use Rattle.words.proofs.fill.Reads as fill-reads
 
--- src/table.rt:41:9
 is-table-requires : tie.Need-is-table-requires
 is-table-requires c κs = search needs
 
--- src/table.rt:43:9
 returns : tie.Need-returns
-returns c = ?
+returns c = emptied-refused _ _ (sym (c .before .is-table .ensures) ∙ not-true _ (c .if1 .taken))
 
--- src/table.rt:45:9
 size-requires : tie.Need-size-requires
 size-requires c κs = search needs
 
--- src/table.rt:46:5
 fill-requires : tie.Need-fill-requires
 fill-requires c κs = search needs
 
--- src/table.rt:38:1
 same-length : tie.Need-same-length
 same-length c = search needs
 
--- src/table.rt:38:1
 returns-2 : tie.Need-returns-2
-returns-2 c = ?
+returns-2 c = let s = c .before .before .before in
+    emptied-done _ _ _ (sym (s .before .before .is-table .ensures) ∙ not-false _ (s .before .if1 .left)) (rw (s .size .ensures) at (c .before .fill .ensures))
 
 pub empty-spec : {M : Type 1} → statement M
 empty-spec =

@@ -1,27 +1,33 @@
+-- `table::size` meets its contract: the tests are the definition's, and the product fits since n is at most 32. Assumes nothing.
+use native.Mathlib.Omega.{arith}
+use borrow.Author.Tests.{le-leb, lt-leb}
+use Rattle.places.specs.Numbering.{blockStart}
+use Rattle.tables.specs.Tables.{tableSize}
+use Rattle.tables.proofs.Sizes.{small-square}
 use Rattle.tables.proofs.table.size.Statement.{statement}
 use Rattle.tables.proofs.table.size.Tie as tie
-use Rattle.tables.proofs.table.size.Reads as reads
-use Rattle.tables.proofs.table.size.Lts as lts
 
--- src/table.rt:18:9
 returns : tie.Need-returns
-returns c = ?
+unfolding tableSize
+returns c = rw (lt-leb 1 (c .before .args .n) (c .if1 .taken))
 
--- src/table.rt:21:9
 returns-2 : tie.Need-returns-2
-returns-2 c = ?
+unfolding tableSize
+returns-2 c =
+    let n = c .before .before .args .n in
+    rw (le-leb 1 n (c .before .if1 .left), lt-leb n 32 (c .if2 .taken))
 
--- src/table.rt:23:10
 mul-result : tie.Need-mul-result
-mul-result c = ?
+mul-result c = omega (arith, small-square (c .before .before .args .n) (c .if2 .left))
 
--- src/table.rt:23:5
 mul-result-2 : tie.Need-mul-result-2
-mul-result-2 c = ?
+mul-result-2 c = omega (arith, small-square (c .before .before .args .n) (c .if2 .left))
 
--- src/table.rt:14:1
 returns-3 : tie.Need-returns-3
-returns-3 c = ?
+unfolding tableSize blockStart
+returns-3 c =
+    let n = c .before .before .args .n in
+    rw (le-leb 1 n (c .before .if1 .left), le-leb n 32 (c .if2 .left))
 
 pub size-spec : {M : Type 1} → statement M
 size-spec = tie.close (tie.spec returns returns-2 mul-result mul-result-2 returns-3)

@@ -1,58 +1,58 @@
+-- `table::store` meets its contract: each variant goes to the place that the definition names. Assumes nothing.
+use mathlib.Core.Path.{_≡_, sym, _∙_, ap₂}
+use mathlib.Core.List.{List}
+use Prim.Native.Nat.{ℕ}
+use lib.IntN.{ℤ}
 use borrow.Author.Needs.{needs}
+use Rattle.words.specs.Change.{lowered}
+use Rattle.rules.proofs.Words.{held-value}
+use Rattle.tables.specs.Places.{placeOf}
+use Rattle.tables.specs.Tables.{putUndoubled}
 use Rattle.tables.proofs.table.store.Statement.{statement}
 use Rattle.tables.proofs.table.store.Tie as tie
-use Rattle.tables.proofs.table.store.Reads as reads
-use Rattle.tables.proofs.table.store.Lts as lts
-use Rattle.places.proofs.of_one.Reads as of-one-reads
-use Rattle.places.proofs.of_two.Reads as of-two-reads
-use Rattle.words.proofs.lower.Reads as lower-reads
 
--- src/table.rt:93:21
 enum-known-rule : tie.Need-enum-known-rule
 enum-known-rule c = search needs
 
--- src/table.rt:94:33
 of-one-requires : tie.Need-of-one-requires
 of-one-requires c κs = search needs
 
--- src/table.rt:94:13
 lower-requires : tie.Need-lower-requires
 lower-requires c κs = search needs
 
--- src/table.rt:96:21
 enum-known-rule-2 : tie.Need-enum-known-rule-2
 enum-known-rule-2 c = search needs
 
--- src/table.rt:97:33
 of-two-requires : tie.Need-of-two-requires
 of-two-requires c κs = search needs
 
--- src/table.rt:97:13
 lower-requires-2 : tie.Need-lower-requires-2
 lower-requires-2 c κs = search needs
 
 enum-told : tie.Need-enum-told
 enum-told c = search needs
 
--- src/table.rt:89:1
 same-length : tie.Need-same-length
 same-length c = search needs
 
--- src/table.rt:89:1
 returns : tie.Need-returns
-returns c = ?
+unfolding putUndoubled placeOf
+returns c = let m = c .before .before .before .before in
+    rw (m .before .rule .given .1)
+    (c .before .lower .ensures ∙ ap₂ (lowered _) (c .before .before .of-one .ensures) (held-value (m .known-told .given .1 .0 .1)))
 
--- src/table.rt:89:1
 same-length-2 : tie.Need-same-length-2
 same-length-2 c = search needs
 
--- src/table.rt:89:1
 returns-2 : tie.Need-returns-2
-returns-2 c = ?
+unfolding putUndoubled placeOf
+returns-2 c = let m = c .before .before .before .before in
+    rw (m .before .rule2 .given .1)
+    (c .before .lower2 .ensures ∙ ap₂ (lowered _) (c .before .before .of-two .ensures) (held-value (m .known-told2 .given .1 .1 .0 .1)))
 
--- src/table.rt:89:1
 returns-3 : tie.Need-returns-3
-returns-3 c = ?
+unfolding putUndoubled
+returns-3 c = rw (c .enum-told .given .1)
 
 pub store-spec : {M : Type 1} → statement M
 store-spec =

@@ -1,0 +1,41 @@
+-- What it tells that a table serves n quantities. Assumes nothing.
+use mathlib.Core.Path.{_≡_, refl, sym, _∙_, ap}
+use mathlib.Core.Bool.{Bool, true, false, cond}
+use Prim.Native.Nat.{ℕ, _*_, _≤_, _<_}
+use native.Mathlib.Nat.{mul-le-mul}
+use native.Mathlib.Omega.{arith}
+use lib.Dec.{leb, ltb}
+use borrow.Author.Tests.{leb-true, ltb-true, le-leb}
+use Rattle.places.specs.Numbering.{blockStart}
+use Rattle.rules.specs.Limits.{maxQuantities}
+use Rattle.tables.specs.Tables.{both, tableSize, serves}
+use Rattle.tables.proofs.Tests.{both-true, not-both}
+
+-- a square of at most 32 is small
+pub small-square : (n : ℕ) → n ≤ maxQuantities → n * n ≤ 1024
+small-square n h = mul-le-mul h h
+
+-- a size that is not 0 is that of an n in its range
+sized : (n : ℕ) → 0 < tableSize n → (1 ≤ n) × (n ≤ maxQuantities) × (tableSize n ≡ blockStart n)
+unfolding tableSize
+sized n h = go (both (leb 1 n) (leb n maxQuantities)) refl h
+  where
+    go : (b : Bool) → both (leb 1 n) (leb n maxQuantities) ≡ b → 0 < cond b (blockStart n) 0
+        → (1 ≤ n) × (n ≤ maxQuantities) × (cond b (blockStart n) 0 ≡ blockStart n)
+    go true e l =
+      let p = both-true (leb 1 n) (leb n maxQuantities) e in
+      (leb-true 1 n (p .0), leb-true n maxQuantities (p .1), refl)
+    go false e l = let z : ⊥ = omega arith in absurd z
+
+pub record Served (n words : ℕ) : Type 0 where
+  pub some : 1 ≤ n
+  pub most : n ≤ maxQuantities
+  pub size : tableSize n ≡ blockStart n
+  pub room : blockStart n ≤ words
+
+pub serves-tells : (n words : ℕ) → serves n words ≡ true → Served n words
+unfolding serves
+serves-tells n words e =
+    let p = both-true (ltb 0 (tableSize n)) (leb (tableSize n) words) e in
+    let s = sized n (ltb-true 0 (tableSize n) (p .0)) in
+    record { some = s .0; most = s .1; size = s .2; room = rw (s .2) at (leb-true (tableSize n) words (p .1)) }

@@ -1,54 +1,79 @@
+-- `limit::is_table_in` meets its contract. The loop's invariant: the answer is that of the words that are left. The measure is their number.
+-- Assumes nothing.
+use mathlib.Core.Path.{_≡_, refl, sym, _∙_, ap}
+use mathlib.Core.Bool.{true, false}
+use Prim.Native.Nat.{ℕ, _+_, _-_, _≤_}
+use native.Mathlib.Nat.{sub-zero}
+use native.Mathlib.Omega.{arith}
+use lib.IntN.{ℤ}
+use lib.ListN.{length, drop, drop-of-length-le}
+use mir.Syntax.{w64}
+use mir.Val.{toZ, ofZ}
+use denote.Ref.{now}
+use borrow.Author.Needs.{needs}
+use borrow.Author.Tests.{not-true, not-false}
+use Rattle.integers.proofs.Parts.{word-value}
+use Rattle.rules.proofs.Words.{held-value}
+use Rattle.words.specs.Change.{wordAt}
+use Rattle.tables.specs.Tables.{both, inLimit, wordsInLimit}
+use Rattle.tables.proofs.Limits.{inLimit-more, inLimit-none, inLimit-zero}
 use Rattle.tables.proofs.limit.is_table_in.Statement.{statement}
 use Rattle.tables.proofs.limit.is_table_in.Tie as tie
-use Rattle.tables.proofs.limit.is_table_in.Reads as reads
-use Rattle.tables.proofs.limit.is_table_in.Lts as lts
-use Rattle.tables.proofs.limit.is_word_in.Reads as is-word-in-reads
 
 abbrev Inv-loop : tie.InvT-loop
-Inv-loop table m limit i₀ i = ?
+Inv-loop table m limit i₀ i = wordsInLimit (m - i) (toZ w64 limit) (drop i table) ≡ wordsInLimit m (toZ w64 limit) table
 
 abbrev μ-loop : tie.MeasureT-loop
-μ-loop table m limit i₀ i = ?
+μ-loop table m limit i₀ i = m - i
 
--- src/limit.rt:24:5
+-- the limit is that of its bits
+answer : (c : tie.Start Inv-loop μ-loop) → wordsInLimit (c .args .m) (toZ w64 (ofZ w64 (c .args .limit))) (now (c .args .table)) ≡ wordsInLimit (c .args .m) (c .args .limit) (now (c .args .table))
+answer c = ap (λ (z : ℤ). wordsInLimit (c .args .m) z (now (c .args .table))) (word-value (c .fits .limit))
+
+-- the present word passes or not, and then the words that are left decide
+step : (c : tie.After-is-word-in Inv-loop μ-loop) → let l = c .before .before .before .before in let s = l .before in
+    both (c .is-word-in .result) (wordsInLimit (s .args .m - (l .loop .i + 1)) (toZ w64 (ofZ w64 (s .args .limit))) (drop (l .loop .i + 1) (now (s .args .table))))
+    ≡ wordsInLimit (s .args .m) (toZ w64 (ofZ w64 (s .args .limit))) (now (s .args .table))
+step c = let l = c .before .before .before .before in let s = l .before in
+    rw (c .is-word-in .ensures, held-value {z = wordAt (now (s .args .table)) (l .loop .i)} (c .before .w .given))
+    (sym (inLimit-more (s .args .m) (l .loop .i) (toZ w64 (ofZ w64 (s .args .limit))) (now (s .args .table)) (omega arith) (omega arith)) ∙ l .loop .inv)
+
 loop-holds : tie.Need-loop-holds Inv-loop μ-loop
-loop-holds c = ?
+loop-holds c = rw sub-zero
 
--- src/limit.rt:26:13
 returns : tie.Need-returns Inv-loop μ-loop
-returns c = ?
+returns c = let l = c .before .before in let s = l .before in
+    sym (inLimit-none (s .args .m - l .loop .i) (toZ w64 (ofZ w64 (s .args .limit))))
+    ∙ ap (wordsInLimit (s .args .m - l .loop .i) (toZ w64 (ofZ w64 (s .args .limit)))) (sym (drop-of-length-le (now (s .args .table)) (c .if1 .taken)))
+    ∙ l .loop .inv ∙ answer s
 
--- src/limit.rt:28:17
 mul-w : tie.Need-mul-w Inv-loop μ-loop
-mul-w c = ?
+mul-w c = search needs
 
--- src/limit.rt:28:17
 shared-slice-copy-out-w : tie.Need-shared-slice-copy-out-w Inv-loop μ-loop
-shared-slice-copy-out-w c = ?
+shared-slice-copy-out-w c = search needs
 
--- src/limit.rt:29:13
 is-word-in-requires : tie.Need-is-word-in-requires Inv-loop μ-loop
-is-word-in-requires c κs = ?
+is-word-in-requires c κs = search needs
 
--- src/limit.rt:30:13
 returns-2 : tie.Need-returns-2 Inv-loop μ-loop
-returns-2 c = ?
+returns-2 c = let a = c .before in
+    rw (not-true (a .is-word-in .result) (c .if2 .taken)) at (step a) ∙ answer (a .before .before .before .before .before)
 
--- src/limit.rt:32:13
 add-i : tie.Need-add-i Inv-loop μ-loop
-add-i c = ?
+add-i c = omega arith
 
--- src/limit.rt:24:5
 loop-less : tie.Need-loop-less Inv-loop μ-loop
-loop-less c = ?
+loop-less c = omega arith
 
--- src/limit.rt:24:5
 loop-again : tie.Need-loop-again Inv-loop μ-loop
-loop-again c = ?
+loop-again c = rw (not-false (c .before .is-word-in .result) (c .if2 .left)) at (step (c .before))
 
--- src/limit.rt:20:1
 returns-3 : tie.Need-returns-3 Inv-loop μ-loop
-returns-3 c = ?
+returns-3 c = let l = c .before in let s = l .before in
+    sym (inLimit-zero (toZ w64 (ofZ w64 (s .args .limit))) (drop (l .loop .i) (now (s .args .table))))
+    ∙ ap (λ (k : ℕ). wordsInLimit k (toZ w64 (ofZ w64 (s .args .limit))) (drop (l .loop .i) (now (s .args .table)))) (omega arith)
+    ∙ l .loop .inv ∙ answer s
 
 pub is-table-in-spec : {M : Type 1} → statement M
 is-table-in-spec =

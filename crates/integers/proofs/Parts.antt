@@ -168,6 +168,10 @@ word-of {z} p q = record { sfits = go z p q }
 pub word-value : {z : ℤ} → SFits w64 z → toZ w64 (ofZ w64 z) ≡ z
 word-value {z} f = toZ-ofZ w64 z f
 
+-- the same from the range as a field, an element or a call's result gives it
+pub held-value : {z : ℤ} → mag z < 2 ^ 63 → toZ w64 (ofZ w64 z) ≡ z
+held-value h = word-value (record { sfits = h })
+
 -- the test of a word
 pub word-inWord : {z : ℤ} → SFits w64 z → inWord z ≡ true
 unfolding inWord

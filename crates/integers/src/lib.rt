@@ -1,5 +1,6 @@
 // The operations on a bound that is a signed 64-bit word. Each answers for every pair of words.
 ghost use mathlib.Core.Path.{_≡_};
+ghost use lib.IntN.{natAbs};
 ghost use Rattle.integers.specs.Bound.{half, oppositeBound, smaller, totalOf};
 
 // `c` halved and rounded toward minus infinity.
@@ -43,4 +44,14 @@ pub fn add(a: i64, b: i64) -> Total
         return Total::Overflow;
     }
     Total::Sum(a + b)
+}
+
+// The magnitude of a word, which for the least one is 2 ^ 63.
+pub fn magnitude(c: i64) -> u64
+    ensures { λ r. ⌜ r ≡ natAbs c ⌝ }
+{
+    if c < 0 {
+        return opposite(c) as u64 + 1;
+    }
+    c as u64
 }

@@ -7,3 +7,6 @@ pub mod Sizes
 pub mod Limits
 pub mod Putting
 pub mod Promised
+pub mod Without
+pub mod Lists
+pub mod SheetA

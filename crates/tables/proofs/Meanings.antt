@@ -9,12 +9,30 @@ use lib.IntN.{ℤ, pos}
 use lib.Signed.{_≤ℤ_}
 use Rattle.words.specs.Change.{wordAt}
 use Rattle.places.specs.Numbering.{blockStart}
-use Rattle.rules.specs.Meaning.{Assignment, Meets, termValue}
-use Rattle.tables.specs.Places.{ruleAt}
+use Rattle.rules.specs.declared.rule.Rule.{Rule}
+use Rattle.rules.specs.Meaning.{Assignment, Meets, termValue, boundOf}
+use Rattle.tables.specs.Places.{ruleAt, placeOf, Undoubled}
 use Rattle.tables.specs.Tables.{hasRule}
 use Rattle.tables.specs.Meaning.{Satisfies, joined, Completes, SheetAllows, SameVisible}
-use Rattle.tables.proofs.Places.{ruleAt-undoubled}
-use Rattle.tables.proofs.Values.{Agree, term-agree, meets-at, at-meets}
+use Rattle.tables.proofs.Places.{ruleAt-bound, ruleAt-place, ruleAt-undoubled, undoubled-below}
+use Rattle.tables.proofs.Values.{Agree, term-agree, place-value, meets-at, at-meets}
+
+-- the same, term by term: an assignment satisfies a table where it meets every undoubled rule over n quantities whose bound is the word at
+-- its place
+pub satisfies-terms : (n : ℕ) (t : List ℤ) (σ : Assignment)
+    → Satisfies n t σ ↔ ((r : Rule) → Undoubled n r → boundOf r ≡ wordAt t (placeOf r) → hasRule (boundOf r) ≡ true → Meets σ r)
+satisfies-terms n t σ = (to, of)
+  where
+    to : Satisfies n t σ → (r : Rule) → Undoubled n r → boundOf r ≡ wordAt t (placeOf r) → hasRule (boundOf r) ≡ true → Meets σ r
+    to s r u e h =
+      let m = s .each (placeOf r) (undoubled-below n r u) (rw (← e) h) in
+      record { met = rw (← place-value n σ r (pos 0) u, e) (meets-at σ (placeOf r) (wordAt t (placeOf r)) m) }
+
+    of : ((r : Rule) → Undoubled n r → boundOf r ≡ wordAt t (placeOf r) → hasRule (boundOf r) ≡ true → Meets σ r) → Satisfies n t σ
+    of f = record
+      { each = λ k h e. f (ruleAt k (wordAt t k)) (ruleAt-undoubled n k (wordAt t k) h)
+          (rw (ruleAt-bound k (wordAt t k), ruleAt-place k (wordAt t k))) (rw (ruleAt-bound k (wordAt t k)) e)
+      }
 
 pub satisfies-agree : (n : ℕ) (t : List ℤ) (σ τ : Assignment) → Agree n σ τ → Satisfies n t σ → Satisfies n t τ
 satisfies-agree n t σ τ a s = record { each = go }

@@ -2,18 +2,28 @@
 -- quantities are hidden, and the rest are visible.
 use mathlib.Core.Path.{_≡_}
 use mathlib.Core.Bool.{Bool, true, false, cond}
-use mathlib.Core.List.{List}
+use mathlib.Core.List.{List, [], _∷_}
 use Prim.Native.Nat.{ℕ, _≤_, _<_}
 use lib.IntN.{ℤ}
 use Rattle.words.specs.Change.{wordAt}
 use Rattle.places.specs.Numbering.{blockStart}
+use Rattle.rules.specs.declared.rule.Rule.{Rule}
 use Rattle.rules.specs.Meaning.{Assignment, Meets}
-use Rattle.tables.specs.Places.{ruleAt}
+use Rattle.tables.specs.Places.{ruleAt, names}
 use Rattle.tables.specs.Tables.{hasRule}
 
 -- an assignment satisfies a table over n quantities: it meets the rule of every place that has one
 pub record Satisfies (n : ℕ) (t : List ℤ) (σ : Assignment) : Type 0 where
   pub each : (k : ℕ) → k < blockStart n → hasRule (wordAt t k) ≡ true → Meets σ (ruleAt k (wordAt t k))
+
+-- the same of the rules alone that do not name quantity q
+pub record SatisfiesWithout (q n : ℕ) (t : List ℤ) (σ : Assignment) : Type 0 where
+  pub each : (k : ℕ) → k < blockStart n → hasRule (wordAt t k) ≡ true → names q (ruleAt k (wordAt t k)) ≡ false → Meets σ (ruleAt k (wordAt t k))
+
+-- an assignment meets every rule of a list
+abbrev pub MeetsAll : Assignment → List Rule → Type 0
+MeetsAll σ [] = Unit {0}
+MeetsAll σ (r ∷ rs) = Meets σ r × MeetsAll σ rs
 
 -- integers for the visible quantities from one assignment and for the hidden ones from another
 abbrev pub joined : (ℕ → Bool) → Assignment → Assignment → Assignment

@@ -74,10 +74,14 @@ putUndoubled t (Nothing c) = t
 unfoldable pub putRule : List ℤ → Rule → List ℤ
 putRule t r = putUndoubled t (halvedOf r)
 
+-- the table with every rule of a list put in, one after the other
+unfoldable pub putAll : List ℤ → List Rule → List ℤ
+putAll t [] = t
+putAll t (r ∷ rs) = putAll (putRule t r) rs
+
 -- the empty table with a list of rules put in
-unfoldable pub tableOf : ℕ → List Rule → List ℤ
-tableOf n [] = emptyTable n
-tableOf n (r ∷ rs) = putRule (tableOf n rs) r
+abbrev pub tableOf : ℕ → List Rule → List ℤ
+tableOf n rs = putAll (emptyTable n) rs
 
 -- the table with every place that names quantity q cleared
 unfoldable pub cleared : ℕ → ℕ → List ℤ → List ℤ

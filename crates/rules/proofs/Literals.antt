@@ -1,15 +1,15 @@
 -- Literals: negation turns the sign and nothing else. Assumes nothing.
-use mathlib.Core.Path.{_≡_, refl}
+use mathlib.Core.Path.{_≡_, refl, _∙_, ap}
 use mathlib.Core.Bool.{Bool, true, false}
 use mathlib.Core.Logic.{_⊎_, inl, inr, ⊎-elim}
-use Prim.Native.Nat.{ℕ, _%_}
+use Prim.Native.Nat.{ℕ, zero, suc, _*_, _+_, _/_, _%_}
 use native.Mathlib.Omega.{arith}
 use lib.Dec.{eqb}
-use lib.IntN.{ℤ, negℤ}
+use lib.IntN.{ℤ, pos, negsuc, negℤ, negℤ-negℤ}
 use borrow.Author.Tests.{eqb-true, eqb-false, eq-eqb, ne-eqb}
-use Rattle.integers.proofs.Parts.{linear, parts-neg}
-use Rattle.rules.specs.Literal.{quantityOf, negated}
-use Rattle.rules.specs.Meaning.{Assignment, literalValue}
+use Rattle.rules.specs.Literal.{quantityOf, negated, literalOf}
+use Rattle.rules.specs.Meaning.{Assignment, literalValue, signedValue}
+use Rattle.rules.specs.Steps.{isNone}
 
 pub negated-negated : (x : ℕ) → negated (negated x) ≡ x
 negated-negated x = omega arith
@@ -33,12 +33,27 @@ pub value-minus : (σ : Assignment) (x : ℕ) → x % 2 ≡ 1 → literalValue �
 unfolding literalValue
 value-minus σ x e = rw (ne-eqb (x % 2) 0 (omega arith))
 
-pub neg-neg : (a : ℤ) → negℤ (negℤ a) ≡ a
-neg-neg a = omega (linear, parts-neg a, parts-neg (negℤ a))
-
 pub value-negated : (σ : Assignment) (x : ℕ) → literalValue σ (negated x) ≡ negℤ (literalValue σ x)
 value-negated σ x =
     ⊎-elim
     (λ e. rw (value-minus σ (negated x) (omega arith), value-plus σ x e, negated-quantity x))
-    (λ e. rw (value-plus σ (negated x) (omega arith), value-minus σ x e, negated-quantity x, neg-neg))
+    (λ e. rw (value-plus σ (negated x) (omega arith), value-minus σ x e, negated-quantity x, negℤ-negℤ))
     (sign-cases x)
+
+-- ---- signed quantity numbers
+
+pub some-number : (q : ℤ) → (q ≡ pos 0 → ⊥) → isNone q ≡ false
+some-number (pos zero) n = absurd (n refl)
+some-number (pos (suc k)) n = refl
+some-number (negsuc k) n = refl
+
+pub none-value : (σ : Assignment) (q : ℤ) → isNone q ≡ true → signedValue σ q ≡ pos 0
+none-value σ (pos zero) e = refl
+none-value σ (pos (suc k)) e = cc
+none-value σ (negsuc k) e = cc
+
+-- the literal of a number is worth what the number names
+pub some-value : (σ : Assignment) (q : ℤ) → isNone q ≡ false → literalValue σ (literalOf q) ≡ signedValue σ q
+some-value σ (pos zero) e = cc
+some-value σ (pos (suc k)) e = value-plus σ (2 * k) (omega arith) ∙ ap σ (omega arith)
+some-value σ (negsuc k) e = value-minus σ (2 * k + 1) (omega arith) ∙ ap (λ (p : ℕ). negℤ (σ p)) (omega arith)

@@ -14,11 +14,46 @@ use Rattle.rules.specs.declared.rule.Rule.{Rule}
 use Rattle.rules.specs.declared.rule.Rule.the-variants.{One, Two, Nothing}
 use Rattle.rules.specs.declared.rule.Partner.{Partner}
 use Rattle.rules.specs.declared.rule.Partner.the-variants.{Literal, Alone, Absent}
-use Rattle.rules.specs.Literal.{negated}
-use Rattle.rules.specs.Meaning.{Assignment, literalValue, termValue, boundOf, Meets}
-use Rattle.rules.specs.Steps.{pickRule, trivialRule, oppositeOf, halvedOf, pickPartner, partnerOf, ruleOfPair, ruleOfRest, sumOver}
+use Rattle.rules.specs.Literal.{negated, literalOf}
+use Rattle.rules.specs.Meaning.{Assignment, literalValue, signedValue, termValue, boundOf, Meets}
+use Rattle.rules.specs.Steps.{pickRule, trivialRule, isNone, ruleOf, oppositeOf, halvedOf, pickPartner, partnerOf, ruleOfPair, ruleOfRest, sumOver}
 use Rattle.rules.specs.Promises.{Stands}
-use Rattle.rules.proofs.Literals.{value-negated}
+use Rattle.rules.proofs.Literals.{value-negated, none-value, some-value}
+
+-- ---- the constructor
+
+pub ruleOf-term : (σ : Assignment) (p q c : ℤ) → termValue σ (ruleOf p q c) ≡ signedValue σ p +ℤ signedValue σ q
+unfolding ruleOf positivePart negativePart
+ruleOf-term σ p q c = go (isNone p) refl (isNone q) refl
+  where
+    alone : (a b : ℤ) → a ≡ pos 0 → b ≡ a +ℤ b
+    alone a b e = rw e (omega (linear, parts-add (pos 0) b))
+
+    before : (a b : ℤ) → a ≡ pos 0 → b ≡ b +ℤ a
+    before a b e = rw e (omega (linear, parts-add b (pos 0)))
+
+    go : (s : Bool) → isNone p ≡ s → (t : Bool) → isNone q ≡ t
+        → termValue σ (pickRule s (pickRule t (Nothing c) (One (literalOf q) c)) (pickRule t (One (literalOf p) c) (Two (literalOf p) (literalOf q) c)))
+        ≡ signedValue σ p +ℤ signedValue σ q
+    go true d true e = rw (none-value σ p d, none-value σ q e)
+    go true d false e = rw (some-value σ q e) (alone (signedValue σ p) (signedValue σ q) (none-value σ p d))
+    go false d true e = rw (some-value σ p d) (before (signedValue σ q) (signedValue σ p) (none-value σ q e))
+    go false d false e = rw (some-value σ p d, some-value σ q e)
+
+pub ruleOf-bound : (p q c : ℤ) → boundOf (ruleOf p q c) ≡ c
+unfolding ruleOf
+ruleOf-bound p q c = go (isNone p) (isNone q)
+  where
+    go : (s t : Bool)
+        → boundOf (pickRule s (pickRule t (Nothing c) (One (literalOf q) c)) (pickRule t (One (literalOf p) c) (Two (literalOf p) (literalOf q) c))) ≡ c
+    go true true = refl
+    go true false = refl
+    go false true = refl
+    go false false = refl
+
+pub ruleOf-meaning : (σ : Assignment) (p q c : ℤ) → Meets σ (ruleOf p q c) ↔ ((signedValue σ p +ℤ signedValue σ q) ≤ℤ c)
+ruleOf-meaning σ p q c =
+    (λ m. rw (ruleOf-term σ p q c, ruleOf-bound p q c) at (m .met), λ h. record { met = rw (ruleOf-term σ p q c, ruleOf-bound p q c) h })
 
 -- ---- the opposite
 

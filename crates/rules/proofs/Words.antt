@@ -1,21 +1,15 @@
--- Signed words: one that a field or a call's result holds, read back from its bits, and what the sum of two tells. Assumes nothing.
+-- Signed words of 32 bits, and what the sum of two words of 64 bits tells. Assumes nothing.
 use mathlib.Core.Path.{_≡_, refl, ap}
 use mathlib.Core.Bool.{Bool, true, false}
-use Prim.Native.Nat.{_^_, _<_}
 use native.Mathlib.Omega.{arith}
 use lib.IntN.{ℤ, pos, negsuc, _+ℤ_}
-use lib.Signed.{mag}
-use mir.Syntax.{w32, w64}
+use mir.Syntax.{w32}
 use mir.Val.{SFits, toZ, ofZ}
 use mir.ValLaws.{toZ-ofZ}
 use Rattle.integers.specs.declared.Total.the-variants.{Sum, Overflow}
 use Rattle.integers.specs.Bound.{inWord, totalOf, pickTotal}
-use Rattle.integers.proofs.Parts.{word-value}
 
-pub held-value : {z : ℤ} → mag z < 2 ^ 63 → toZ w64 (ofZ w64 z) ≡ z
-held-value h = word-value record { sfits = h }
-
--- the same of 32 bits, and that a number is 0 exactly where its bits are
+-- a word of 32 bits, read back from its bits; a number is 0 exactly where its bits are
 pub narrow-value : {z : ℤ} → SFits w32 z → toZ w32 (ofZ w32 z) ≡ z
 narrow-value {z} f = toZ-ofZ w32 z f
 

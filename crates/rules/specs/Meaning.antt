@@ -1,8 +1,8 @@
 -- What a rule means, over unbounded integers and apart from any algorithm.
 use mathlib.Core.Bool.{Bool, cond}
-use Prim.Native.Nat.{ℕ, _%_}
+use Prim.Native.Nat.{ℕ, zero, suc, _%_}
 use lib.Dec.{eqb}
-use lib.IntN.{ℤ, pos, negℤ, _+ℤ_}
+use lib.IntN.{ℤ, pos, negsuc, negℤ, _+ℤ_}
 use lib.Signed.{_≤ℤ_}
 use Rattle.rules.specs.declared.rule.Rule.{Rule}
 use Rattle.rules.specs.declared.rule.Rule.the-variants.{One, Two, Nothing}
@@ -15,6 +15,12 @@ Assignment = ℕ → ℤ
 -- the integer of a literal: that of its quantity, with its sign
 unfoldable pub literalValue : Assignment → ℕ → ℤ
 literalValue σ x = cond (eqb (x % 2) 0) (σ (quantityOf x)) (negℤ (σ (quantityOf x)))
+
+-- the integer of a signed quantity number, +q as q and -q as -q; that of 0, which names none, is 0
+abbrev pub signedValue : Assignment → ℤ → ℤ
+signedValue σ (pos zero) = pos 0
+signedValue σ (pos (suc k)) = σ (suc k)
+signedValue σ (negsuc k) = negℤ (σ (suc k))
 
 -- the integer of a rule's term: of one quantity, of two together, or 0 where the rule has none
 abbrev pub termValue : Assignment → Rule → ℤ

@@ -9,8 +9,13 @@ use Rattle.integers.specs.Bound.{inWord}
 use Rattle.rules.specs.declared.rule.Rule.{Rule}
 use Rattle.rules.specs.declared.rule.Rule.the-variants.{One, Two, Nothing}
 use Rattle.rules.specs.Literal.{negated}
-use Rattle.rules.specs.Meaning.{Assignment, Meets, termValue, boundOf}
-use Rattle.rules.specs.Steps.{oppositeOf, halvedOf, sumOver}
+use Rattle.rules.specs.Meaning.{Assignment, Meets, signedValue, termValue, boundOf}
+use Rattle.rules.specs.Steps.{ruleOf, oppositeOf, halvedOf, sumOver}
+
+-- r is the rule of two signed quantity numbers and a bound: the two integers together are at most the bound
+pub record Made (first second c : ℤ) (r : Rule) : Type 0 where
+  pub reply : r ≡ ruleOf first second c
+  pub meaning : (σ : Assignment) → Meets σ r ↔ ((signedValue σ first +ℤ signedValue σ second) ≤ℤ c)
 
 -- s is the opposite of r: met exactly where r is not
 pub record Opposite (r s : Rule) : Type 0 where

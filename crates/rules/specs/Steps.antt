@@ -24,17 +24,18 @@ pickPartner false p q = q
 abbrev pub trivialRule : Rule
 trivialRule = Nothing noRule
 
+-- 0 names no quantity
+abbrev pub isNone : ℤ → Bool
+isNone (pos zero) = true
+isNone (pos (suc k)) = false
+isNone (negsuc k) = false
+
 -- the rule as written, from signed quantity numbers and a bound; 0 stands for no quantity
 unfoldable pub ruleOf : ℤ → ℤ → ℤ → Rule
-ruleOf (pos zero) (pos zero) c = Nothing c
-ruleOf (pos zero) (pos (suc k)) c = One (literalOf (pos (suc k))) c
-ruleOf (pos zero) (negsuc k) c = One (literalOf (negsuc k)) c
-ruleOf (pos (suc j)) (pos zero) c = One (literalOf (pos (suc j))) c
-ruleOf (pos (suc j)) (pos (suc k)) c = Two (literalOf (pos (suc j))) (literalOf (pos (suc k))) c
-ruleOf (pos (suc j)) (negsuc k) c = Two (literalOf (pos (suc j))) (literalOf (negsuc k)) c
-ruleOf (negsuc j) (pos zero) c = One (literalOf (negsuc j)) c
-ruleOf (negsuc j) (pos (suc k)) c = Two (literalOf (negsuc j)) (literalOf (pos (suc k))) c
-ruleOf (negsuc j) (negsuc k) c = Two (literalOf (negsuc j)) (literalOf (negsuc k)) c
+ruleOf p q c =
+    pickRule (isNone p)
+    (pickRule (isNone q) (Nothing c) (One (literalOf q) c))
+    (pickRule (isNone q) (One (literalOf p) c) (Two (literalOf p) (literalOf q) c))
 
 -- the opposite of `t ≤ c` is `-t ≤ -c - 1`
 unfoldable pub oppositeOf : Rule → Rule

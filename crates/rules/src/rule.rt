@@ -4,8 +4,8 @@ use crate::sheet::Sheet;
 use integers::Total;
 ghost use mathlib.Core.Path.{_≡_};
 ghost use Rattle.rules.specs.Meaning.{boundOf};
-ghost use Rattle.rules.specs.Steps.{ruleOf, trivialRule, partnerOf, ruleOfPair, ruleOfRest};
-ghost use Rattle.rules.specs.Promises.{Opposite, Halved, Sum};
+ghost use Rattle.rules.specs.Steps.{trivialRule, partnerOf, ruleOfPair, ruleOfRest};
+ghost use Rattle.rules.specs.Promises.{Made, Opposite, Halved, Sum};
 
 // A rule as written: its literals stand in the order given, and a doubled term stays doubled. The bare rule 0 ≤ c keeps its c.
 pub enum Rule {
@@ -24,7 +24,7 @@ pub enum Partner {
 impl Rule {
     // The rule of signed quantity numbers, +q as q and -q as -q, 0 standing for none. Every bound is taken as it is.
     pub fn new(first: i32, second: i32, bound: i64) -> Rule
-        ensures { λ r. ⌜ r ≡ ruleOf first second bound ⌝ }
+        ensures { λ r. ⌜ Made first second bound r ⌝ }
     {
         if first == 0 {
             if second == 0 {

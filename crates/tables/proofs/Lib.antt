@@ -10,3 +10,4 @@ pub mod Promised
 pub mod Without
 pub mod Lists
 pub mod SheetA
+pub mod Clearing

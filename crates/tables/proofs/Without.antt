@@ -9,6 +9,7 @@ use native.Mathlib.Omega.{arith}
 use lib.Dec.{eqb}
 use lib.IntN.{ℤ, pos, negℤ, _+ℤ_}
 use lib.ListN.{length}
+use lib.Signed.{_≤ℤ_}
 use borrow.Author.Tests.{eqb-false}
 use Rattle.words.specs.Change.{wordAt, change}
 use Rattle.words.proofs.Change.{change-below}
@@ -17,7 +18,7 @@ use Rattle.rules.specs.declared.rule.Rule.{Rule}
 use Rattle.rules.specs.declared.rule.Rule.the-variants.{One, Two, Nothing}
 use Rattle.rules.specs.Limits.{noRule}
 use Rattle.rules.specs.Literal.{quantityOf}
-use Rattle.rules.specs.Meaning.{Assignment, Meets, literalValue, termValue}
+use Rattle.rules.specs.Meaning.{Assignment, Meets, literalValue, termValue, boundOf}
 use Rattle.tables.specs.Places.{ruleAt, names}
 use Rattle.tables.specs.Tables.{hasRule, cleared}
 use Rattle.tables.specs.Meaning.{Satisfies, SatisfiesWithout}
@@ -75,5 +76,5 @@ term-same q σ τ s (Nothing c) e = refl
 
 pub without-same : (q n : ℕ) (t : List ℤ) (σ τ : Assignment) → SameBut q σ τ → SatisfiesWithout q n t σ → SatisfiesWithout q n t τ
 without-same q n t σ τ s w = record
-  { each = λ k h r e. record { met = subst (λ (z : ℤ). lib.Signed._≤ℤ_ z _) (term-same q σ τ s (ruleAt k (wordAt t k)) e) (w .each k h r e .met) }
+  { each = λ k h r e. record { met = subst (λ (z : ℤ). z ≤ℤ boundOf (ruleAt k (wordAt t k))) (term-same q σ τ s (ruleAt k (wordAt t k)) e) (w .each k h r e .met) }
   }

@@ -7,7 +7,7 @@ use mir.Syntax.{w64}
 use mir.Val.{SFits, toZ, ofZ}
 use denote.Ref.{now}
 use borrow.Author.Needs.{needs}
-use Rattle.integers.proofs.Parts.{word-value}
+use Rattle.integers.proofs.Parts.{word-value, held-value}
 use Rattle.integers.specs.Bound.{smaller}
 use Rattle.words.specs.Change.{wordAt, lowered}
 use Rattle.words.proofs.Change.{lowered-none}
@@ -43,7 +43,7 @@ returns c =
     let t = now (s .args .t) in
     let k = s .args .k in
     ap (λ (z : ℤ). set t k z)
-    (word-value (record { sfits = c .least .ok }) ∙ c .least .ensures
+    (held-value (c .least .ok) ∙ c .least .ensures
     ∙ smaller-value (wordAt t k) (s .args .w) (record { sfits = c .before .v .given }) (s .fits .w))
 
 returns-2 : tie.Need-returns-2

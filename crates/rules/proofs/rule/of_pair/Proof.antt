@@ -6,7 +6,7 @@ use borrow.Author.Tests.{eq-eqb, ne-eqb, lt-ltb, le-ltb}
 use Rattle.integers.proofs.Parts.{word-value}
 use Rattle.rules.specs.declared.rule.Rule.the-variants.{Two}
 use Rattle.rules.specs.Steps.{pickRule, ruleOfPair}
-use Rattle.rules.proofs.Words.{held-value}
+use Rattle.integers.proofs.Parts.{held-value}
 use Rattle.rules.proofs.rule.of_pair.Statement.{statement}
 use Rattle.rules.proofs.rule.of_pair.Tie as tie
 

@@ -12,8 +12,7 @@ use mir.Val.{toZ, ofZ}
 use denote.Ref.{now}
 use borrow.Author.Needs.{needs}
 use borrow.Author.Tests.{not-true, not-false}
-use Rattle.integers.proofs.Parts.{word-value}
-use Rattle.rules.proofs.Words.{held-value}
+use Rattle.integers.proofs.Parts.{word-value, held-value}
 use Rattle.words.specs.Change.{wordAt}
 use Rattle.tables.specs.Tables.{both, inLimit, wordsInLimit}
 use Rattle.tables.proofs.Limits.{inLimit-more, inLimit-none, inLimit-zero}

@@ -7,8 +7,7 @@ use mir.Syntax.{w64}
 use mir.Val.{toZ, ofZ}
 use borrow.Author.Needs.{needs}
 use Rattle.integers.specs.Bound.{oppositeBound}
-use Rattle.integers.proofs.Parts.{linear, parts-neg, parts-opposite, leZ-true, leZ-false, le-leZ, lt-leZ, word-value}
-use Rattle.rules.proofs.Words.{held-value}
+use Rattle.integers.proofs.Parts.{linear, held-value, parts-neg, parts-opposite, leZ-true, leZ-false, le-leZ, lt-leZ, word-value}
 use Rattle.tables.specs.Tables.{hasRule, inLimit}
 use Rattle.tables.proofs.limit.is_word_in.Statement.{statement}
 use Rattle.tables.proofs.limit.is_word_in.Tie as tie

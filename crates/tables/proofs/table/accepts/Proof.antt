@@ -11,7 +11,7 @@ use borrow.Author.Tests.{lt-ltb, le-ltb, eq-eqb, ne-eqb}
 use Rattle.rules.specs.declared.rule.Rule.the-variants.{One, Two, Nothing}
 use Rattle.rules.specs.declared.refusal.Refusal.the-variants.{OutOfLimit, Cancelling, NoAssignment}
 use Rattle.rules.specs.Literal.{negated}
-use Rattle.rules.proofs.Words.{held-value}
+use Rattle.integers.proofs.Parts.{held-value}
 use Rattle.tables.specs.declared.reply.Reply.{Reply}
 use Rattle.tables.specs.declared.reply.Reply.the-variants.{Done, Refused}
 use Rattle.tables.specs.Tables.{ruleReply, pickReply, hasRule}

@@ -5,7 +5,7 @@ use Prim.Native.Nat.{ℕ}
 use lib.IntN.{ℤ}
 use borrow.Author.Needs.{needs}
 use Rattle.words.specs.Change.{lowered}
-use Rattle.rules.proofs.Words.{held-value}
+use Rattle.integers.proofs.Parts.{held-value}
 use Rattle.tables.specs.Places.{placeOf}
 use Rattle.tables.specs.Tables.{putUndoubled}
 use Rattle.tables.proofs.table.store.Statement.{statement}

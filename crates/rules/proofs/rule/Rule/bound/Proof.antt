@@ -1,7 +1,7 @@
 -- `rule::Rule::bound` meets its contract: each variant's bound is the word that it holds. Assumes nothing.
 use mathlib.Core.Path.{_∙_, ap, sym}
 use borrow.Author.Needs.{needs}
-use Rattle.rules.proofs.Words.{held-value}
+use Rattle.integers.proofs.Parts.{held-value}
 use Rattle.rules.specs.Meaning.{boundOf}
 use Rattle.rules.proofs.rule.Rule.bound.Statement.{statement}
 use Rattle.rules.proofs.rule.Rule.bound.Tie as tie

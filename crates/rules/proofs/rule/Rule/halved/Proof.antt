@@ -6,7 +6,7 @@ use borrow.Author.Tests.{eq-eqb, ne-eqb}
 use Rattle.rules.specs.declared.rule.Rule.{Rule}
 use Rattle.rules.specs.Steps.{halvedOf}
 use Rattle.rules.specs.Promises.{Halved}
-use Rattle.rules.proofs.Words.{held-value}
+use Rattle.integers.proofs.Parts.{held-value}
 use Rattle.rules.proofs.Meanings.{halved-meaning}
 use Rattle.rules.proofs.rule.Rule.halved.Statement.{statement}
 use Rattle.rules.proofs.rule.Rule.halved.Tie as tie

@@ -4,7 +4,7 @@ use borrow.Author.Needs.{needs}
 use Rattle.rules.specs.declared.rule.Rule.{Rule}
 use Rattle.rules.specs.Steps.{oppositeOf}
 use Rattle.rules.specs.Promises.{Opposite}
-use Rattle.rules.proofs.Words.{held-value}
+use Rattle.integers.proofs.Parts.{held-value}
 use Rattle.rules.proofs.Meanings.{opposite-meaning}
 use Rattle.rules.proofs.rule.Rule.opposite.Statement.{statement}
 use Rattle.rules.proofs.rule.Rule.opposite.Tie as tie

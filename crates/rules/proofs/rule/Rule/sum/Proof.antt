@@ -11,7 +11,8 @@ use Rattle.rules.specs.Literal.{negated}
 use Rattle.rules.specs.Meaning.{boundOf}
 use Rattle.rules.specs.Steps.{trivialRule, partnerOf, ruleOfRest, sumOver}
 use Rattle.rules.specs.Promises as promises
-use Rattle.rules.proofs.Words.{held-value, sum-total, overflow-total}
+use Rattle.integers.proofs.Parts.{held-value}
+use Rattle.rules.proofs.Words.{sum-total, overflow-total}
 use Rattle.rules.proofs.Meanings.{sum-sound, sum-exact}
 use Rattle.rules.proofs.rule.Rule.sum.Statement.{statement}
 use Rattle.rules.proofs.rule.Rule.sum.Tie as tie

@@ -3,6 +3,11 @@ ghost use mathlib.Core.Path.{_≡_};
 ghost use lib.IntN.{natAbs};
 ghost use Rattle.integers.specs.Bound.{half, oppositeBound, smaller, totalOf};
 
+// The ends of the range of a word.
+const LEAST: i64 = -9_223_372_036_854_775_808;
+
+const GREATEST: i64 = 9_223_372_036_854_775_807;
+
 // `c` halved and rounded toward minus infinity.
 pub fn halved(c: i64) -> i64
     ensures { λ r. ⌜ r ≡ half c ⌝ }
@@ -35,12 +40,12 @@ pub fn add(a: i64, b: i64) -> Total
     ensures { λ r. ⌜ r ≡ totalOf a b ⌝ }
 {
     if b < 0 {
-        if a < -9223372036854775808 - b {
+        if a < LEAST - b {
             return Total::Overflow;
         }
         return Total::Sum(a + b);
     }
-    if 9223372036854775807 - b < a {
+    if GREATEST - b < a {
         return Total::Overflow;
     }
     Total::Sum(a + b)

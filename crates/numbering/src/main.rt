@@ -32,7 +32,11 @@ fn print_place(place: u32) {
             io::write_all(OUT, b" ");
             io::print_decimal(OUT, places::of_one(literal) as u64);
         }
-        Rule::Two { first, second, bound: _ } => {
+        Rule::Two {
+            first,
+            second,
+            bound: _,
+        } => {
             print_literal(first);
             print_literal(second);
             io::write_all(OUT, b" ");

@@ -20,8 +20,8 @@ small-block j k l h = go (ltb j 65536) refl
     go : (t : Bool) → ltb j 65536 ≡ t → j < 65536
     go true e = ltb-true j 65536 e
     go false e =
-      let m : 65536 * 65536 ≤ j * j = square-le 65536 j (ltb-false j 65536 e) in
-      let z : ⊥ = omega arith in absurd z
+        let m : 65536 * 65536 ≤ j * j = square-le 65536 j (ltb-false j 65536 e) in
+        let z : ⊥ = omega arith in absurd z
 
 pub next-square : (j : ℕ) → j < 65536 → (j + 1) * (j + 1) ≤ 65536 * 65536
 next-square j h = square-le (j + 1) 65536 (omega arith)

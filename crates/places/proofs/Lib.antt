@@ -1,3 +1,4 @@
 -- The laws of the numbering that proofs above cite.
 pub mod Numbering
 mod Fits
+mod Examples

@@ -34,8 +34,8 @@ block-order a b k l h = go (leb a b) refl
     go : (t : Bool) → leb a b ≡ t → a ≤ b
     go true e = leb-true a b e
     go false e =
-      let m : blockStart (suc b) ≤ blockStart a = blockStart-mono (leb-false a b e) in
-      let z : ⊥ = omega arith in absurd z
+        let m : blockStart (suc b) ≤ blockStart a = blockStart-mono (leb-false a b e) in
+        let z : ⊥ = omega arith in absurd z
 
 -- the block found is the one in which the place lies
 upTo-starts : (j k : ℕ) → blockStart (blockUpTo j k) ≤ k
@@ -144,7 +144,7 @@ pair-lower x y l = omega (arith, pair-offset x y l)
 
 -- ---- from a place to its term and back
 
-higher-half : (k : ℕ) → higherAt k / 2 ≡ blockOf k
+pub higher-half : (k : ℕ) → higherAt k / 2 ≡ blockOf k
 unfolding higherAt
 higher-half k = omega arith
 

@@ -1,5 +1,6 @@
 -- The laws of rules that proofs above cite: of words that fields hold, of literals and their integers, and of what a rule means after each
 -- step.
 pub mod Words
+pub mod Sets
 pub mod Literals
 pub mod Meanings

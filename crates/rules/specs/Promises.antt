@@ -1,16 +1,22 @@
--- What each method of a rule promises: which rule comes back, and what it means.
+-- What the functions promise: the answer, and what it means.
 use mathlib.Core.Path.{_≡_}
 use mathlib.Core.Logic.{_↔_, _⊎_}
-use mathlib.Core.Bool.{true}
-use Prim.Native.Nat.{ℕ}
+use mathlib.Core.Bool.{Bool, true, false}
+use Prim.Native.Nat.{ℕ, _<_}
 use lib.IntN.{ℤ, _+ℤ_}
 use lib.Signed.{_≤ℤ_}
 use Rattle.integers.specs.Bound.{inWord}
 use Rattle.rules.specs.declared.rule.Rule.{Rule}
 use Rattle.rules.specs.declared.rule.Rule.the-variants.{One, Two, Nothing}
+use Rattle.rules.specs.Hidden.{hiddenIn, setWithin}
 use Rattle.rules.specs.Literal.{negated}
 use Rattle.rules.specs.Meaning.{Assignment, Meets, signedValue, termValue, boundOf}
 use Rattle.rules.specs.Steps.{ruleOf, oppositeOf, halvedOf, sumOver}
+
+-- the answer whether a hidden set is in its range at n: it names no quantity past n
+pub record InRange (n set : ℕ) (r : Bool) : Type 0 where
+  pub reply : r ≡ setWithin n set
+  pub meaning : (r ≡ true) ↔ ((q : ℕ) → n < q → hiddenIn set q ≡ false)
 
 -- r is the rule of two signed quantity numbers and a bound: the two integers together are at most the bound
 pub record Made (first second c : ℤ) (r : Rule) : Type 0 where

@@ -1,6 +1,10 @@
 // The hidden set, a number with bit q - 1 for quantity q, decoded here alone.
 ghost use mathlib.Core.Path.{_≡_};
-ghost use Rattle.rules.specs.Hidden.{hiddenIn, setWithin};
+ghost use Rattle.rules.specs.Hidden.{hiddenIn};
+ghost use Rattle.rules.specs.Promises.{InRange};
+
+// The bits of a set's type.
+const BITS: usize = 32;
 
 // Whether the set has quantity `q`; no number outside 1 to 32 is in any set.
 pub fn is_hidden(set: u32, q: usize) -> bool
@@ -9,7 +13,7 @@ pub fn is_hidden(set: u32, q: usize) -> bool
     if q == 0 {
         return false;
     }
-    if 32 < q {
+    if BITS < q {
         return false;
     }
     let bit = q - 1;
@@ -18,9 +22,9 @@ pub fn is_hidden(set: u32, q: usize) -> bool
 
 // Whether the set names quantities of 1 to `n` only; at 32 or more every set does.
 pub fn is_within(set: u32, n: usize) -> bool
-    ensures { λ r. ⌜ r ≡ setWithin n set ⌝ }
+    ensures { λ r. ⌜ InRange n set r ⌝ }
 {
-    if 32 <= n {
+    if BITS <= n {
         return true;
     }
     (set >> n) == 0

@@ -6,24 +6,17 @@ use mathlib.Core.List.{List}
 use mathlib.Core.Logic.{_⊎_, inl, inr}
 use Prim.Native.Nat.{ℕ, suc, _+_, _*_, _≤_, _<_}
 use native.Mathlib.Omega.{arith}
-use lib.Dec.{ltb, eqb}
+use lib.Dec.{ltb}
 use lib.IntN.{ℤ}
 use lib.ListN.{length}
-use borrow.Author.Tests.{ltb-true, ltb-false, lt-ltb, le-ltb, le-leb, lt-leb, eq-eqb, ne-eqb}
+use borrow.Author.Tests.{ltb-true, ltb-false, lt-ltb}
 use Rattle.words.specs.Change.{wordAt, change, fillFrom}
 use Rattle.words.proofs.Change.{change-is, change-length, change-below, change-past, change-nothing, fill-at}
-use Rattle.places.specs.Numbering.{blockStart, blockOf, offsetOf, isOne, higherAt, lowerAt}
+use Rattle.places.specs.Numbering.{blockStart, blockOf, offsetOf}
 use Rattle.places.proofs.Numbering.{blockStart-suc, block-unique, block-below, offset-below, offset-place}
-use Rattle.rules.specs.declared.rule.Rule.the-variants.{One, Two}
-use Rattle.rules.specs.declared.refusal.Refusal.the-variants.{Size, OutOfLimit}
-use Rattle.rules.specs.Limits.{maxQuantities, noRule}
-use Rattle.rules.specs.Literal.{quantityOf}
-use Rattle.rules.specs.Steps.{pickRule}
-use Rattle.tables.specs.declared.reply.Reply.the-variants.{Done, Refused}
+use Rattle.rules.specs.Limits.{noRule}
 use Rattle.tables.specs.Places.{ruleAt, names}
-use Rattle.tables.specs.Tables.{serves, clearReply, cleared}
-use Rattle.tables.specs.Promises.{Cleared}
-use Rattle.tables.proofs.Sizes.{small-square}
+use Rattle.tables.proofs.Places.{own-named, four-named, not-named}
 
 -- ---- a run of words filled
 
@@ -55,9 +48,9 @@ run-more s a e m f w t p q r around inside = change-is m f t u (change-length e 
     go k h l true y i j = out k h l (inl (ltb-true k a i)) (ltb k s) refl
     go k h l false false i j = out k h l (inr (ltb-false k e j)) (ltb k s) refl
     go k h l false true i j =
-      change-below e g v k (ltb-true k e j) (rw (change-length s f t) l)
-      ∙ fill-at a k w (wordAt v k) (ltb-false k a i)
-      ∙ sym (inside k (ltb-false k a i) (ltb-true k e j))
+        change-below e g v k (ltb-true k e j) (rw (change-length s f t) l)
+        ∙ fill-at a k w (wordAt v k) (ltb-false k a i)
+        ∙ sym (inside k (ltb-false k a i) (ltb-true k e j))
 
     below : (k : ℕ) → k < m → k < length t → wordAt u k ≡ f k (wordAt t k)
     below k h l = go k h l (ltb k a) (ltb k e) refl refl
@@ -65,58 +58,16 @@ run-more s a e m f w t p q r around inside = change-is m f t u (change-length e 
     past : (k : ℕ) → m ≤ k → k < length t → wordAt u k ≡ wordAt t k
     past k h l = change-past e g v k (omega arith) ∙ change-past s f t k (omega arith)
 
--- ---- which places name a quantity
+-- ---- block by block
 
 -- what clearing quantity j + 1 makes of the word at a place
 abbrev pub clearing : ℕ → ℕ → ℤ → ℤ
 clearing j k w = cond (names (suc j) (ruleAt k w)) noRule w
 
--- all of its own block
-own-named : (j k : ℕ) (w : ℤ) → blockOf k ≡ j → clearing j k w ≡ noRule
-unfolding names ruleAt higherAt
-own-named j k w h = go (isOne k)
-  where
-    own : eqb (quantityOf (higherAt k)) (suc j) ≡ true
-    own = eq-eqb (quantityOf (higherAt k)) (suc j) (omega arith)
-
-    either : (b : Bool) → cond (cond b true true) noRule w ≡ noRule
-    either true = refl
-    either false = refl
-
-    go : (b : Bool) → cond (names (suc j) (pickRule b (One (higherAt k) w) (Two (lowerAt k) (higherAt k) w))) noRule w ≡ noRule
-    go true = rw own
-    go false = rw own (either (eqb (quantityOf (lowerAt k)) (suc j)))
-
--- four of a block after it
-four-named : (j k : ℕ) (w : ℤ) → 4 * j + 2 ≤ offsetOf k → offsetOf k < 4 * j + 6 → clearing j k w ≡ noRule
-unfolding names ruleAt isOne lowerAt
-four-named j k w h g = rw (le-ltb (offsetOf k) 2 (omega arith), eq-eqb (quantityOf (lowerAt k)) (suc j) (omega arith))
-
--- and no others
-unnamed : (j k : ℕ) (w : ℤ) → (blockOf k ≡ j → ⊥) → (offsetOf k < 4 * j + 2) ⊎ (4 * j + 6 ≤ offsetOf k) → clearing j k w ≡ w
-unfolding names ruleAt isOne higherAt lowerAt
-unnamed j k w n o = go o (isOne k) refl
-  where
-    other : eqb (quantityOf (higherAt k)) (suc j) ≡ false
-    other = ne-eqb (quantityOf (higherAt k)) (suc j) (λ e. omega arith)
-
-    go : (offsetOf k < 4 * j + 2) ⊎ (4 * j + 6 ≤ offsetOf k) → (b : Bool) → isOne k ≡ b
-        → cond (names (suc j) (pickRule b (One (higherAt k) w) (Two (lowerAt k) (higherAt k) w))) noRule w ≡ w
-    go o true e = rw other
-    go (inl h) false e = rw (ne-eqb (quantityOf (lowerAt k)) (suc j) (λ q. omega (arith, ltb-false (offsetOf k) 2 e)), other)
-    go (inr h) false e = rw (ne-eqb (quantityOf (lowerAt k)) (suc j) (λ q. omega arith), other)
-
--- ---- block by block
-
--- the blocks of a table start at small places
-pub start-small : (b : ℕ) → b ≤ maxQuantities → blockStart b ≤ 2048
-unfolding blockStart
-start-small b h = omega (arith, small-square b h)
-
 -- up to a quantity's own block nothing is cleared
 none-before : (j : ℕ) (t : List ℤ) → change (blockStart j) (clearing j) t ≡ t
 none-before j t = change-nothing (blockStart j) (clearing j) t (λ k h.
-  unnamed j k (wordAt t k) (λ e. omega (arith, block-below j k h)) (inl (omega (arith, block-below j k h, offset-below k))))
+    rw (not-named j k (wordAt t k) (λ e. omega (arith, block-below j k h)) (inl (omega (arith, block-below j k h, offset-below k)))))
 
 -- that block is filled
 pub clear-own : (j : ℕ) (t : List ℤ)
@@ -124,9 +75,9 @@ pub clear-own : (j : ℕ) (t : List ℤ)
 clear-own j t =
     ap (change (blockStart j + 4 * j + 2) (fillFrom (blockStart j) noRule)) (sym (none-before j t))
     ∙ run-more (blockStart j) (blockStart j) (blockStart j + 4 * j + 2) (blockStart (suc j)) (clearing j) noRule t
-      (omega arith) (omega arith) (omega (arith, blockStart-suc j))
-      (λ k l h o. absurd (nowhere k l h o))
-      (λ k l h. own-named j k (wordAt t k) (block-unique j k l (omega (arith, blockStart-suc j))))
+    (omega arith) (omega arith) (omega (arith, blockStart-suc j))
+    (λ k l h o. absurd (nowhere k l h o))
+    (λ k l h. rw (own-named j k (wordAt t k) (block-unique j k l (omega (arith, blockStart-suc j)))))
   where
     nowhere : (k : ℕ) → blockStart j ≤ k → k < blockStart (suc j) → (k < blockStart j) ⊎ (blockStart j + 4 * j + 2 ≤ k) → ⊥
     nowhere k l h (inl o) = omega arith
@@ -150,24 +101,9 @@ clear-more j b t l =
 
     around : (k : ℕ) → blockStart b ≤ k → k < blockStart (suc b) → (k < blockStart b + 4 * j + 2) ⊎ (blockStart b + 4 * j + 6 ≤ k)
         → clearing j k (wordAt t k) ≡ wordAt t k
-    around k g h o = unnamed j k (wordAt t k) (λ e. omega (arith, block-unique b k g h)) (outer k g h o)
+    around k g h o = rw (not-named j k (wordAt t k) (λ e. omega (arith, block-unique b k g h)) (outer k g h o))
 
     inside : (k : ℕ) → blockStart b + 4 * j + 2 ≤ k → k < blockStart b + 4 * j + 6 → clearing j k (wordAt t k) ≡ noRule
     inside k g h =
-      let e = offset k (omega arith) (omega (arith, blockStart-suc b)) in
-      four-named j k (wordAt t k) (omega arith) (omega arith)
-
--- ---- the contract's record
-
-pub cleared-refused-size : (n q : ℕ) (t : List ℤ) → serves n (length t) ≡ false → Cleared n q t (Refused Size) t
-unfolding clearReply
-cleared-refused-size n q t e = record { reply = rw e; table = refl }
-
-pub cleared-refused-limit : (n q : ℕ) (t : List ℤ) → serves n (length t) ≡ true → (q < 1) ⊎ (n < q) → Cleared n q t (Refused (OutOfLimit 0)) t
-unfolding clearReply
-cleared-refused-limit n q t e (inl h) = record { reply = rw (e, lt-leb 1 q h); table = refl }
-cleared-refused-limit n q t e (inr h) = record { reply = rw (e, le-leb 1 q (omega arith), lt-leb q n h); table = refl }
-
-pub cleared-done : (n q : ℕ) (t u : List ℤ) → serves n (length t) ≡ true → 1 ≤ q → q ≤ n → u ≡ cleared n q t → Cleared n q t Done u
-unfolding clearReply
-cleared-done n q t u e l h d = record { reply = rw (e, le-leb 1 q l, le-leb q n h); table = d }
+        let e = offset k (omega arith) (omega (arith, blockStart-suc b)) in
+        rw (four-named j k (wordAt t k) (omega arith) (omega arith))

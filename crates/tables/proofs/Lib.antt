@@ -1,13 +1,13 @@
 -- The laws of tables that proofs above cite.
+pub mod Tests
+pub mod Sizes
 pub mod Places
 pub mod Values
 pub mod Meanings
-pub mod Tests
-pub mod Sizes
 pub mod Limits
 pub mod Putting
-pub mod Promised
 pub mod Without
-pub mod Lists
-pub mod SheetA
 pub mod Clearing
+pub mod Lists
+pub mod Promised
+pub mod SheetA

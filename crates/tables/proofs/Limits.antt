@@ -20,12 +20,13 @@ unfolding inLimit
 inLimit-within B w = go (hasRule w)
   where
     go : (t : Bool) → (cond t (both (leZ (negℤ (pos B)) w) (leZ w (pos B))) true ≡ true) ↔ (t ≡ true → Within B w)
-    go true =
-      (λ e q. let p = both-true (leZ (negℤ (pos B)) w) (leZ w (pos B)) e in record
-        { above = omega (linear, leZ-true (negℤ (pos B)) w (p .0))
-        ; below = omega (linear, leZ-true w (pos B) (p .1))
-        }
-      , λ h. rw (le-leZ (negℤ (pos B)) w (h refl .above), le-leZ w (pos B) (h refl .below)))
+    go true = (
+      λ e q. let p = both-true (leZ (negℤ (pos B)) w) (leZ w (pos B)) e in record {
+        above = omega (linear, leZ-true (negℤ (pos B)) w (p .0));
+        below = omega (linear, leZ-true w (pos B) (p .1));
+      },
+      λ h. rw (le-leZ (negℤ (pos B)) w (h refl .above), le-leZ w (pos B) (h refl .below)),
+    )
     go false = (λ e q. not-both q refl, λ h. refl)
 
 -- one word more

@@ -11,11 +11,11 @@ use Rattle.words.specs.Change.{wordAt}
 use Rattle.places.specs.Numbering.{blockStart}
 use Rattle.rules.specs.declared.rule.Rule.{Rule}
 use Rattle.rules.specs.Meaning.{Assignment, Meets, termValue, boundOf}
-use Rattle.tables.specs.Places.{ruleAt, placeOf, Undoubled}
+use Rattle.tables.specs.Places.{ruleAt, placeOf, Undoubled, names}
 use Rattle.tables.specs.Tables.{hasRule}
-use Rattle.tables.specs.Meaning.{Satisfies, joined, Completes, SheetAllows, SameVisible}
-use Rattle.tables.proofs.Places.{ruleAt-bound, ruleAt-place, ruleAt-undoubled, undoubled-below}
-use Rattle.tables.proofs.Values.{Agree, term-agree, place-value, meets-at, at-meets}
+use Rattle.tables.specs.Meaning.{Satisfies, joined, SheetAllows, ScriptAllows, SameVisible, NamesVisible}
+use Rattle.tables.proofs.Places.{ruleAt-bound, ruleAt-place, ruleAt-undoubled, undoubled-below, undoubled-names}
+use Rattle.tables.proofs.Values.{place-value, meets-at, meets-named}
 
 -- the same, term by term: an assignment satisfies a table where it meets every undoubled rule over n quantities whose bound is the word at
 -- its place
@@ -25,22 +25,25 @@ satisfies-terms n t σ = (to, of)
   where
     to : Satisfies n t σ → (r : Rule) → Undoubled n r → boundOf r ≡ wordAt t (placeOf r) → hasRule (boundOf r) ≡ true → Meets σ r
     to s r u e h =
-      let m = s .each (placeOf r) (undoubled-below n r u) (rw (← e) h) in
-      record { met = rw (← place-value n σ r (pos 0) u, e) (meets-at σ (placeOf r) (wordAt t (placeOf r)) m) }
+        let m = s .each (placeOf r) (undoubled-below n r u) (rw (← e) h) in
+        record { met = rw (← place-value n σ r (pos 0) u, e) (meets-at σ (placeOf r) (wordAt t (placeOf r)) m) }
 
     of : ((r : Rule) → Undoubled n r → boundOf r ≡ wordAt t (placeOf r) → hasRule (boundOf r) ≡ true → Meets σ r) → Satisfies n t σ
-    of f = record
-      { each = λ k h e. f (ruleAt k (wordAt t k)) (ruleAt-undoubled n k (wordAt t k) h)
-          (rw (ruleAt-bound k (wordAt t k), ruleAt-place k (wordAt t k))) (rw (ruleAt-bound k (wordAt t k)) e)
-      }
+    of f = record {
+      each = λ k h e. f (ruleAt k (wordAt t k)) (ruleAt-undoubled n k (wordAt t k) h)
+          (rw (ruleAt-bound k (wordAt t k), ruleAt-place k (wordAt t k))) (rw (ruleAt-bound k (wordAt t k)) e);
+    }
+
+-- two assignments give the quantities 1 to n the same integers
+abbrev pub Agree : ℕ → Assignment → Assignment → Type 0
+Agree n σ τ = (q : ℕ) → 1 ≤ q → q ≤ n → σ q ≡ τ q
 
 pub satisfies-agree : (n : ℕ) (t : List ℤ) (σ τ : Assignment) → Agree n σ τ → Satisfies n t σ → Satisfies n t τ
-satisfies-agree n t σ τ a s = record { each = go }
+satisfies-agree n t σ τ a s = record { each = λ k h e. meets-named σ τ (ruleAt k (wordAt t k)) (same k h) (s .each k h e) }
   where
-    go : (k : ℕ) → k < blockStart n → hasRule (wordAt t k) ≡ true → Meets τ (ruleAt k (wordAt t k))
-    go k h e =
-      at-meets τ k (wordAt t k)
-      (rw (← term-agree n σ τ a (ruleAt k (pos 0)) (ruleAt-undoubled n k (pos 0) h)) (meets-at σ k (wordAt t k) (s .each k h e)))
+    same : (k : ℕ) → k < blockStart n → (q : ℕ) → names q (ruleAt k (wordAt t k)) ≡ true → σ q ≡ τ q
+    same k h q e =
+        let l = undoubled-names n q (ruleAt k (wordAt t k)) (ruleAt-undoubled n k (wordAt t k) h) e in a q (l .0) (l .1)
 
 -- what the sheet allows does not depend on what stands at hidden quantities, nor on quantities past n
 pub allows-visible : (n : ℕ) (hidden : ℕ → Bool) (t : List ℤ) (σ τ : Assignment) → SameVisible n hidden σ τ
@@ -58,3 +61,13 @@ allows-visible n hidden t σ τ same a = record { hiddens = a .hiddens; complete
 pub allows-none-visible : (n : ℕ) (hidden : ℕ → Bool) (t : List ℤ) (σ τ : Assignment)
     → ((q : ℕ) → 1 ≤ q → q ≤ n → hidden q ≡ true) → SheetAllows n hidden t σ → SheetAllows n hidden t τ
 allows-none-visible n hidden t σ τ all = allows-visible n hidden t σ τ (λ q l h e. cc (all q l h))
+
+-- a script whose rules name visible quantities alone allows visible integers whatever stands at the hidden quantities
+pub script-visible : (n : ℕ) (hidden : ℕ → Bool) (t : List ℤ) (σ τ : Assignment) → NamesVisible n hidden t → SameVisible n hidden σ τ
+    → ScriptAllows n t σ → ScriptAllows n t τ
+script-visible n hidden t σ τ v same s = record {
+  each = λ k h e. meets-named σ τ (ruleAt k (wordAt t k)) (λ q d. agree k h e q d (undoubled-names n q (ruleAt k (wordAt t k)) (ruleAt-undoubled n k (wordAt t k) h) d)) (s .each k h e);
+}
+  where
+    agree : (k : ℕ) → k < blockStart n → hasRule (wordAt t k) ≡ true → (q : ℕ) → names q (ruleAt k (wordAt t k)) ≡ true → (1 ≤ q) × (q ≤ n) → σ q ≡ τ q
+    agree k h e q d l = same q (l .0) (l .1) (v .each k h e q d)

@@ -1,19 +1,21 @@
 -- Places and undoubled terms go together one by one: each undoubled term over n quantities has a place below 2n², and each such place is that of
 -- exactly one, which is `ruleAt`. Assumes nothing.
 use mathlib.Core.Path.{_≡_, refl, sym, _∙_, ap}
-use mathlib.Core.Bool.{Bool, true, false}
-use Prim.Native.Nat.{ℕ, _+_, _*_, _/_, _<_, _≤_}
+use mathlib.Core.Bool.{Bool, true, false, cond}
+use mathlib.Core.Logic.{_⊎_, inl, inr}
+use Prim.Native.Nat.{ℕ, suc, _+_, _*_, _/_, _<_, _≤_}
 use native.Mathlib.Omega.{arith}
-use lib.Dec.{ltb}
+use lib.Dec.{ltb, eqb}
 use lib.IntN.{ℤ}
-use borrow.Author.Tests.{ltb-true, ltb-false, lt-ltb, le-ltb}
-use Rattle.places.specs.Numbering.{blockStart, placeOfOne, placeOfPair, placeOfTwo, isOne, higherAt, lowerAt}
-use Rattle.places.proofs.Numbering.{one-below, pair-below, one-isOne, one-higher, pair-isOne, pair-higher, pair-lower, at-one, at-lower, at-pair, at-below}
+use borrow.Author.Tests.{ltb-true, ltb-false, lt-ltb, le-ltb, eqb-true, eq-eqb, ne-eqb}
+use Rattle.places.specs.Numbering.{blockStart, placeOfOne, placeOfPair, placeOfTwo, blockOf, offsetOf, isOne, higherAt, lowerAt}
+use Rattle.places.proofs.Numbering.{one-below, pair-below, one-isOne, one-higher, pair-isOne, pair-higher, pair-lower, higher-half, at-one, at-lower, at-pair, at-below}
 use Rattle.rules.specs.declared.rule.Rule.{Rule}
 use Rattle.rules.specs.declared.rule.Rule.the-variants.{One, Two, Nothing}
+use Rattle.rules.specs.Literal.{quantityOf}
 use Rattle.rules.specs.Meaning.{boundOf}
 use Rattle.rules.specs.Steps.{pickRule}
-use Rattle.tables.specs.Places.{ruleAt, placeOf, inOrder, Undoubled}
+use Rattle.tables.specs.Places.{ruleAt, placeOf, inOrder, Undoubled, names}
 
 -- ---- each place is that of a term
 
@@ -48,7 +50,7 @@ unfolding placeOf placeOfTwo
 undoubled-below n (One x c) u = one-below n x u
 undoubled-below n (Two x y c) u = go (ltb x y) refl
   where
-    go : (b : Bool) → ltb x y ≡ b → mathlib.Core.Bool.cond b (placeOfPair x y) (placeOfPair y x) < blockStart n
+    go : (b : Bool) → ltb x y ≡ b → cond b (placeOfPair x y) (placeOfPair y x) < blockStart n
     go true e = pair-below n x y (omega (arith, ltb-true x y e, u .2)) (u .1)
     go false e = pair-below n y x (omega (arith, ltb-false x y e, u .2)) (u .0)
 undoubled-below n (Nothing c) u = absurd u
@@ -59,7 +61,64 @@ unfolding ruleAt placeOf placeOfTwo inOrder
 ruleAt-inOrder n (One x c) u = rw (one-isOne x, one-higher x)
 ruleAt-inOrder n (Two x y c) u = go (ltb x y) refl
   where
-    go : (b : Bool) → ltb x y ≡ b → ruleAt (mathlib.Core.Bool.cond b (placeOfPair x y) (placeOfPair y x)) c ≡ pickRule b (Two x y c) (Two y x c)
+    go : (b : Bool) → ltb x y ≡ b → ruleAt (cond b (placeOfPair x y) (placeOfPair y x)) c ≡ pickRule b (Two x y c) (Two y x c)
     go true e = let l : x / 2 < y / 2 = omega (arith, ltb-true x y e, u .2) in rw (pair-isOne x y l, pair-higher x y l, pair-lower x y l)
     go false e = let l : y / 2 < x / 2 = omega (arith, ltb-false x y e, u .2) in rw (pair-isOne y x l, pair-higher y x l, pair-lower y x l)
 ruleAt-inOrder n (Nothing c) u = absurd u
+
+-- ---- which places name a quantity
+
+-- a rule of a place names the quantities of its one or two literals
+names-one : (q k : ℕ) (c : ℤ) → isOne k ≡ true → names q (ruleAt k c) ≡ eqb (quantityOf (higherAt k)) q
+unfolding names ruleAt
+names-one q k c e = rw e
+
+names-two : (q k : ℕ) (c : ℤ) → isOne k ≡ false → names q (ruleAt k c) ≡ cond (eqb (quantityOf (lowerAt k)) q) true (eqb (quantityOf (higherAt k)) q)
+unfolding names ruleAt
+names-two q k c e = rw e
+
+-- quantity j + 1 is named by all of its own block,
+pub own-named : (j k : ℕ) (c : ℤ) → blockOf k ≡ j → names (suc j) (ruleAt k c) ≡ true
+own-named j k c h = go (isOne k) refl
+  where
+    own : eqb (quantityOf (higherAt k)) (suc j) ≡ true
+    own = eq-eqb (quantityOf (higherAt k)) (suc j) (omega (arith, higher-half k))
+
+    either : (b : Bool) → cond b true true ≡ true
+    either true = refl
+    either false = refl
+
+    go : (b : Bool) → isOne k ≡ b → names (suc j) (ruleAt k c) ≡ true
+    go true e = names-one (suc j) k c e ∙ own
+    go false e = names-two (suc j) k c e ∙ rw own (either (eqb (quantityOf (lowerAt k)) (suc j)))
+
+-- by four places of each block after it,
+pub four-named : (j k : ℕ) (c : ℤ) → 4 * j + 2 ≤ offsetOf k → offsetOf k < 4 * j + 6 → names (suc j) (ruleAt k c) ≡ true
+unfolding isOne lowerAt
+four-named j k c h g =
+    names-two (suc j) k c (le-ltb (offsetOf k) 2 (omega arith)) ∙ rw (eq-eqb (quantityOf (lowerAt k)) (suc j) (omega arith))
+
+-- and by no other
+pub not-named : (j k : ℕ) (c : ℤ) → (blockOf k ≡ j → ⊥) → (offsetOf k < 4 * j + 2) ⊎ (4 * j + 6 ≤ offsetOf k) → names (suc j) (ruleAt k c) ≡ false
+unfolding isOne lowerAt
+not-named j k c n o = go o (isOne k) refl
+  where
+    other : eqb (quantityOf (higherAt k)) (suc j) ≡ false
+    other = ne-eqb (quantityOf (higherAt k)) (suc j) (λ e. n (omega (arith, higher-half k)))
+
+    go : (offsetOf k < 4 * j + 2) ⊎ (4 * j + 6 ≤ offsetOf k) → (b : Bool) → isOne k ≡ b → names (suc j) (ruleAt k c) ≡ false
+    go o true e = names-one (suc j) k c e ∙ other
+    go (inl h) false e =
+        names-two (suc j) k c e ∙ rw (ne-eqb (quantityOf (lowerAt k)) (suc j) (λ q. omega (arith, ltb-false (offsetOf k) 2 e)), other)
+    go (inr h) false e = names-two (suc j) k c e ∙ rw (ne-eqb (quantityOf (lowerAt k)) (suc j) (λ q. omega arith), other)
+
+-- an undoubled rule over n quantities names quantities of 1 to n alone
+pub undoubled-names : (n q : ℕ) (r : Rule) → Undoubled n r → names q r ≡ true → (1 ≤ q) × (q ≤ n)
+unfolding names
+undoubled-names n q (One x c) u e = let h = eqb-true (quantityOf x) q e in omega arith
+undoubled-names n q (Two x y c) u e = go (eqb (quantityOf x) q) refl e
+  where
+    go : (b : Bool) → eqb (quantityOf x) q ≡ b → cond b true (eqb (quantityOf y) q) ≡ true → (1 ≤ q) × (q ≤ n)
+    go true d e = let h = eqb-true (quantityOf x) q d in let l = u .0 in omega arith
+    go false d e = let h = eqb-true (quantityOf y) q e in let l = u .1 in omega arith
+undoubled-names n q (Nothing c) u e = absurd u

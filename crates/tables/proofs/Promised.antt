@@ -2,17 +2,18 @@
 use mathlib.Core.Path.{_≡_, refl, sym, _∙_, ap}
 use mathlib.Core.Bool.{Bool, true, false}
 use mathlib.Core.List.{List}
-use mathlib.Core.Logic.{_↔_}
+use mathlib.Core.Logic.{_↔_, _⊎_, inl, inr}
 use Prim.Native.Nat.{ℕ, _≤_, _<_}
 use native.Mathlib.Omega.{arith}
 use lib.IntN.{ℤ}
 use lib.ListN.{length}
+use borrow.Author.Tests.{le-leb, lt-leb}
 use Rattle.words.specs.Change.{wordAt, change, fillFrom}
 use Rattle.words.proofs.Change.{change-is, change-length, change-below, change-past, fill-at}
 use Rattle.places.specs.Numbering.{blockStart}
 use Rattle.rules.specs.declared.rule.Rule.{Rule}
 use Rattle.rules.specs.declared.refusal.Refusal.{Refusal}
-use Rattle.rules.specs.declared.refusal.Refusal.the-variants.{Size}
+use Rattle.rules.specs.declared.refusal.Refusal.the-variants.{Size, OutOfLimit}
 use Rattle.rules.specs.Limits.{noRule}
 use Rattle.rules.specs.Meaning.{Assignment, Meets}
 use Rattle.rules.specs.Steps.{halvedOf}
@@ -25,6 +26,7 @@ use Rattle.tables.specs.Promises.{Emptied, Put, Cleared}
 use Rattle.tables.proofs.Tests.{refused-done, not-both}
 use Rattle.tables.proofs.Sizes.{Served, serves-tells}
 use Rattle.tables.proofs.Putting.{accepted-put}
+use Rattle.tables.proofs.Without.{cleared-meaning}
 
 -- ---- emptied
 
@@ -46,8 +48,8 @@ emptied-done n t u e f = record { reply = rw e; table = filled; meaning = λ d. 
 
     same : change (blockStart n) (fillFrom 0 noRule) t ≡ change (blockStart n) (λ k w. noRule) t
     same = change-is (blockStart n) (λ k w. noRule) t (change (blockStart n) (fillFrom 0 noRule) t) (change-length _ _ t)
-      (λ k h l. change-below (blockStart n) (fillFrom 0 noRule) t k h l ∙ fill-at 0 k noRule (wordAt t k) (omega arith))
-      (λ k h l. change-past (blockStart n) (fillFrom 0 noRule) t k h)
+        (λ k h l. change-below (blockStart n) (fillFrom 0 noRule) t k h l ∙ fill-at 0 k noRule (wordAt t k) (omega arith))
+        (λ k h l. change-past (blockStart n) (fillFrom 0 noRule) t k h)
 
     filled : u ≡ change (blockStart n) (λ k w. noRule) t
     filled = f ∙ ap (λ (m : ℕ). change m (fillFrom 0 noRule) t) (s .size) ∙ same
@@ -64,11 +66,26 @@ put-refused n r t a f e q d = record { reply = rw (e, q); table = rw d; meaning 
 
 pub put-done : (n : ℕ) (r h : Rule) (t u : List ℤ) → serves n (length t) ≡ true → Done ≡ ruleReply n r → h ≡ halvedOf r → u ≡ putUndoubled t h → Put n r t Done u
 unfolding putReply putRule
-put-done n r h t u e q d f = record
-  { reply = rw (e, ← q)
-  ; table = placed
-  ; meaning = λ g σ. rw placed (accepted-put n t r σ (serves-tells n (length t) e .room) (sym q))
-  }
+put-done n r h t u e q d f = record {
+  reply = rw (e, ← q);
+  table = placed;
+  meaning = λ g σ. rw placed (accepted-put n t r σ (serves-tells n (length t) e .room) (sym q));
+}
   where
     placed : u ≡ putRule t r
     placed = rw (f, d)
+
+-- ---- a quantity's places cleared
+
+pub cleared-refused-size : (n q : ℕ) (t : List ℤ) → serves n (length t) ≡ false → Cleared n q t (Refused Size) t
+unfolding clearReply
+cleared-refused-size n q t e = record { reply = rw e; table = refl; meaning = λ d. absurd (refused-done d) }
+
+pub cleared-refused-limit : (n q : ℕ) (t : List ℤ) → serves n (length t) ≡ true → (q < 1) ⊎ (n < q) → Cleared n q t (Refused (OutOfLimit 0)) t
+unfolding clearReply
+cleared-refused-limit n q t e (inl h) = record { reply = rw (e, lt-leb 1 q h); table = refl; meaning = λ d. absurd (refused-done d) }
+cleared-refused-limit n q t e (inr h) = record { reply = rw (e, le-leb 1 q (omega arith), lt-leb q n h); table = refl; meaning = λ d. absurd (refused-done d) }
+
+pub cleared-done : (n q : ℕ) (t u : List ℤ) → serves n (length t) ≡ true → 1 ≤ q → q ≤ n → u ≡ cleared n q t → Cleared n q t Done u
+unfolding clearReply
+cleared-done n q t u e l h d = record { reply = rw (e, le-leb 1 q l, le-leb q n h); table = d; meaning = λ g σ. rw d (cleared-meaning n q t σ (serves-tells n (length t) e .room)) }

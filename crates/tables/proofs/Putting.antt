@@ -42,9 +42,10 @@ module _ (n : ℕ) (t : List ℤ) (k : ℕ) (c : ℤ) (σ : Assignment) (l : k <
   -- at the place itself the new word is at most the old one and at most the bound
   stronger : Meets σ (ruleAt k (smaller (wordAt t k) c)) → Meets σ (ruleAt k (wordAt t k)) × Meets σ (ruleAt k c)
   stronger m =
-    let v : termValue σ (ruleAt k (pos 0)) ≤ℤ smaller (wordAt t k) c = meets-at σ k (smaller (wordAt t k) c) m in
-    (at-meets σ k (wordAt t k) (omega (linear, smaller-left (wordAt t k) c))
-    , at-meets σ k c (omega (linear, smaller-right (wordAt t k) c)))
+      let v : termValue σ (ruleAt k (pos 0)) ≤ℤ smaller (wordAt t k) c = meets-at σ k (smaller (wordAt t k) c) m in (
+        at-meets σ k (wordAt t k) (omega (linear, smaller-left (wordAt t k) c)),
+        at-meets σ k c (omega (linear, smaller-right (wordAt t k) c)),
+      )
 
   lowered-to : k < blockStart n → hasRule c ≡ true → Satisfies n (lowered t k c) σ → Satisfies n t σ × Meets σ (ruleAt k c)
   lowered-to b e s = (record { each = λ j h q. go j h q (eqb j k) refl }, here .1)
@@ -58,22 +59,22 @@ module _ (n : ℕ) (t : List ℤ) (k : ℕ) (c : ℤ) (σ : Assignment) (l : k <
       go : (j : ℕ) → j < blockStart n → hasRule (wordAt t j) ≡ true → (d : Bool) → eqb j k ≡ d → Meets σ (ruleAt j (wordAt t j))
       go j h q true w = rw (eqb-true j k w) (here .0)
       go j h q false w =
-        rw (lowered-other t k j c (eqb-false j k w)) at (s .each j h (rw (lowered-other t k j c (eqb-false j k w)) q))
+          rw (lowered-other t k j c (eqb-false j k w)) at (s .each j h (rw (lowered-other t k j c (eqb-false j k w)) q))
 
   lowered-of : Satisfies n t σ → Meets σ (ruleAt k c) → Satisfies n (lowered t k c) σ
   lowered-of s m = record { each = λ j h q. go j h q (eqb j k) refl }
     where
       here : k < blockStart n → hasRule (wordAt (lowered t k c) k) ≡ true → Meets σ (ruleAt k (wordAt (lowered t k c) k))
       here b =
-        rw (lowered-same t k c l)
-        (smaller-either (λ z. hasRule z ≡ true → Meets σ (ruleAt k z)) (wordAt t k) c (s .each k b) (λ q. m))
+          rw (lowered-same t k c l)
+          (smaller-either (λ z. hasRule z ≡ true → Meets σ (ruleAt k z)) (wordAt t k) c (s .each k b) (λ q. m))
 
       go : (j : ℕ) → j < blockStart n → hasRule (wordAt (lowered t k c) j) ≡ true → (d : Bool) → eqb j k ≡ d → Meets σ (ruleAt j (wordAt (lowered t k c) j))
       go j h q true w =
-        subst (λ (i : ℕ). i < blockStart n → hasRule (wordAt (lowered t k c) i) ≡ true → Meets σ (ruleAt i (wordAt (lowered t k c) i)))
-        (sym (eqb-true j k w)) here h q
+          subst (λ (i : ℕ). i < blockStart n → hasRule (wordAt (lowered t k c) i) ≡ true → Meets σ (ruleAt i (wordAt (lowered t k c) i)))
+          (sym (eqb-true j k w)) here h q
       go j h q false w =
-        rw (lowered-other t k j c (eqb-false j k w)) (s .each j h (rw (lowered-other t k j c (eqb-false j k w)) at q))
+          rw (lowered-other t k j c (eqb-false j k w)) (s .each j h (rw (lowered-other t k j c (eqb-false j k w)) at q))
 
 -- an undoubled rule, put in at its place
 pub undoubled-put : (n : ℕ) (t : List ℤ) (r : Rule) (σ : Assignment) → blockStart n ≤ length t → Undoubled n r → hasRule (boundOf r) ≡ true
@@ -85,13 +86,13 @@ undoubled-put n t r σ l u e = (to, of)
 
     to : Satisfies n (lowered t (placeOf r) (boundOf r)) σ → Satisfies n t σ × Meets σ r
     to s =
-      let p = lowered-to n t (placeOf r) (boundOf r) σ (omega (arith, b)) b e s in
-      (p .0, record { met = rw (← place-value n σ r (pos 0) u) (meets-at σ (placeOf r) (boundOf r) (p .1)) })
+        let p = lowered-to n t (placeOf r) (boundOf r) σ (omega (arith, b)) b e s in
+        (p .0, record { met = rw (← place-value n σ r (pos 0) u) (meets-at σ (placeOf r) (boundOf r) (p .1)) })
 
     of : Satisfies n t σ × Meets σ r → Satisfies n (lowered t (placeOf r) (boundOf r)) σ
     of p =
-      lowered-of n t (placeOf r) (boundOf r) σ (omega (arith, b)) (p .0)
-      (at-meets σ (placeOf r) (boundOf r) (rw (place-value n σ r (pos 0) u) (p .1 .met)))
+        lowered-of n t (placeOf r) (boundOf r) σ (omega (arith, b)) (p .0)
+        (at-meets σ (placeOf r) (boundOf r) (rw (place-value n σ r (pos 0) u) (p .1 .met)))
 
 -- ---- which rules are accepted
 
@@ -140,9 +141,9 @@ accepted-put n t (Two x y c) σ l e = go (eqb x y) refl
 
     single : x ≡ y → Satisfies n (putUndoubled t (One x (half c))) σ ↔ (Satisfies n t σ × Meets σ (Two x y c))
     single d =
-      let u = undoubled-put n t (One x (half c)) σ l (p .0) (half-rule c (p .2)) in
-      let m = doubled-meaning σ x y c d in
-      (λ s. (u .0 s .0, record { met = m .0 (u .0 s .1) }), λ s. u .1 (s .0, m .1 (s .1 .met)))
+        let u = undoubled-put n t (One x (half c)) σ l (p .0) (half-rule c (p .2)) in
+        let m = doubled-meaning σ x y c d in
+        (λ s. (u .0 s .0, record { met = m .0 (u .0 s .1) }), λ s. u .1 (s .0, m .1 (s .1 .met)))
 
     go : (b : Bool) → eqb x y ≡ b → Satisfies n (putUndoubled t (pickRule b (One x (half c)) (Two x y c))) σ ↔ (Satisfies n t σ × Meets σ (Two x y c))
     go true d = single (eqb-true x y d)

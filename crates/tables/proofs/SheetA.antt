@@ -41,7 +41,7 @@ of-two b = λ q. b
 pub completes : Completes 3 hidden (tableOf 3 rules) (of-one-and-three (pos 3) (pos 0)) (of-two (pos 1))
 unfolding rules ruleOf literalValue
 completes = tableOf-meaning 3 rules (joined hidden (of-one-and-three (pos 3) (pos 0)) (of-two (pos 1))) accepted .1
-  (record { met = leZ-yes tt }, (record { met = leZ-yes tt }, (record { met = leZ-yes tt }, tt)))
+    (record { met = leZ-yes tt }, (record { met = leZ-yes tt }, (record { met = leZ-yes tt }, tt)))
 
 pub allowed : SheetAllows 3 hidden (tableOf 3 rules) (of-one-and-three (pos 3) (pos 0))
 allowed = record { hiddens = of-two (pos 1); complete = completes }

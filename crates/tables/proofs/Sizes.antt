@@ -11,9 +11,13 @@ use Rattle.rules.specs.Limits.{maxQuantities}
 use Rattle.tables.specs.Tables.{both, tableSize, serves}
 use Rattle.tables.proofs.Tests.{both-true, not-both}
 
--- a square of at most 32 is small
-pub small-square : (n : ℕ) → n ≤ maxQuantities → n * n ≤ 1024
+-- the square of an n in its range, and where its block starts, are small
+pub small-square : (n : ℕ) → n ≤ maxQuantities → n * n ≤ maxQuantities * maxQuantities
 small-square n h = mul-le-mul h h
+
+pub small-start : (n : ℕ) → n ≤ maxQuantities → blockStart n ≤ 2 * (maxQuantities * maxQuantities)
+unfolding blockStart
+small-start n h = omega (arith, small-square n h)
 
 -- a size that is not 0 is that of an n in its range
 sized : (n : ℕ) → 0 < tableSize n → (1 ≤ n) × (n ≤ maxQuantities) × (tableSize n ≡ blockStart n)
@@ -23,8 +27,8 @@ sized n h = go (both (leb 1 n) (leb n maxQuantities)) refl h
     go : (b : Bool) → both (leb 1 n) (leb n maxQuantities) ≡ b → 0 < cond b (blockStart n) 0
         → (1 ≤ n) × (n ≤ maxQuantities) × (cond b (blockStart n) 0 ≡ blockStart n)
     go true e l =
-      let p = both-true (leb 1 n) (leb n maxQuantities) e in
-      (leb-true 1 n (p .0), leb-true n maxQuantities (p .1), refl)
+        let p = both-true (leb 1 n) (leb n maxQuantities) e in
+        (leb-true 1 n (p .0), leb-true n maxQuantities (p .1), refl)
     go false e l = let z : ⊥ = omega arith in absurd z
 
 pub record Served (n words : ℕ) : Type 0 where

@@ -2,19 +2,19 @@
 -- that it names. Assumes nothing.
 use mathlib.Core.Path.{_≡_, refl, sym, _∙_, ap, ap₂}
 use mathlib.Core.Bool.{Bool, true, false, cond}
-use Prim.Native.Nat.{ℕ, _+_, _*_, _/_, _%_, _<_, _≤_}
-use native.Mathlib.Omega.{arith}
+use Prim.Native.Nat.{ℕ, _%_}
 use lib.Dec.{ltb, eqb}
 use lib.IntN.{ℤ, pos, negℤ, _+ℤ_, +ℤ-comm}
 use lib.Signed.{_≤ℤ_}
-use Rattle.places.specs.Numbering.{blockStart, isOne, higherAt, lowerAt}
+use borrow.Author.Tests.{eq-eqb}
+use Rattle.places.specs.Numbering.{isOne, higherAt, lowerAt}
 use Rattle.rules.specs.declared.rule.Rule.{Rule}
 use Rattle.rules.specs.declared.rule.Rule.the-variants.{One, Two, Nothing}
 use Rattle.rules.specs.Literal.{quantityOf}
 use Rattle.rules.specs.Meaning.{Assignment, literalValue, termValue, boundOf, Meets}
 use Rattle.rules.specs.Steps.{pickRule}
-use Rattle.tables.specs.Places.{ruleAt, placeOf, inOrder, Undoubled}
-use Rattle.tables.proofs.Places.{ruleAt-bound, ruleAt-inOrder, ruleAt-undoubled}
+use Rattle.tables.specs.Places.{ruleAt, placeOf, inOrder, Undoubled, names}
+use Rattle.tables.proofs.Places.{ruleAt-bound, ruleAt-inOrder}
 
 pub inOrder-value : (σ : Assignment) (r : Rule) → termValue σ (inOrder r) ≡ termValue σ r
 unfolding inOrder
@@ -46,17 +46,27 @@ meets-at σ k c m = rw (← ruleAt-value σ k c (pos 0)) (rw (ruleAt-bound k c) 
 pub at-meets : (σ : Assignment) (k : ℕ) (c : ℤ) → termValue σ (ruleAt k (pos 0)) ≤ℤ c → Meets σ (ruleAt k c)
 at-meets σ k c h = record { met = rw (ruleAt-bound k c, ruleAt-value σ k c (pos 0)) h }
 
--- ---- assignments that agree
+-- ---- a term depends on the quantities that it names, and on no others
 
--- two assignments give the quantities 1 to n the same integers
-abbrev pub Agree : ℕ → Assignment → Assignment → Type 0
-Agree n σ τ = (q : ℕ) → 1 ≤ q → q ≤ n → σ q ≡ τ q
-
-literal-agree : (n : ℕ) (σ τ : Assignment) → Agree n σ τ → (x : ℕ) → x < 2 * n → literalValue σ x ≡ literalValue τ x
+literal-named : (σ τ : Assignment) (x : ℕ) → σ (quantityOf x) ≡ τ (quantityOf x) → literalValue σ x ≡ literalValue τ x
 unfolding literalValue
-literal-agree n σ τ a x h = ap (λ (z : ℤ). cond (eqb (x % 2) 0) z (negℤ z)) (a (quantityOf x) (omega arith) (omega arith))
+literal-named σ τ x e = ap (λ (z : ℤ). cond (eqb (x % 2) 0) z (negℤ z)) e
 
-pub term-agree : (n : ℕ) (σ τ : Assignment) → Agree n σ τ → (r : Rule) → Undoubled n r → termValue σ r ≡ termValue τ r
-term-agree n σ τ a (One x c) u = literal-agree n σ τ a x u
-term-agree n σ τ a (Two x y c) u = ap₂ _+ℤ_ (literal-agree n σ τ a x (u .0)) (literal-agree n σ τ a y (u .1))
-term-agree n σ τ a (Nothing c) u = refl
+pub term-named : (σ τ : Assignment) (r : Rule) → ((q : ℕ) → names q r ≡ true → σ q ≡ τ q) → termValue σ r ≡ termValue τ r
+unfolding names
+term-named σ τ (One x c) e = literal-named σ τ x (e (quantityOf x) (eq-eqb (quantityOf x) (quantityOf x) refl))
+term-named σ τ (Two x y c) e = ap₂ _+ℤ_ (literal-named σ τ x (e (quantityOf x) first)) (literal-named σ τ y (e (quantityOf y) second))
+  where
+    first : cond (eqb (quantityOf x) (quantityOf x)) true (eqb (quantityOf y) (quantityOf x)) ≡ true
+    first = rw (eq-eqb (quantityOf x) (quantityOf x) refl)
+
+    either : (b : Bool) → cond b true true ≡ true
+    either true = refl
+    either false = refl
+
+    second : cond (eqb (quantityOf x) (quantityOf y)) true (eqb (quantityOf y) (quantityOf y)) ≡ true
+    second = rw (eq-eqb (quantityOf y) (quantityOf y) refl) (either (eqb (quantityOf x) (quantityOf y)))
+term-named σ τ (Nothing c) e = refl
+
+pub meets-named : (σ τ : Assignment) (r : Rule) → ((q : ℕ) → names q r ≡ true → σ q ≡ τ q) → Meets σ r → Meets τ r
+meets-named σ τ r e m = record { met = rw (← term-named σ τ r e) (m .met) }

@@ -38,6 +38,10 @@ pub record SheetAllows (n : ℕ) (hidden : ℕ → Bool) (sheet : List ℤ) (vis
   pub hiddens : Assignment
   pub complete : Completes n hidden sheet visibles hiddens
 
+-- the rules of a table name visible quantities alone
+pub record NamesVisible (n : ℕ) (hidden : ℕ → Bool) (t : List ℤ) : Type 0 where
+  pub each : (k : ℕ) → k < blockStart n → hasRule (wordAt t k) ≡ true → (q : ℕ) → names q (ruleAt k (wordAt t k)) ≡ true → hidden q ≡ false
+
 -- the script allows the visible integers that satisfy every rule of its own, which name visible quantities alone; it forbids all others
 abbrev pub ScriptAllows : ℕ → List ℤ → Assignment → Type 0
 ScriptAllows n script visibles = Satisfies n script visibles

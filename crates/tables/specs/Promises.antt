@@ -14,7 +14,7 @@ use Rattle.rules.specs.Meaning.{Assignment, Meets}
 use Rattle.tables.specs.declared.reply.Reply.{Reply}
 use Rattle.tables.specs.declared.reply.Reply.the-variants.{Done, Refused}
 use Rattle.tables.specs.Tables.{pickReply, pickTable, serves, isDone, putReply, putRule, clearReply, cleared}
-use Rattle.tables.specs.Meaning.{Satisfies}
+use Rattle.tables.specs.Meaning.{Satisfies, SatisfiesWithout}
 
 -- no rules: the first 2n² words are no rule, and every assignment satisfies the table
 pub record Emptied (n : ℕ) (before : List ℤ) (r : Reply) (after : List ℤ) : Type 0 where
@@ -28,7 +28,8 @@ pub record Put (n : ℕ) (rule : Rule) (before : List ℤ) (r : Reply) (after : 
   pub table : after ≡ pickTable (isDone r) (putRule before rule) before
   pub meaning : r ≡ Done → (σ : Assignment) → Satisfies n after σ ↔ (Satisfies n before σ × Meets σ rule)
 
--- every place that names quantity q cleared
+-- every place that names quantity q cleared: satisfied exactly by what meets the rules before that do not name it
 pub record Cleared (n q : ℕ) (before : List ℤ) (r : Reply) (after : List ℤ) : Type 0 where
   pub reply : r ≡ clearReply n (length before) q
   pub table : after ≡ pickTable (isDone r) (cleared n q before) before
+  pub meaning : r ≡ Done → (σ : Assignment) → Satisfies n after σ ↔ SatisfiesWithout q n before σ

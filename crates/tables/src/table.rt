@@ -61,7 +61,11 @@ fn accepts(n: usize, rule: Rule) -> Reply
             }
             Reply::Refused(Refusal::OutOfLimit { line: 0 })
         }
-        Rule::Two { first, second, bound } => {
+        Rule::Two {
+            first,
+            second,
+            bound,
+        } => {
             if n <= first as usize / 2 {
                 return Reply::Refused(Refusal::OutOfLimit { line: 0 });
             }
@@ -93,7 +97,11 @@ fn store(table: &mut [i64], rule: Rule)
         Rule::One { literal, bound } => {
             words::lower(table, places::of_one(literal), bound);
         }
-        Rule::Two { first, second, bound } => {
+        Rule::Two {
+            first,
+            second,
+            bound,
+        } => {
             words::lower(table, places::of_two(first, second), bound);
         }
         Rule::Nothing { bound: _ } => {}

@@ -87,8 +87,8 @@ change-nothing m f t h = sym (change-is m f t t refl (λ k p l. sym (h k p)) (λ
 -- past the end it does not matter how many words are to be changed
 pub change-end : (a b : ℕ) (f : ℕ → ℤ → ℤ) (t : List ℤ) → length t ≤ a → length t ≤ b → change a f t ≡ change b f t
 change-end a b f t h g = change-is b f t (change a f t) (change-length a f t)
-  (λ k p l. change-below a f t k (omega arith) l)
-  (λ k p l. let z : ⊥ = omega arith in absurd z)
+    (λ k p l. change-below a f t k (omega arith) l)
+    (λ k p l. let z : ⊥ = omega arith in absurd z)
 
 -- a fill begins at its first place
 pub fill-at : (from k : ℕ) (w v : ℤ) → from ≤ k → fillFrom from w k v ≡ w

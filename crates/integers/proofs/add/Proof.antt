@@ -25,14 +25,14 @@ module _ (a b : ℤ) (fa : SFits w64 a) (fb : SFits w64 b) where
   room-below : ltZ b (pos 0) ≡ true → SFits w64 (least +ℤ negℤ b)
   unfolding positivePart negativePart
   room-below n = word-of
-    (omega (linear, parts-add least (negℤ b), parts-neg b, word-to fb, ltZ-true b (pos 0) n))
-    (omega (linear, parts-add least (negℤ b), parts-neg b, word-to fb, ltZ-true b (pos 0) n))
+      (omega (linear, parts-add least (negℤ b), parts-neg b, word-to fb, ltZ-true b (pos 0) n))
+      (omega (linear, parts-add least (negℤ b), parts-neg b, word-to fb, ltZ-true b (pos 0) n))
 
   room-above : ltZ b (pos 0) ≡ false → SFits w64 (greatest +ℤ negℤ b)
   unfolding positivePart negativePart
   room-above n = word-of
-    (omega (linear, parts-add greatest (negℤ b), parts-neg b, word-to fb, ltZ-false b (pos 0) n))
-    (omega (linear, parts-add greatest (negℤ b), parts-neg b, word-to fb, ltZ-false b (pos 0) n))
+      (omega (linear, parts-add greatest (negℤ b), parts-neg b, word-to fb, ltZ-false b (pos 0) n))
+      (omega (linear, parts-add greatest (negℤ b), parts-neg b, word-to fb, ltZ-false b (pos 0) n))
 
   -- no room: the sum is no word
   too-low : ltZ a (least +ℤ negℤ b) ≡ true → Overflow ≡ totalOf a b
@@ -47,14 +47,14 @@ module _ (a b : ℤ) (fa : SFits w64 a) (fb : SFits w64 b) where
   sum-below : ltZ b (pos 0) ≡ true → ltZ a (least +ℤ negℤ b) ≡ false → SFits w64 (a +ℤ b)
   unfolding positivePart negativePart
   sum-below n l = word-of
-    (omega (linear, parts-add a b, word-to fa, ltZ-true b (pos 0) n))
-    (omega (linear, parts-add a b, parts-add least (negℤ b), parts-neg b, ltZ-false a (least +ℤ negℤ b) l))
+      (omega (linear, parts-add a b, word-to fa, ltZ-true b (pos 0) n))
+      (omega (linear, parts-add a b, parts-add least (negℤ b), parts-neg b, ltZ-false a (least +ℤ negℤ b) l))
 
   sum-above : ltZ b (pos 0) ≡ false → ltZ (greatest +ℤ negℤ b) a ≡ false → SFits w64 (a +ℤ b)
   unfolding positivePart negativePart
   sum-above n l = word-of
-    (omega (linear, parts-add a b, parts-add greatest (negℤ b), parts-neg b, ltZ-false (greatest +ℤ negℤ b) a l))
-    (omega (linear, parts-add a b, word-to fa, ltZ-false b (pos 0) n))
+      (omega (linear, parts-add a b, parts-add greatest (negℤ b), parts-neg b, ltZ-false (greatest +ℤ negℤ b) a l))
+      (omega (linear, parts-add a b, word-to fa, ltZ-false b (pos 0) n))
 
   is-sum : SFits w64 (a +ℤ b) → Sum (toZ w64 (ofZ w64 (a +ℤ b))) ≡ totalOf a b
   unfolding totalOf
@@ -75,43 +75,43 @@ fits-above c = room-above (c .before .args .a) (c .before .args .b) (c .before .
 
 fits-low : (c : tie.Else2) → SFits w64 (c .before .before .args .a +ℤ c .before .before .args .b)
 fits-low c = let s = c .before .before in
-  sum-below (s .args .a) (s .args .b) (s .fits .a) (s .fits .b) (negative (c .before))
-  (rw (word-value (s .fits .a), word-value (s .fits .b), word-value (fits-below (c .before))) at (c .if2 .left))
+    sum-below (s .args .a) (s .args .b) (s .fits .a) (s .fits .b) (negative (c .before))
+    (rw (word-value (s .fits .a), word-value (s .fits .b), word-value (fits-below (c .before))) at (c .if2 .left))
 
 fits-high : (c : tie.Else3) → SFits w64 (c .before .before .args .a +ℤ c .before .before .args .b)
 fits-high c = let s = c .before .before in
-  sum-above (s .args .a) (s .args .b) (s .fits .a) (s .fits .b) (positive (c .before))
-  (rw (word-value (s .fits .a), word-value (s .fits .b), word-value (fits-above (c .before))) at (c .if3 .left))
+    sum-above (s .args .a) (s .args .b) (s .fits .a) (s .fits .b) (positive (c .before))
+    (rw (word-value (s .fits .a), word-value (s .fits .b), word-value (fits-above (c .before))) at (c .if3 .left))
 
 sub-if2 : tie.Need-sub-if2
 sub-if2 c = rw (word-value (c .before .fits .b)) (fits-below c)
 
 returns : tie.Need-returns
 returns c = let s = c .before .before in
-  too-low (s .args .a) (s .args .b) (s .fits .a) (s .fits .b)
-  (rw (word-value (s .fits .a), word-value (s .fits .b), word-value (fits-below (c .before))) at (c .if2 .taken))
+    too-low (s .args .a) (s .args .b) (s .fits .a) (s .fits .b)
+    (rw (word-value (s .fits .a), word-value (s .fits .b), word-value (fits-below (c .before))) at (c .if2 .taken))
 
 add-t4 : tie.Need-add-t4
 add-t4 c = let s = c .before .before in rw (word-value (s .fits .a), word-value (s .fits .b)) (fits-low c)
 
 returns-2 : tie.Need-returns-2
 returns-2 c = let s = c .before .before in
-  rw (word-value (s .fits .a), word-value (s .fits .b)) (is-sum (s .args .a) (s .args .b) (s .fits .a) (s .fits .b) (fits-low c))
+    rw (word-value (s .fits .a), word-value (s .fits .b)) (is-sum (s .args .a) (s .args .b) (s .fits .a) (s .fits .b) (fits-low c))
 
 sub-if3 : tie.Need-sub-if3
 sub-if3 c = rw (word-value (c .before .fits .b)) (fits-above c)
 
 returns-3 : tie.Need-returns-3
 returns-3 c = let s = c .before .before in
-  too-high (s .args .a) (s .args .b) (s .fits .a) (s .fits .b)
-  (rw (word-value (s .fits .a), word-value (s .fits .b), word-value (fits-above (c .before))) at (c .if3 .taken))
+    too-high (s .args .a) (s .args .b) (s .fits .a) (s .fits .b)
+    (rw (word-value (s .fits .a), word-value (s .fits .b), word-value (fits-above (c .before))) at (c .if3 .taken))
 
 add-t6 : tie.Need-add-t6
 add-t6 c = let s = c .before .before in rw (word-value (s .fits .a), word-value (s .fits .b)) (fits-high c)
 
 returns-4 : tie.Need-returns-4
 returns-4 c = let s = c .before .before in
-  rw (word-value (s .fits .a), word-value (s .fits .b)) (is-sum (s .args .a) (s .args .b) (s .fits .a) (s .fits .b) (fits-high c))
+    rw (word-value (s .fits .a), word-value (s .fits .b)) (is-sum (s .args .a) (s .args .b) (s .fits .a) (s .fits .b) (fits-high c))
 
 pub add-spec : {M : Type 1} → statement M
 add-spec = tie.close (tie.spec sub-if2 returns add-t4 returns-2 sub-if3 returns-3 add-t6 returns-4)

@@ -40,8 +40,8 @@ done from to i w t h g l = go (leb from to) refl
     go : (b : Bool) → leb from to ≡ b → change i (fillFrom from w) t ≡ change to (fillFrom from w) t
     go true e = ap (λ (m : ℕ). change m (fillFrom from w) t) (omega (arith, leb-true from to e))
     go false e =
-      fill-before from i w t (omega (arith, leb-false from to e))
-      ∙ sym (fill-before from to w t (omega (arith, leb-false from to e)))
+        fill-before from i w t (omega (arith, leb-false from to e))
+        ∙ sym (fill-before from to w t (omega (arith, leb-false from to e)))
 
 loop-holds : tie.Need-loop-holds Inv-loop μ-loop
 loop-holds c = (omega arith, omega arith, refl, sym (fill-before _ _ _ _ (omega arith)))
@@ -74,11 +74,12 @@ loop-again c =
     let s = c .before .before .before in
     let i = c .before .before .loop .i in
     let inv = c .before .before .loop .inv in
-    let w : ℤ = toZ w64 (ofZ w64 (s .args .w)) in
-    (omega arith
-    , omega arith
-    , rw (length-set) (inv .2)
-    , rw (inv .3, add-one i) (fill-more (s .args .from) i w (now (s .args .t)) (inv .0) (omega arith)))
+    let w : ℤ = toZ w64 (ofZ w64 (s .args .w)) in (
+      omega arith,
+      omega arith,
+      rw (length-set) (inv .2),
+      rw (inv .3, add-one i) (fill-more (s .args .from) i w (now (s .args .t)) (inv .0) (omega arith)),
+    )
 
 same-length-2 : tie.Need-same-length-2 Inv-loop μ-loop
 same-length-2 c = c .before .loop .inv .2

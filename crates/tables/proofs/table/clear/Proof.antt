@@ -10,7 +10,7 @@ use borrow.Author.Needs.{needs}
 use borrow.Author.Tests.{not-true, not-false}
 use Rattle.tables.specs.Tables.{serves}
 use Rattle.tables.proofs.Sizes.{serves-tells}
-use Rattle.tables.proofs.Clearing.{cleared-refused-size, cleared-refused-limit, cleared-done}
+use Rattle.tables.proofs.Promised.{cleared-refused-size, cleared-refused-limit, cleared-done}
 use Rattle.tables.proofs.table.clear.Statement.{statement}
 use Rattle.tables.proofs.table.clear.Tie as tie
 

@@ -2,7 +2,7 @@
 -- first fill cleared those up to j's own. The measure is the blocks left. Assumes nothing.
 use mathlib.Core.Path.{_≡_, refl, _∙_}
 use mathlib.Core.List.{List}
-use Prim.Native.Nat.{suc, _-_, _≤_, _<_}
+use Prim.Native.Nat.{suc, _-_, _*_, _≤_, _<_}
 use native.Mathlib.Numerals.{add-one}
 use native.Mathlib.Omega.{arith}
 use lib.IntN.{ℤ}
@@ -12,15 +12,16 @@ use borrow.Author.Needs.{needs}
 use Rattle.words.specs.Change.{change}
 use Rattle.places.specs.Numbering.{blockStart}
 use Rattle.places.proofs.Numbering.{blockStart-suc}
+use Rattle.rules.specs.Limits.{maxQuantities}
 use Rattle.tables.specs.Tables.{cleared}
-use Rattle.tables.proofs.Sizes.{small-square}
-use Rattle.tables.proofs.Clearing.{clearing, start-small, clear-own, clear-more}
+use Rattle.tables.proofs.Sizes.{small-square, small-start}
+use Rattle.tables.proofs.Clearing.{clearing, clear-own, clear-more}
 use Rattle.tables.proofs.table.clear_places.Statement.{statement}
 use Rattle.tables.proofs.table.clear_places.Tie as tie
 
 abbrev Inv-loop : tie.InvT-loop
 Inv-loop n table₀ j start next₀ b₀ table next b =
-    (j < b) × (b ≤ n) × (next ≡ blockStart b) × (next ≤ 2048) × (length table ≡ length table₀)
+    (j < b) × (b ≤ n) × (next ≡ blockStart b) × (next ≤ 2 * (maxQuantities * maxQuantities)) × (length table ≡ length table₀)
     × ((t : List ℤ) → table₀ ≡ change (blockStart (suc j)) (clearing j) t → table ≡ change (blockStart b) (clearing j) t)
 
 abbrev μ-loop : tie.MeasureT-loop
@@ -51,7 +52,7 @@ loop-holds : tie.Need-loop-holds Inv-loop μ-loop
 unfolding blockStart
 loop-holds c =
     let j = c .before .before .before .args .j in
-    (omega arith, omega arith, omega arith, omega (arith, start-small (suc j) (omega arith)), refl, λ t e. rw (add-one j) e)
+    (omega arith, omega arith, omega arith, omega (arith, small-start (suc j) (omega arith)), refl, λ t e. rw (add-one j) e)
 
 mul-fill : tie.Need-mul-fill Inv-loop μ-loop
 mul-fill c = omega arith
@@ -92,13 +93,14 @@ loop-less c = omega arith
 loop-again : tie.Need-loop-again Inv-loop μ-loop
 loop-again c =
     let l = c .before .before .before .before .loop in
-    let s = c .before .before .before .before .before .before .before .before in
-    (omega arith
-    , omega arith
-    , rw (add-one (l .b)) (omega (arith, blockStart-suc (l .b)))
-    , omega (arith, blockStart-suc (l .b), start-small (suc (l .b)) (omega arith))
-    , c .before .fill2 .kept .0 ∙ l .inv .4
-    , λ t e. rw (add-one (l .b)) (c .before .fill2 .ensures ∙ rw (l .inv .2, l .inv .5 t e) (clear-more (s .args .j) (l .b) t (l .inv .0))))
+    let s = c .before .before .before .before .before .before .before .before in (
+      omega arith,
+      omega arith,
+      rw (add-one (l .b)) (omega (arith, blockStart-suc (l .b))),
+      omega (arith, blockStart-suc (l .b), small-start (suc (l .b)) (omega arith)),
+      c .before .fill2 .kept .0 ∙ l .inv .4,
+      λ t e. rw (add-one (l .b)) (c .before .fill2 .ensures ∙ rw (l .inv .2, l .inv .5 t e) (clear-more (s .args .j) (l .b) t (l .inv .0))),
+    )
 
 same-length : tie.Need-same-length Inv-loop μ-loop
 same-length c = c .before .loop .inv .4 ∙ c .before .before .before .fill .kept .0

@@ -1,7 +1,8 @@
--- `table::size` meets its contract: the tests are the definition's, and the product fits since n is at most 32. Assumes nothing.
+-- `table::size` meets its contract: the tests are the definition's, and the product fits since n is in its range. Assumes nothing.
 use native.Mathlib.Omega.{arith}
 use borrow.Author.Tests.{le-leb, lt-leb}
 use Rattle.places.specs.Numbering.{blockStart}
+use Rattle.rules.specs.Limits.{maxQuantities}
 use Rattle.tables.specs.Tables.{tableSize}
 use Rattle.tables.proofs.Sizes.{small-square}
 use Rattle.tables.proofs.table.size.Statement.{statement}
@@ -15,7 +16,7 @@ returns-2 : tie.Need-returns-2
 unfolding tableSize
 returns-2 c =
     let n = c .before .before .args .n in
-    rw (le-leb 1 n (c .before .if1 .left), lt-leb n 32 (c .if2 .taken))
+    rw (le-leb 1 n (c .before .if1 .left), lt-leb n maxQuantities (c .if2 .taken))
 
 mul-result : tie.Need-mul-result
 mul-result c = omega (arith, small-square (c .before .before .args .n) (c .if2 .left))
@@ -27,7 +28,7 @@ returns-3 : tie.Need-returns-3
 unfolding tableSize blockStart
 returns-3 c =
     let n = c .before .before .args .n in
-    rw (le-leb 1 n (c .before .if1 .left), le-leb n 32 (c .if2 .left))
+    rw (le-leb 1 n (c .before .if1 .left), le-leb n maxQuantities (c .if2 .left))
 
 pub size-spec : {M : Type 1} → statement M
 size-spec = tie.close (tie.spec returns returns-2 mul-result mul-result-2 returns-3)

@@ -1,0 +1,33 @@
+-- Document 01's halvings, and the opposite's bound at a bound and at the least word. Assumes nothing.
+use mathlib.Core.Path.{_≡_, refl}
+use lib.IntN.{pos, negsuc}
+use Rattle.integers.specs.Bound.{half, oppositeBound, smaller}
+
+half-of-7 : half (pos 7) ≡ pos 3
+unfolding half
+half-of-7 = refl
+
+half-of-0 : half (pos 0) ≡ pos 0
+unfolding half
+half-of-0 = refl
+
+half-of--1 : half (negsuc 0) ≡ negsuc 0
+unfolding half
+half-of--1 = refl
+
+half-of--3 : half (negsuc 2) ≡ negsuc 1
+unfolding half
+half-of--3 = refl
+
+-- -5 - 1, and 2 ^ 63 - 1, which is a word
+opposite-of-5 : oppositeBound (pos 5) ≡ negsuc 5
+unfolding oppositeBound
+opposite-of-5 = refl
+
+opposite-of-least : oppositeBound (negsuc 9223372036854775807) ≡ pos 9223372036854775807
+unfolding oppositeBound
+opposite-of-least = refl
+
+smaller-of-2-and-5 : smaller (pos 5) (pos 2) ≡ pos 2
+unfolding smaller
+smaller-of-2-and-5 = refl

@@ -1,0 +1,66 @@
+-- `numbering::main` is safe and ends: the loop's measure is the places left. Assumes nothing.
+use Prim.Native.Nat.{_-_, _≤_}
+use borrow.Author.Needs.{needs}
+use Rattle.numbering.proofs.main.Statement.{statement}
+use Rattle.numbering.proofs.main.Tie as tie
+
+abbrev Inv-loop : tie.InvT-loop
+Inv-loop place₀ place = place ≤ 18
+
+abbrev μ-loop : tie.MeasureT-loop
+μ-loop place₀ place = 18 - place
+
+slice-aggregate-write-all : tie.Need-slice-aggregate-write-all Inv-loop μ-loop
+slice-aggregate-write-all c = search needs
+
+write-all-requires : tie.Need-write-all-requires Inv-loop μ-loop
+write-all-requires c κs = search needs
+
+loop-holds : tie.Need-loop-holds Inv-loop μ-loop
+loop-holds c = search needs
+
+print-place-requires : tie.Need-print-place-requires Inv-loop μ-loop
+print-place-requires c κs = search needs
+
+add-place : tie.Need-add-place Inv-loop μ-loop
+add-place c = search needs
+
+loop-less : tie.Need-loop-less Inv-loop μ-loop
+loop-less c = search needs
+
+loop-again : tie.Need-loop-again Inv-loop μ-loop
+loop-again c = search needs
+
+print-half-requires : tie.Need-print-half-requires Inv-loop μ-loop
+print-half-requires c κs = search needs
+
+print-half-requires-2 : tie.Need-print-half-requires-2 Inv-loop μ-loop
+print-half-requires-2 c κs = search needs
+
+print-half-requires-3 : tie.Need-print-half-requires-3 Inv-loop μ-loop
+print-half-requires-3 c κs = search needs
+
+print-half-requires-4 : tie.Need-print-half-requires-4 Inv-loop μ-loop
+print-half-requires-4 c κs = search needs
+
+returns : tie.Need-returns Inv-loop μ-loop
+returns c = search needs
+
+pub main-spec : {M : Type 1} → statement M
+main-spec =
+    tie.close
+    (tie.spec
+    Inv-loop
+    μ-loop
+    slice-aggregate-write-all
+    write-all-requires
+    loop-holds
+    print-place-requires
+    add-place
+    loop-less
+    loop-again
+    print-half-requires
+    print-half-requires-2
+    print-half-requires-3
+    print-half-requires-4
+    returns)

@@ -23,13 +23,9 @@ smaller a b = cond (ltZ b a) b a
 unfoldable pub inWord : ℤ → Bool
 inWord z = ltb (mag z) (2 ^ 63)
 
-abbrev pub pickTotal : Bool → Total → Total → Total
-pickTotal true t u = t
-pickTotal false t u = u
-
 -- the sum of two words, where it is a word
 unfoldable pub totalOf : ℤ → ℤ → Total
-totalOf a b = pickTotal (inWord (a +ℤ b)) (Sum (a +ℤ b)) Overflow
+totalOf a b = cond (inWord (a +ℤ b)) (Sum (a +ℤ b)) Overflow
 
 -- the integer z is at most B in magnitude
 pub record Within (B : ℕ) (z : ℤ) : Type 0 where

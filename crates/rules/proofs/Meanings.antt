@@ -1,7 +1,7 @@
 -- What a rule means after each step, over every assignment: the opposite is met exactly where the rule is not, halving keeps the
 -- meaning, and the sum over a literal says of both terms together what it says of the bounds. Assumes nothing.
 use mathlib.Core.Path.{_≡_, refl}
-use mathlib.Core.Bool.{Bool, true, false}
+use mathlib.Core.Bool.{Bool, true, false, cond}
 use mathlib.Core.Logic.{_↔_, inl, inr}
 use Prim.Native.Nat.{ℕ}
 use lib.Dec.{eqb, ltb}
@@ -16,7 +16,7 @@ use Rattle.rules.specs.declared.rule.Partner.{Partner}
 use Rattle.rules.specs.declared.rule.Partner.the-variants.{Literal, Alone, Absent}
 use Rattle.rules.specs.Literal.{negated, literalOf}
 use Rattle.rules.specs.Meaning.{Assignment, literalValue, signedValue, termValue, boundOf, Meets}
-use Rattle.rules.specs.Steps.{pickRule, trivialRule, isNone, ruleOf, oppositeOf, halvedOf, pickPartner, partnerOf, ruleOfPair, ruleOfRest, sumOver}
+use Rattle.rules.specs.Steps.{trivialRule, isNone, ruleOf, oppositeOf, halvedOf, partnerOf, ruleOfPair, ruleOfRest, sumOver}
 use Rattle.rules.specs.Promises.{Stands}
 use Rattle.rules.proofs.Literals.{value-negated, none-value, some-value}
 
@@ -33,7 +33,7 @@ ruleOf-term σ p q c = go (isNone p) refl (isNone q) refl
     before a b e = rw e (omega (linear, parts-add b (pos 0)))
 
     go : (s : Bool) → isNone p ≡ s → (t : Bool) → isNone q ≡ t
-        → termValue σ (pickRule s (pickRule t (Nothing c) (One (literalOf q) c)) (pickRule t (One (literalOf p) c) (Two (literalOf p) (literalOf q) c)))
+        → termValue σ (cond s (cond t (Nothing c) (One (literalOf q) c)) (cond t (One (literalOf p) c) (Two (literalOf p) (literalOf q) c)))
         ≡ signedValue σ p +ℤ signedValue σ q
     go true d true e = rw (none-value σ p d, none-value σ q e)
     go true d false e = rw (some-value σ q e) (alone (signedValue σ p) (signedValue σ q) (none-value σ p d))
@@ -45,7 +45,7 @@ unfolding ruleOf
 ruleOf-bound p q c = go (isNone p) (isNone q)
   where
     go : (s t : Bool)
-        → boundOf (pickRule s (pickRule t (Nothing c) (One (literalOf q) c)) (pickRule t (One (literalOf p) c) (Two (literalOf p) (literalOf q) c))) ≡ c
+        → boundOf (cond s (cond t (Nothing c) (One (literalOf q) c)) (cond t (One (literalOf p) c) (Two (literalOf p) (literalOf q) c))) ≡ c
     go true true = refl
     go true false = refl
     go false true = refl
@@ -106,7 +106,7 @@ halved-meaning σ (One x c) = (λ h. h, λ h. h)
 halved-meaning σ (Nothing c) = (λ h. h, λ h. h)
 halved-meaning σ (Two x y c) = go (eqb x y) refl
   where
-    go : (t : Bool) → eqb x y ≡ t → Meets σ (pickRule t (One x (half c)) (Two x y c)) ↔ Meets σ (Two x y c)
+    go : (t : Bool) → eqb x y ≡ t → Meets σ (cond t (One x (half c)) (Two x y c)) ↔ Meets σ (Two x y c)
     go true e = let d = doubled-meaning σ x y c (eqb-true x y e) in (λ h. record { met = d .0 h }, λ h. d .1 (h .met))
     go false e = (λ h. h, λ h. h)
 
@@ -132,7 +132,7 @@ pair-meaning σ x y c = go (eqb x y) refl (eqb y (negated x)) refl (ltb x y)
     cancels e = rw (e, value-negated σ x) (minus-self (literalValue σ x))
 
     go : (t : Bool) → eqb x y ≡ t → (u : Bool) → eqb y (negated x) ≡ u → (v : Bool)
-        → Meets σ (pickRule t (One x (half c)) (pickRule u (Nothing c) (pickRule v (Two x y c) (Two y x c))))
+        → Meets σ (cond t (One x (half c)) (cond u (Nothing c) (cond v (Two x y c) (Two y x c))))
         ↔ ((literalValue σ x +ℤ literalValue σ y) ≤ℤ c)
     go true e u f v = doubled-meaning σ x y c (eqb-true x y e)
     go false e true f v = meets-as σ (Nothing c) (cancels (eqb-true y (negated x) f))
@@ -159,7 +159,7 @@ stands-present z (One x c) e = rw (eq-eqb x z e) tt
 stands-present z (Two x y c) (inl e) = rw (eq-eqb x z e) tt
 stands-present z (Two x y c) (inr e) = rw (eq-eqb y z e) (go (eqb x z))
   where
-    go : (t : Bool) → Present (pickPartner t (Literal y) (Literal x))
+    go : (t : Bool) → Present (cond t (Literal y) (Literal x))
     go true = tt
     go false = tt
 stands-present z (Nothing c) e = e
@@ -170,15 +170,15 @@ pub partner-term : (σ : Assignment) (z : ℕ) (r : Rule) → Present (partnerOf
 unfolding partnerOf positivePart negativePart
 partner-term σ z (One x c) = go (eqb x z) refl
   where
-    go : (t : Bool) → eqb x z ≡ t → Present (pickPartner t Alone Absent)
-        → literalValue σ x ≡ literalValue σ z +ℤ restValue σ (pickPartner t Alone Absent)
+    go : (t : Bool) → eqb x z ≡ t → Present (cond t Alone Absent)
+        → literalValue σ x ≡ literalValue σ z +ℤ restValue σ (cond t Alone Absent)
     go true e p = rw (eqb-true x z e) (omega (linear, parts-add (literalValue σ z) (pos 0)))
     go false e p = absurd p
 partner-term σ z (Two x y c) = go (eqb x z) refl (eqb y z) refl
   where
-    go : (t : Bool) → eqb x z ≡ t → (u : Bool) → eqb y z ≡ u → Present (pickPartner t (Literal y) (pickPartner u (Literal x) Absent))
+    go : (t : Bool) → eqb x z ≡ t → (u : Bool) → eqb y z ≡ u → Present (cond t (Literal y) (cond u (Literal x) Absent))
         → literalValue σ x +ℤ literalValue σ y
-        ≡ literalValue σ z +ℤ restValue σ (pickPartner t (Literal y) (pickPartner u (Literal x) Absent))
+        ≡ literalValue σ z +ℤ restValue σ (cond t (Literal y) (cond u (Literal x) Absent))
     go true e u f p = rw (eqb-true x z e)
     go false e true f p = rw (← eqb-true y z f) (swapped (literalValue σ x) (literalValue σ y))
     go false e false f p = absurd p
@@ -238,6 +238,6 @@ sum-sound z r s σ h k =
     (omega (linear, h .met, k .met, parts-add (termValue σ r) (termValue σ s), parts-add (boundOf r) (boundOf s)))
   where
     go : (t : Bool) (c : ℤ) → (termValue σ r +ℤ termValue σ s) ≤ℤ c
-        → Meets σ (pickRule t (ruleOfRest (partnerOf z r) (partnerOf (negated z) s) c) trivialRule)
+        → Meets σ (cond t (ruleOfRest (partnerOf z r) (partnerOf (negated z) s) c) trivialRule)
     go true c l = rest-met σ (partnerOf z r) (partnerOf (negated z) s) c (λ p q. sum-meaning σ z r s c p q .1 l)
     go false c l = trivial-met σ

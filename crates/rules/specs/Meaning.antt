@@ -1,5 +1,5 @@
 -- What a rule means, over unbounded integers and apart from any algorithm.
-use mathlib.Core.Bool.{Bool, cond}
+use mathlib.Core.Bool.{Bool, true, false, cond}
 use Prim.Native.Nat.{ℕ, zero, suc, _%_}
 use lib.Dec.{eqb}
 use lib.IntN.{ℤ, pos, negsuc, negℤ, _+ℤ_}
@@ -36,3 +36,9 @@ boundOf (Nothing c) = c
 -- an assignment meets a rule (document 01: satisfies it): the term is at most the bound
 pub record Meets (σ : Assignment) (r : Rule) : Type 0 where
   pub met : termValue σ r ≤ℤ boundOf r
+
+-- does a rule's term name quantity q?
+unfoldable pub names : ℕ → Rule → Bool
+names q (One x c) = eqb (quantityOf x) q
+names q (Two x y c) = cond (eqb (quantityOf x) q) true (eqb (quantityOf y) q)
+names q (Nothing c) = false

@@ -15,7 +15,8 @@ use Rattle.words.proofs.Change.{change-is, change-length, change-below, change-
 use Rattle.places.specs.Numbering.{blockStart, blockOf, offsetOf}
 use Rattle.places.proofs.Numbering.{blockStart-suc, block-unique, block-below, offset-below, offset-place}
 use Rattle.rules.specs.Limits.{noRule}
-use Rattle.tables.specs.Places.{ruleAt, names}
+use Rattle.rules.specs.Meaning.{names}
+use Rattle.tables.specs.Places.{ruleAt}
 use Rattle.tables.proofs.Places.{own-named, four-named, not-named}
 
 -- ---- a run of words filled

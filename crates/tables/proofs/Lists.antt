@@ -19,7 +19,7 @@ use Rattle.tables.specs.declared.reply.Reply.the-variants.{Done}
 use Rattle.tables.specs.Places.{ruleAt, placeOf}
 use Rattle.tables.specs.Tables.{hasRule, emptyTable, ruleReply, putUndoubled, putRule, putAll, tableOf}
 use Rattle.tables.specs.Meaning.{Satisfies, MeetsAll}
-use Rattle.tables.proofs.Tests.{not-both}
+use Rattle.tables.proofs.Tests.{clash}
 use Rattle.tables.proofs.Putting.{accepted-put}
 
 -- each rule of a list is accepted for n quantities
@@ -57,7 +57,7 @@ pub empty-satisfied : (n : ℕ) (σ : Assignment) → Satisfies n (emptyTable n)
 empty-satisfied n σ = record { each = go }
   where
     go : (k : ℕ) → k < blockStart n → hasRule (wordAt (emptyTable n) k) ≡ true → Meets σ (ruleAt k (wordAt (emptyTable n) k))
-    go k h e = not-both {b = hasRule noRule} (rw (getD-replicate (blockStart n) k noRule (pos 0) h) at e) refl
+    go k h e = clash {b = hasRule noRule} (rw (getD-replicate (blockStart n) k noRule (pos 0) h) at e) refl
 
 pub tableOf-length : (n : ℕ) (rs : List Rule) → length (tableOf n rs) ≡ blockStart n
 tableOf-length n rs = putAll-length (emptyTable n) rs ∙ length-replicate (blockStart n) noRule

@@ -11,7 +11,8 @@ use Rattle.words.specs.Change.{wordAt}
 use Rattle.places.specs.Numbering.{blockStart}
 use Rattle.rules.specs.declared.rule.Rule.{Rule}
 use Rattle.rules.specs.Meaning.{Assignment, Meets, termValue, boundOf}
-use Rattle.tables.specs.Places.{ruleAt, placeOf, Undoubled, names}
+use Rattle.rules.specs.Meaning.{names}
+use Rattle.tables.specs.Places.{ruleAt, placeOf, Undoubled}
 use Rattle.tables.specs.Tables.{hasRule}
 use Rattle.tables.specs.Meaning.{Satisfies, joined, SheetAllows, ScriptAllows, SameVisible, NamesVisible}
 use Rattle.tables.proofs.Places.{ruleAt-bound, ruleAt-place, ruleAt-undoubled, undoubled-below, undoubled-names}

@@ -14,8 +14,9 @@ use Rattle.rules.specs.declared.rule.Rule.{Rule}
 use Rattle.rules.specs.declared.rule.Rule.the-variants.{One, Two, Nothing}
 use Rattle.rules.specs.Literal.{quantityOf}
 use Rattle.rules.specs.Meaning.{boundOf}
-use Rattle.rules.specs.Steps.{pickRule}
-use Rattle.tables.specs.Places.{ruleAt, placeOf, inOrder, Undoubled, names}
+use Rattle.rules.specs.Meaning.{names}
+use Rattle.rules.specs.Steps.{inOrder}
+use Rattle.tables.specs.Places.{ruleAt, placeOf, Undoubled}
 
 -- ---- each place is that of a term
 
@@ -23,7 +24,7 @@ pub ruleAt-bound : (k : ℕ) (c : ℤ) → boundOf (ruleAt k c) ≡ c
 unfolding ruleAt
 ruleAt-bound k c = go (isOne k)
   where
-    go : (b : Bool) → boundOf (pickRule b (One (higherAt k) c) (Two (lowerAt k) (higherAt k) c)) ≡ c
+    go : (b : Bool) → boundOf (cond b (One (higherAt k) c) (Two (lowerAt k) (higherAt k) c)) ≡ c
     go true = refl
     go false = refl
 
@@ -31,7 +32,7 @@ pub ruleAt-place : (k : ℕ) (c : ℤ) → placeOf (ruleAt k c) ≡ k
 unfolding ruleAt placeOf placeOfTwo
 ruleAt-place k c = go (isOne k) refl
   where
-    go : (b : Bool) → isOne k ≡ b → placeOf (pickRule b (One (higherAt k) c) (Two (lowerAt k) (higherAt k) c)) ≡ k
+    go : (b : Bool) → isOne k ≡ b → placeOf (cond b (One (higherAt k) c) (Two (lowerAt k) (higherAt k) c)) ≡ k
     go true e = at-one k e
     go false e = rw (lt-ltb (lowerAt k) (higherAt k) (omega (arith, at-lower k e))) (at-pair k e)
 
@@ -39,7 +40,7 @@ pub ruleAt-undoubled : (n k : ℕ) (c : ℤ) → k < blockStart n → Undoubled 
 unfolding ruleAt
 ruleAt-undoubled n k c h = go (isOne k) refl
   where
-    go : (b : Bool) → isOne k ≡ b → Undoubled n (pickRule b (One (higherAt k) c) (Two (lowerAt k) (higherAt k) c))
+    go : (b : Bool) → isOne k ≡ b → Undoubled n (cond b (One (higherAt k) c) (Two (lowerAt k) (higherAt k) c))
     go true e = at-below n k h
     go false e = (omega (arith, at-below n k h, at-lower k e), at-below n k h, λ q. omega (arith, at-lower k e))
 
@@ -61,7 +62,7 @@ unfolding ruleAt placeOf placeOfTwo inOrder
 ruleAt-inOrder n (One x c) u = rw (one-isOne x, one-higher x)
 ruleAt-inOrder n (Two x y c) u = go (ltb x y) refl
   where
-    go : (b : Bool) → ltb x y ≡ b → ruleAt (cond b (placeOfPair x y) (placeOfPair y x)) c ≡ pickRule b (Two x y c) (Two y x c)
+    go : (b : Bool) → ltb x y ≡ b → ruleAt (cond b (placeOfPair x y) (placeOfPair y x)) c ≡ cond b (Two x y c) (Two y x c)
     go true e = let l : x / 2 < y / 2 = omega (arith, ltb-true x y e, u .2) in rw (pair-isOne x y l, pair-higher x y l, pair-lower x y l)
     go false e = let l : y / 2 < x / 2 = omega (arith, ltb-false x y e, u .2) in rw (pair-isOne y x l, pair-higher y x l, pair-lower y x l)
 ruleAt-inOrder n (Nothing c) u = absurd u

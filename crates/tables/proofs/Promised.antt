@@ -20,10 +20,10 @@ use Rattle.rules.specs.Steps.{halvedOf}
 use Rattle.tables.specs.declared.reply.Reply.{Reply}
 use Rattle.tables.specs.declared.reply.Reply.the-variants.{Done, Refused}
 use Rattle.tables.specs.Places.{ruleAt}
-use Rattle.tables.specs.Tables.{tableSize, serves, hasRule, ruleReply, putReply, putUndoubled, putRule, clearReply, cleared, pickTable, isDone}
+use Rattle.tables.specs.Tables.{tableSize, serves, hasRule, ruleReply, putReply, putUndoubled, putRule, clearReply, cleared, isDone}
 use Rattle.tables.specs.Meaning.{Satisfies}
 use Rattle.tables.specs.Promises.{Emptied, Put, Cleared}
-use Rattle.tables.proofs.Tests.{refused-done, not-both}
+use Rattle.tables.proofs.Tests.{refused-done, clash}
 use Rattle.tables.proofs.Sizes.{Served, serves-tells}
 use Rattle.tables.proofs.Putting.{accepted-put}
 use Rattle.tables.proofs.Without.{cleared-meaning}
@@ -38,7 +38,7 @@ no-rules : (n : ℕ) (t u : List ℤ) → blockStart n ≤ length t → u ≡ ch
 no-rules n t u l e σ = record { each = go }
   where
     go : (k : ℕ) → k < blockStart n → hasRule (wordAt u k) ≡ true → Meets σ (ruleAt k (wordAt u k))
-    go k h r = not-both {b = hasRule noRule} (rw (e, change-below (blockStart n) (λ i w. noRule) t k h (omega arith)) at r) refl
+    go k h r = clash {b = hasRule noRule} (rw (e, change-below (blockStart n) (λ i w. noRule) t k h (omega arith)) at r) refl
 
 pub emptied-done : (n : ℕ) (t u : List ℤ) → serves n (length t) ≡ true → u ≡ change (tableSize n) (fillFrom 0 noRule) t → Emptied n t Done u
 emptied-done n t u e f = record { reply = rw e; table = filled; meaning = λ d. no-rules n t u (s .room) filled }

@@ -1,6 +1,6 @@
 -- A rule put in: the table is satisfied afterwards exactly by what satisfied it before and meets the rule. Assumes nothing.
 use mathlib.Core.Path.{_≡_, refl, sym, _∙_, ap, subst}
-use mathlib.Core.Bool.{Bool, true, false, cond}
+use mathlib.Core.Bool.{Bool, true, false, cond, _&&_}
 use mathlib.Core.List.{List}
 use mathlib.Core.Logic.{_↔_}
 use Prim.Native.Nat.{ℕ, _+_, _-_, _*_, _/_, _%_, _≤_, _<_}
@@ -20,11 +20,11 @@ use Rattle.rules.specs.declared.rule.Rule.the-variants.{One, Two, Nothing}
 use Rattle.rules.specs.Limits.{noRule}
 use Rattle.rules.specs.Literal.{negated}
 use Rattle.rules.specs.Meaning.{Assignment, Meets, termValue, boundOf}
-use Rattle.rules.specs.Steps.{pickRule, halvedOf}
+use Rattle.rules.specs.Steps.{halvedOf}
 use Rattle.rules.proofs.Meanings.{doubled-meaning}
 use Rattle.tables.specs.declared.reply.Reply.the-variants.{Done, Refused}
 use Rattle.tables.specs.Places.{ruleAt, placeOf, Undoubled}
-use Rattle.tables.specs.Tables.{hasRule, both, ruleReply, putUndoubled, putRule}
+use Rattle.tables.specs.Tables.{hasRule, ruleReply, putUndoubled, putRule}
 use Rattle.tables.specs.Meaning.{Satisfies}
 use Rattle.tables.proofs.Places.{undoubled-below}
 use Rattle.tables.proofs.Values.{place-value, meets-at, at-meets}
@@ -120,7 +120,7 @@ pub two-accepted : (n x y : ℕ) (c : ℤ) → ruleReply n (Two x y c) ≡ Done
 unfolding ruleReply
 two-accepted n x y c e =
     let a = passed _ _ _ e in
-    let p = both-true (both (ltb x (2 * n)) (ltb y (2 * n))) (hasRule c) (a .0) in
+    let p = both-true (_&&_ (ltb x (2 * n)) (ltb y (2 * n))) (hasRule c) (a .0) in
     let q = both-true (ltb x (2 * n)) (ltb y (2 * n)) (p .0) in
     (ltb-true x (2 * n) (q .0), ltb-true y (2 * n) (q .1), p .1, eqb-false y (negated x) (not-refused _ _ _ (a .1) .0))
 
@@ -145,7 +145,7 @@ accepted-put n t (Two x y c) σ l e = go (eqb x y) refl
         let m = doubled-meaning σ x y c d in
         (λ s. (u .0 s .0, record { met = m .0 (u .0 s .1) }), λ s. u .1 (s .0, m .1 (s .1 .met)))
 
-    go : (b : Bool) → eqb x y ≡ b → Satisfies n (putUndoubled t (pickRule b (One x (half c)) (Two x y c))) σ ↔ (Satisfies n t σ × Meets σ (Two x y c))
+    go : (b : Bool) → eqb x y ≡ b → Satisfies n (putUndoubled t (cond b (One x (half c)) (Two x y c))) σ ↔ (Satisfies n t σ × Meets σ (Two x y c))
     go true d = single (eqb-true x y d)
     go false d = undoubled-put n t (Two x y c) σ l (p .0, p .1, different x y (eqb-false x y d) (p .3)) (p .2)
 accepted-put n t (Nothing c) σ l e = (λ s. (s, nothing-accepted n c σ e), λ s. s .0)

@@ -1,6 +1,6 @@
 -- What it tells that a table serves n quantities. Assumes nothing.
 use mathlib.Core.Path.{_≡_, refl, sym, _∙_, ap}
-use mathlib.Core.Bool.{Bool, true, false, cond}
+use mathlib.Core.Bool.{Bool, true, false, cond, _&&_}
 use Prim.Native.Nat.{ℕ, _*_, _≤_, _<_}
 use native.Mathlib.Nat.{mul-le-mul}
 use native.Mathlib.Omega.{arith}
@@ -8,8 +8,8 @@ use lib.Dec.{leb, ltb}
 use borrow.Author.Tests.{leb-true, ltb-true, le-leb}
 use Rattle.places.specs.Numbering.{blockStart}
 use Rattle.rules.specs.Limits.{maxQuantities}
-use Rattle.tables.specs.Tables.{both, tableSize, serves}
-use Rattle.tables.proofs.Tests.{both-true, not-both}
+use Rattle.tables.specs.Tables.{tableSize, serves}
+use Rattle.tables.proofs.Tests.{both-true, clash}
 
 -- the square of an n in its range, and where its block starts, are small
 pub small-square : (n : ℕ) → n ≤ maxQuantities → n * n ≤ maxQuantities * maxQuantities
@@ -22,9 +22,9 @@ small-start n h = omega (arith, small-square n h)
 -- a size that is not 0 is that of an n in its range
 sized : (n : ℕ) → 0 < tableSize n → (1 ≤ n) × (n ≤ maxQuantities) × (tableSize n ≡ blockStart n)
 unfolding tableSize
-sized n h = go (both (leb 1 n) (leb n maxQuantities)) refl h
+sized n h = go (_&&_ (leb 1 n) (leb n maxQuantities)) refl h
   where
-    go : (b : Bool) → both (leb 1 n) (leb n maxQuantities) ≡ b → 0 < cond b (blockStart n) 0
+    go : (b : Bool) → _&&_ (leb 1 n) (leb n maxQuantities) ≡ b → 0 < cond b (blockStart n) 0
         → (1 ≤ n) × (n ≤ maxQuantities) × (cond b (blockStart n) 0 ≡ blockStart n)
     go true e l =
         let p = both-true (leb 1 n) (leb n maxQuantities) e in

@@ -1,29 +1,29 @@
 -- What a computed reply or test tells. Assumes nothing.
 use mathlib.Core.Path.{_≡_, refl}
-use mathlib.Core.Bool.{Bool, true, false}
+use mathlib.Core.Bool.{Bool, true, false, cond, _&&_}
 use Prim.Native.Nat.{ℕ}
 use native.Mathlib.Omega.{arith}
 use Rattle.rules.specs.declared.refusal.Refusal.{Refusal}
 use Rattle.tables.specs.declared.reply.Reply.{Reply}
 use Rattle.tables.specs.declared.reply.Reply.the-variants.{Done, Refused}
-use Rattle.tables.specs.Tables.{pickReply, both}
+use Rattle.tables.specs.Tables.{}
 
 -- a refusal is not done
 pub refused-done : {ℓ : Refusal} → Refused ℓ ≡ Done → ⊥
 refused-done e = let z : _≡_ {A = ℕ} 0 1 = cc in omega arith
 
-pub not-both {ℓ} : {X : Type ℓ} {b : Bool} → b ≡ true → b ≡ false → X
-not-both e f = let z : _≡_ {A = ℕ} 0 1 = cc in let y : ⊥ = omega arith in absurd y
+pub clash {ℓ} : {X : Type ℓ} {b : Bool} → b ≡ true → b ≡ false → X
+clash e f = let z : _≡_ {A = ℕ} 0 1 = cc in let y : ⊥ = omega arith in absurd y
 
 -- a reply that is done passed its test
-pub passed : (b : Bool) (r : Reply) (f : Refusal) → pickReply b r (Refused f) ≡ Done → (b ≡ true) × (r ≡ Done)
+pub passed : (b : Bool) (r : Reply) (f : Refusal) → cond b r (Refused f) ≡ Done → (b ≡ true) × (r ≡ Done)
 passed true r f e = (refl, e)
 passed false r f e = absurd (refused-done e)
 
-pub not-refused : (b : Bool) (r : Reply) (f : Refusal) → pickReply b (Refused f) r ≡ Done → (b ≡ false) × (r ≡ Done)
+pub not-refused : (b : Bool) (r : Reply) (f : Refusal) → cond b (Refused f) r ≡ Done → (b ≡ false) × (r ≡ Done)
 not-refused true r f e = absurd (refused-done e)
 not-refused false r f e = (refl, e)
 
-pub both-true : (a b : Bool) → both a b ≡ true → (a ≡ true) × (b ≡ true)
+pub both-true : (a b : Bool) → _&&_ a b ≡ true → (a ≡ true) × (b ≡ true)
 both-true true b e = (refl, e)
-both-true false b e = not-both e refl
+both-true false b e = clash e refl

@@ -12,8 +12,9 @@ use Rattle.rules.specs.declared.rule.Rule.{Rule}
 use Rattle.rules.specs.declared.rule.Rule.the-variants.{One, Two, Nothing}
 use Rattle.rules.specs.Literal.{quantityOf}
 use Rattle.rules.specs.Meaning.{Assignment, literalValue, termValue, boundOf, Meets}
-use Rattle.rules.specs.Steps.{pickRule}
-use Rattle.tables.specs.Places.{ruleAt, placeOf, inOrder, Undoubled, names}
+use Rattle.rules.specs.Meaning.{names}
+use Rattle.rules.specs.Steps.{inOrder}
+use Rattle.tables.specs.Places.{ruleAt, placeOf, Undoubled}
 use Rattle.tables.proofs.Places.{ruleAt-bound, ruleAt-inOrder}
 
 pub inOrder-value : (σ : Assignment) (r : Rule) → termValue σ (inOrder r) ≡ termValue σ r
@@ -21,7 +22,7 @@ unfolding inOrder
 inOrder-value σ (One x c) = refl
 inOrder-value σ (Two x y c) = go (ltb x y)
   where
-    go : (b : Bool) → termValue σ (pickRule b (Two x y c) (Two y x c)) ≡ termValue σ (Two x y c)
+    go : (b : Bool) → termValue σ (cond b (Two x y c) (Two y x c)) ≡ termValue σ (Two x y c)
     go true = refl
     go false = +ℤ-comm (literalValue σ y) (literalValue σ x)
 inOrder-value σ (Nothing c) = refl
@@ -30,7 +31,7 @@ pub ruleAt-value : (σ : Assignment) (k : ℕ) (c d : ℤ) → termValue σ (rul
 unfolding ruleAt
 ruleAt-value σ k c d = go (isOne k)
   where
-    go : (b : Bool) → termValue σ (pickRule b (One (higherAt k) c) (Two (lowerAt k) (higherAt k) c)) ≡ termValue σ (pickRule b (One (higherAt k) d) (Two (lowerAt k) (higherAt k) d))
+    go : (b : Bool) → termValue σ (cond b (One (higherAt k) c) (Two (lowerAt k) (higherAt k) c)) ≡ termValue σ (cond b (One (higherAt k) d) (Two (lowerAt k) (higherAt k) d))
     go true = refl
     go false = refl
 

@@ -13,10 +13,11 @@ use Rattle.words.proofs.Change.{change-below}
 use Rattle.places.specs.Numbering.{blockStart}
 use Rattle.rules.specs.Limits.{noRule}
 use Rattle.rules.specs.Meaning.{Assignment, Meets}
-use Rattle.tables.specs.Places.{ruleAt, names}
+use Rattle.rules.specs.Meaning.{names}
+use Rattle.tables.specs.Places.{ruleAt}
 use Rattle.tables.specs.Tables.{hasRule, cleared}
 use Rattle.tables.specs.Meaning.{Satisfies, SatisfiesWithout}
-use Rattle.tables.proofs.Tests.{not-both}
+use Rattle.tables.proofs.Tests.{clash}
 use Rattle.tables.proofs.Values.{meets-named}
 
 -- what a cleared place holds
@@ -38,7 +39,7 @@ cleared-meaning n q t σ l = (to, of)
 
     go : SatisfiesWithout q n t σ → (k : ℕ) → k < blockStart n → (b : Bool) → names q (ruleAt k (wordAt t k)) ≡ b
         → hasRule (cond b noRule (wordAt t k)) ≡ true → Meets σ (ruleAt k (cond b noRule (wordAt t k)))
-    go s k h true e r = not-both r refl
+    go s k h true e r = clash r refl
     go s k h false e r = s .each k h r e
 
     of : SatisfiesWithout q n t σ → Satisfies n (cleared n q t) σ
@@ -56,4 +57,4 @@ pub without-same : (q n : ℕ) (t : List ℤ) (σ τ : Assignment) → SameBut q
 without-same q n t σ τ s w = record { each = λ k h r e. meets-named σ τ (ruleAt k (wordAt t k)) (other k e) (w .each k h r e) }
   where
     other : (k : ℕ) → names q (ruleAt k (wordAt t k)) ≡ false → (p : ℕ) → names p (ruleAt k (wordAt t k)) ≡ true → σ p ≡ τ p
-    other k e p d = s p (λ same. not-both (rw same at d) e)
+    other k e p d = s p (λ same. clash (rw same at d) e)

@@ -9,7 +9,8 @@ use Rattle.words.specs.Change.{wordAt}
 use Rattle.places.specs.Numbering.{blockStart}
 use Rattle.rules.specs.declared.rule.Rule.{Rule}
 use Rattle.rules.specs.Meaning.{Assignment, Meets}
-use Rattle.tables.specs.Places.{ruleAt, names}
+use Rattle.rules.specs.Meaning.{names}
+use Rattle.tables.specs.Places.{ruleAt}
 use Rattle.tables.specs.Tables.{hasRule}
 
 -- an assignment satisfies a table over n quantities: it meets the rule of every place that has one

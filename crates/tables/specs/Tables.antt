@@ -1,5 +1,5 @@
 -- The table's steps: its size, its empty form, a rule put in, a quantity's places cleared, and the test of its words.
-use mathlib.Core.Bool.{Bool, true, false, cond}
+use mathlib.Core.Bool.{Bool, true, false, cond, _&&_}
 use mathlib.Core.List.{List, [], _∷_}
 use Prim.Native.Nat.{ℕ, zero, suc, _*_}
 use lib.Dec.{leb, ltb, eqb}
@@ -17,27 +17,16 @@ use Rattle.rules.specs.Meaning.{boundOf}
 use Rattle.rules.specs.Steps.{halvedOf}
 use Rattle.tables.specs.declared.reply.Reply.{Reply}
 use Rattle.tables.specs.declared.reply.Reply.the-variants.{Done, Refused}
-use Rattle.tables.specs.Places.{ruleAt, placeOf, names}
-
-abbrev pub pickReply : Bool → Reply → Reply → Reply
-pickReply true r s = r
-pickReply false r s = s
-
-abbrev pub pickTable : Bool → List ℤ → List ℤ → List ℤ
-pickTable true t u = t
-pickTable false t u = u
-
-abbrev pub both : Bool → Bool → Bool
-both true b = b
-both false b = false
+use Rattle.rules.specs.Meaning.{names}
+use Rattle.tables.specs.Places.{ruleAt, placeOf}
 
 -- the words of a table over n quantities; none where n is outside 1 to 32
 unfoldable pub tableSize : ℕ → ℕ
-tableSize n = cond (both (leb 1 n) (leb n maxQuantities)) (blockStart n) 0
+tableSize n = cond (leb 1 n && leb n maxQuantities) (blockStart n) 0
 
 -- a table of so many words serves n quantities: n is in its range, and the table is long enough
 unfoldable pub serves : ℕ → ℕ → Bool
-serves n words = both (ltb 0 (tableSize n)) (leb (tableSize n) words)
+serves n words = ltb 0 (tableSize n) && leb (tableSize n) words
 
 -- does a word hold a rule? Any word but the no-rule word does, which is the largest of 64 bits
 abbrev pub hasRule : ℤ → Bool
@@ -49,16 +38,16 @@ emptyTable n = replicate (blockStart n) noRule
 
 -- the reply to a rule for a table over n quantities. 3: a quantity past n, or the no-rule word as a bound; 4: +q-q; 5: a bare 0 ≤ c with c below 0
 unfoldable pub ruleReply : ℕ → Rule → Reply
-ruleReply n (One x c) = pickReply (both (ltb x (2 * n)) (hasRule c)) Done (Refused (OutOfLimit 0))
+ruleReply n (One x c) = cond (ltb x (2 * n) && hasRule c) Done (Refused (OutOfLimit 0))
 ruleReply n (Two x y c) =
-    pickReply (both (both (ltb x (2 * n)) (ltb y (2 * n))) (hasRule c))
-    (pickReply (eqb y (negated x)) (Refused (Cancelling 0)) Done)
+    cond (ltb x (2 * n) && ltb y (2 * n) && hasRule c)
+    (cond (eqb y (negated x)) (Refused (Cancelling 0)) Done)
     (Refused (OutOfLimit 0))
-ruleReply n (Nothing c) = pickReply (ltZ c (pos 0)) (Refused NoAssignment) Done
+ruleReply n (Nothing c) = cond (ltZ c (pos 0)) (Refused NoAssignment) Done
 
 -- the reply to putting a rule into a table of so many words
 unfoldable pub putReply : ℕ → ℕ → Rule → Reply
-putReply n words r = pickReply (serves n words) (ruleReply n r) (Refused Size)
+putReply n words r = cond (serves n words) (ruleReply n r) (Refused Size)
 
 abbrev pub isDone : Reply → Bool
 isDone Done = true
@@ -89,14 +78,14 @@ cleared n q t = change (blockStart n) (λ k w. cond (names q (ruleAt k w)) noRul
 
 -- the reply to clearing quantity q. 3: it is none of 1 to n
 unfoldable pub clearReply : ℕ → ℕ → ℕ → Reply
-clearReply n words q = pickReply (serves n words) (pickReply (both (leb 1 q) (leb q n)) Done (Refused (OutOfLimit 0))) (Refused Size)
+clearReply n words q = cond (serves n words) (cond (leb 1 q && leb q n) Done (Refused (OutOfLimit 0))) (Refused Size)
 
 -- a word is no rule, or a bound of at most B in magnitude
 unfoldable pub inLimit : ℤ → ℤ → Bool
-inLimit B w = cond (hasRule w) (both (leZ (negℤ B) w) (leZ w B)) true
+inLimit B w = cond (hasRule w) (leZ (negℤ B) w && leZ w B) true
 
 -- the first m words of a list, or all where there are fewer, are each in the limit
 unfoldable pub wordsInLimit : ℕ → ℤ → List ℤ → Bool
 wordsInLimit zero B t = true
 wordsInLimit (suc m) B [] = true
-wordsInLimit (suc m) B (w ∷ t) = both (inLimit B w) (wordsInLimit m B t)
+wordsInLimit (suc m) B (w ∷ t) = inLimit B w && wordsInLimit m B t

@@ -1,18 +1,19 @@
 -- `rule::of_pair` meets its contract: the tests are the definition's, in its order. Assumes nothing.
+use mathlib.Core.Bool.{cond}
 use mathlib.Core.Path.{_≡_, _∙_}
 use lib.Dec.{ltb}
 use borrow.Author.Needs.{needs}
 use borrow.Author.Tests.{eq-eqb, ne-eqb, lt-ltb, le-ltb}
 use Rattle.integers.proofs.Parts.{word-value}
 use Rattle.rules.specs.declared.rule.Rule.the-variants.{Two}
-use Rattle.rules.specs.Steps.{pickRule, ruleOfPair}
+use Rattle.rules.specs.Steps.{ruleOfPair}
 use Rattle.integers.proofs.Parts.{held-value}
 use Rattle.rules.proofs.rule.of_pair.Statement.{statement}
 use Rattle.rules.proofs.rule.of_pair.Tie as tie
 
 -- two literals that are not alike and do not cancel
 unlike : (c : tie.Else2) → let s = c .before .before .before .args in
-    ruleOfPair (s .x) (s .y) (s .bound) ≡ pickRule (ltb (s .x) (s .y)) (Two (s .x) (s .y) (s .bound)) (Two (s .y) (s .x) (s .bound))
+    ruleOfPair (s .x) (s .y) (s .bound) ≡ cond (ltb (s .x) (s .y)) (Two (s .x) (s .y) (s .bound)) (Two (s .y) (s .x) (s .bound))
 unfolding ruleOfPair
 unlike c = rw (ne-eqb _ _ (c .before .before .if1 .left), ne-eqb _ _ (rw (c .before .negate .ensures) at (c .if2 .left)))
 

@@ -1,7 +1,7 @@
 -- `limit::is_table_in` meets its contract. The loop's invariant: the answer is that of the words that are left. The measure is their number.
 -- Assumes nothing.
 use mathlib.Core.Path.{_≡_, refl, sym, _∙_, ap}
-use mathlib.Core.Bool.{true, false}
+use mathlib.Core.Bool.{true, false, _&&_}
 use Prim.Native.Nat.{ℕ, _+_, _-_, _≤_}
 use native.Mathlib.Nat.{sub-zero}
 use native.Mathlib.Omega.{arith}
@@ -14,7 +14,7 @@ use borrow.Author.Needs.{needs}
 use borrow.Author.Tests.{not-true, not-false}
 use Rattle.integers.proofs.Parts.{word-value, held-value}
 use Rattle.words.specs.Change.{wordAt}
-use Rattle.tables.specs.Tables.{both, inLimit, wordsInLimit}
+use Rattle.tables.specs.Tables.{inLimit, wordsInLimit}
 use Rattle.tables.proofs.Limits.{inLimit-more, inLimit-none, inLimit-zero}
 use Rattle.tables.proofs.limit.is_table_in.Statement.{statement}
 use Rattle.tables.proofs.limit.is_table_in.Tie as tie
@@ -31,7 +31,7 @@ answer c = ap (λ (z : ℤ). wordsInLimit (c .args .m) z (now (c .args .table)))
 
 -- the present word passes or not, and then the words that are left decide
 step : (c : tie.After-is-word-in Inv-loop μ-loop) → let l = c .before .before .before .before in let s = l .before in
-    both (c .is-word-in .result) (wordsInLimit (s .args .m - (l .loop .i + 1)) (toZ w64 (ofZ w64 (s .args .limit))) (drop (l .loop .i + 1) (now (s .args .table))))
+    _&&_ (c .is-word-in .result) (wordsInLimit (s .args .m - (l .loop .i + 1)) (toZ w64 (ofZ w64 (s .args .limit))) (drop (l .loop .i + 1) (now (s .args .table))))
     ≡ wordsInLimit (s .args .m) (toZ w64 (ofZ w64 (s .args .limit))) (now (s .args .table))
 step c = let l = c .before .before .before .before in let s = l .before in
     rw (c .is-word-in .ensures, held-value {z = wordAt (now (s .args .table)) (l .loop .i)} (c .before .w .given))

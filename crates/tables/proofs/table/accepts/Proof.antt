@@ -1,6 +1,6 @@
 -- `table::accepts` meets its contract: its tests are the definition's, a literal being below 2n where its half is below n. Assumes nothing.
 use mathlib.Core.Path.{_≡_, refl, sym, _∙_}
-use mathlib.Core.Bool.{Bool, true, false}
+use mathlib.Core.Bool.{Bool, true, false, cond}
 use Prim.Native.Nat.{ℕ, _*_, _/_, _≤_, _<_}
 use native.Mathlib.Omega.{arith}
 use lib.Dec.{eqb, ltb}
@@ -14,7 +14,7 @@ use Rattle.rules.specs.Literal.{negated}
 use Rattle.integers.proofs.Parts.{held-value}
 use Rattle.tables.specs.declared.reply.Reply.{Reply}
 use Rattle.tables.specs.declared.reply.Reply.the-variants.{Done, Refused}
-use Rattle.tables.specs.Tables.{ruleReply, pickReply, hasRule}
+use Rattle.tables.specs.Tables.{ruleReply, hasRule}
 use Rattle.tables.proofs.table.accepts.Statement.{statement}
 use Rattle.tables.proofs.table.accepts.Tie as tie
 
@@ -33,7 +33,7 @@ one-past : (n x : ℕ) (c : ℤ) → n ≤ x / 2 → outside ≡ ruleReply n (On
 unfolding ruleReply
 one-past n x c h = rw (past n x h)
 
-one-inside : (n x : ℕ) (c : ℤ) (t : Bool) → x / 2 < n → hasRule c ≡ t → pickReply t Done outside ≡ ruleReply n (One x c)
+one-inside : (n x : ℕ) (c : ℤ) (t : Bool) → x / 2 < n → hasRule c ≡ t → cond t Done outside ≡ ruleReply n (One x c)
 unfolding ruleReply
 one-inside n x c t h e = rw (inside n x h, e)
 
@@ -46,11 +46,11 @@ unfolding ruleReply
 two-past-second n x y c h g = rw (inside n x h, past n y g)
 
 two-inside : (n x y : ℕ) (c : ℤ) (t u : Bool) → x / 2 < n → y / 2 < n → hasRule c ≡ t → eqb y (negated x) ≡ u
-    → pickReply t (pickReply u (Refused (Cancelling 0)) Done) outside ≡ ruleReply n (Two x y c)
+    → cond t (cond u (Refused (Cancelling 0)) Done) outside ≡ ruleReply n (Two x y c)
 unfolding ruleReply
 two-inside n x y c t u h g e f = rw (inside n x h, inside n y g, e, f)
 
-bare : (n : ℕ) (c : ℤ) (t : Bool) → ltZ c (pos 0) ≡ t → pickReply t (Refused NoAssignment) Done ≡ ruleReply n (Nothing c)
+bare : (n : ℕ) (c : ℤ) (t : Bool) → ltZ c (pos 0) ≡ t → cond t (Refused NoAssignment) Done ≡ ruleReply n (Nothing c)
 unfolding ruleReply
 bare n c t e = rw e
 

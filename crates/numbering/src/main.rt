@@ -1,4 +1,5 @@
 // Prints the numbering of terms for three quantities, from place to term and back, and the halvings of document 01.
+use places::Place;
 use rules::rule::Rule;
 
 const OUT: i32 = 1;
@@ -21,28 +22,30 @@ fn print_signed(c: i64) {
     io::print_decimal(OUT, integers::magnitude(c));
 }
 
+// The term of a rule as document 01 writes it.
+fn print_term(rule: Rule) {
+    match rule {
+        Rule::One { literal, bound: _ } => {
+            print_literal(literal);
+        }
+        Rule::Two { first, second, bound: _ } => {
+            print_literal(first);
+            print_literal(second);
+        }
+        Rule::Nothing { bound: _ } => {}
+    }
+}
+
 // The term of a place, and the place of that term.
 fn print_place(place: u32) {
     io::print_decimal(OUT, place as u64);
     io::write_all(OUT, b" ");
     let rule = tables::place::rule_at(place, 0);
-    match rule {
-        Rule::One { literal, bound: _ } => {
-            print_literal(literal);
-            io::write_all(OUT, b" ");
-            io::print_decimal(OUT, places::of_one(literal) as u64);
-        }
-        Rule::Two {
-            first,
-            second,
-            bound: _,
-        } => {
-            print_literal(first);
-            print_literal(second);
-            io::write_all(OUT, b" ");
-            io::print_decimal(OUT, places::of_two(first, second) as u64);
-        }
-        Rule::Nothing { bound: _ } => {}
+    print_term(rule);
+    let back = tables::place::place_of(rule);
+    if let Place::At(k) = back {
+        io::write_all(OUT, b" ");
+        io::print_decimal(OUT, k as u64);
     }
     io::write_all(OUT, b"\n");
 }

@@ -3,6 +3,8 @@
 use mathlib.Core.Bool.{Bool, true, false, cond}
 use Prim.Native.Nat.{ℕ, zero, suc, _+_, _-_, _*_, _/_, _%_}
 use lib.Dec.{leb, ltb, eqb}
+use Rattle.places.specs.declared.Place.{Place}
+use Rattle.places.specs.declared.Place.the-variants.{At, Nowhere}
 
 -- where the block of quantity j + 1 starts; so a table over n quantities has blockStart n words
 unfoldable pub blockStart : ℕ → ℕ
@@ -19,6 +21,10 @@ placeOfPair x y = blockStart (y / 2) + 2 + 2 * x + y % 2
 -- the place of two literals of different quantities, in either order
 unfoldable pub placeOfTwo : ℕ → ℕ → ℕ
 placeOfTwo x y = cond (ltb x y) (placeOfPair x y) (placeOfPair y x)
+
+-- where the term of two literals stands; two of one quantity have no place
+unfoldable pub findTwo : ℕ → ℕ → Place
+findTwo x y = cond (eqb (x / 2) (y / 2)) Nowhere (At (placeOfTwo x y))
 
 -- the largest j, up to the first number, whose block starts at the place k or before it
 unfoldable pub blockUpTo : ℕ → ℕ → ℕ

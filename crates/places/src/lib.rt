@@ -1,6 +1,6 @@
 // The numbering of terms: the place of a term, and the term of a place.
 ghost use mathlib.Core.Path.{_≡_};
-ghost use Rattle.places.specs.Numbering.{placeOfOne, placeOfPair, placeOfTwo, blockOf};
+ghost use Rattle.places.specs.Numbering.{placeOfOne, placeOfPair, findTwo, blockOf};
 
 // The place of the term of one literal.
 pub fn of_one(x: u32) -> usize
@@ -18,17 +18,26 @@ fn of_pair(x: u32, y: u32) -> usize
     2 * (j * j) + 2 + 2 * (x as usize) + y as usize % 2
 }
 
-// The place of the term of two literals, in either order, of different quantities.
-pub fn of_two(x: u32, y: u32) -> usize
-    ensures { λ r. ⌜ r ≡ placeOfTwo x y ⌝ }
-{
-    if x < y {
-        return of_pair(x, y);
-    }
-    of_pair(y, x)
+// Where a term stands in a table.
+pub enum Place {
+    At(usize),
+    Nowhere,
 }
 
-// The block in which a place lies, by its quantity less 1.
+// The place of the term of two literals, in either order; two of one quantity have none.
+pub fn of_two(x: u32, y: u32) -> Place
+    ensures { λ r. ⌜ r ≡ findTwo x y ⌝ }
+{
+    if x / 2 == y / 2 {
+        return Place::Nowhere;
+    }
+    if x < y {
+        return Place::At(of_pair(x, y));
+    }
+    Place::At(of_pair(y, x))
+}
+
+// The block in which a place lies, by its quantity less 1. A place of 32 bits lies in a block of 16.
 pub fn block(place: u32) -> u32
     ensures { λ r. ⌜ r ≡ blockOf place ⌝ }
 {

@@ -9,24 +9,25 @@ use lib.IntN.{ℤ, pos, negℤ}
 use lib.ListN.{length, drop}
 use lib.Seq.{drop-cons}
 use lib.Signed.{leZ, _≤ℤ_}
-use Rattle.integers.specs.Bound.{Within}
 use Rattle.integers.proofs.Parts.{linear, leZ-true, le-leZ}
 use Rattle.words.specs.Change.{wordAt}
 use Rattle.tables.specs.Tables.{hasRule, inLimit, wordsInLimit}
+use Rattle.tables.specs.Meaning.{WordsWithin}
 use Rattle.tables.proofs.Tests.{both-true, clash}
 
-pub inLimit-within : (B : ℕ) (w : ℤ) → (inLimit (pos B) w ≡ true) ↔ (hasRule w ≡ true → Within B w)
+-- a word that holds a rule is at most B in magnitude
+abbrev pub Bounded : ℤ → ℤ → Type 0
+Bounded B w = hasRule w ≡ true → (negℤ B ≤ℤ w) × (w ≤ℤ B)
+
+pub inLimit-bounded : (B w : ℤ) → (inLimit B w ≡ true) ↔ Bounded B w
 unfolding inLimit
-inLimit-within B w = go (hasRule w)
+inLimit-bounded B w = go (hasRule w)
   where
-    go : (t : Bool) → (cond t (_&&_ (leZ (negℤ (pos B)) w) (leZ w (pos B))) true ≡ true) ↔ (t ≡ true → Within B w)
-    go true = (
-      λ e q. let p = both-true (leZ (negℤ (pos B)) w) (leZ w (pos B)) e in record {
-        above = omega (linear, leZ-true (negℤ (pos B)) w (p .0));
-        below = omega (linear, leZ-true w (pos B) (p .1));
-      },
-      λ h. rw (le-leZ (negℤ (pos B)) w (h refl .above), le-leZ w (pos B) (h refl .below)),
-    )
+    go : (t : Bool) → (cond t (leZ (negℤ B) w && leZ w B) true ≡ true) ↔ (t ≡ true → (negℤ B ≤ℤ w) × (w ≤ℤ B))
+    go true =
+      (λ e q. let p = both-true (leZ (negℤ B) w) (leZ w B) e in
+        (omega (linear, leZ-true (negℤ B) w (p .0)), omega (linear, leZ-true w B (p .1)))
+      , λ h. rw (le-leZ (negℤ B) w (h refl .0), le-leZ w B (h refl .1)))
     go false = (λ e q. clash q refl, λ h. refl)
 
 -- one word more
@@ -50,19 +51,23 @@ pub inLimit-zero : (B : ℤ) (t : List ℤ) → wordsInLimit 0 B t ≡ true
 unfolding wordsInLimit
 inLimit-zero B t = refl
 
-pub wordsInLimit-within : (m B : ℕ) (t : List ℤ) → (wordsInLimit m (pos B) t ≡ true) ↔ ((k : ℕ) → k < m → k < length t → hasRule (wordAt t k) ≡ true → Within B (wordAt t k))
+-- the test passes exactly where each of the words is bounded
+all-bounded : (m : ℕ) (B : ℤ) (t : List ℤ) → (wordsInLimit m B t ≡ true) ↔ ((k : ℕ) → k < m → k < length t → Bounded B (wordAt t k))
 unfolding wordsInLimit
-wordsInLimit-within zero B t = (λ e k h l q. let z : ⊥ = omega arith in absurd z, λ f. refl)
-wordsInLimit-within (suc m) B [] = (λ e k h l q. let z : ⊥ = omega arith in absurd z, λ f. refl)
-wordsInLimit-within (suc m) B (w ∷ t) = (to (wordsInLimit-within m B t .0), of (wordsInLimit-within m B t .1))
+all-bounded zero B t = (λ e k h l q. let z : ⊥ = omega arith in absurd z, λ f. refl)
+all-bounded (suc m) B [] = (λ e k h l q. let z : ⊥ = omega arith in absurd z, λ f. refl)
+all-bounded (suc m) B (w ∷ t) = (to (all-bounded m B t .0), of (all-bounded m B t .1))
   where
-    to : (wordsInLimit m (pos B) t ≡ true → (k : ℕ) → k < m → k < length t → hasRule (wordAt t k) ≡ true → Within B (wordAt t k))
-        → _&&_ (inLimit (pos B) w) (wordsInLimit m (pos B) t) ≡ true
-        → (k : ℕ) → k < suc m → k < suc (length t) → hasRule (wordAt (w ∷ t) k) ≡ true → Within B (wordAt (w ∷ t) k)
-    to ih e zero h l q = inLimit-within B w .0 (both-true (inLimit (pos B) w) (wordsInLimit m (pos B) t) e .0) q
-    to ih e (suc k) h l q = ih (both-true (inLimit (pos B) w) (wordsInLimit m (pos B) t) e .1) k (omega arith) (omega arith) q
+    to : (wordsInLimit m B t ≡ true → (k : ℕ) → k < m → k < length t → Bounded B (wordAt t k))
+        → (inLimit B w && wordsInLimit m B t) ≡ true
+        → (k : ℕ) → k < suc m → k < suc (length t) → Bounded B (wordAt (w ∷ t) k)
+    to ih e zero h l = inLimit-bounded B w .0 (both-true (inLimit B w) (wordsInLimit m B t) e .0)
+    to ih e (suc k) h l = ih (both-true (inLimit B w) (wordsInLimit m B t) e .1) k (omega arith) (omega arith)
 
-    of : (((k : ℕ) → k < m → k < length t → hasRule (wordAt t k) ≡ true → Within B (wordAt t k)) → wordsInLimit m (pos B) t ≡ true)
-        → ((k : ℕ) → k < suc m → k < suc (length t) → hasRule (wordAt (w ∷ t) k) ≡ true → Within B (wordAt (w ∷ t) k))
-        → _&&_ (inLimit (pos B) w) (wordsInLimit m (pos B) t) ≡ true
-    of ih f = rw (inLimit-within B w .1 (f 0 (omega arith) (omega arith)), ih (λ k h l q. f (suc k) (omega arith) (omega arith) q))
+    of : (((k : ℕ) → k < m → k < length t → Bounded B (wordAt t k)) → wordsInLimit m B t ≡ true)
+        → ((k : ℕ) → k < suc m → k < suc (length t) → Bounded B (wordAt (w ∷ t) k))
+        → (inLimit B w && wordsInLimit m B t) ≡ true
+    of ih f = rw (inLimit-bounded B w .1 (f 0 (omega arith) (omega arith)), ih (λ k h l. f (suc k) (omega arith) (omega arith)))
+
+pub wordsInLimit-within : (m : ℕ) (B : ℤ) (t : List ℤ) → (wordsInLimit m B t ≡ true) ↔ WordsWithin m B t
+wordsInLimit-within m B t = (λ e. record { each = all-bounded m B t .0 e }, λ w. all-bounded m B t .1 (w .each))

@@ -7,35 +7,29 @@ use Prim.Native.Nat.{ℕ, _≤_, _<_}
 use native.Mathlib.Omega.{arith}
 use lib.IntN.{ℤ, pos}
 use lib.ListN.{length, getD-replicate, length-replicate}
-use Rattle.words.specs.Change.{wordAt, lowered}
+use Rattle.words.specs.Change.{wordAt}
 use Rattle.words.proofs.Change.{lowered-length}
+use Rattle.places.specs.declared.Place.{Place}
+use Rattle.places.specs.declared.Place.the-variants.{At, Nowhere}
 use Rattle.places.specs.Numbering.{blockStart}
 use Rattle.rules.specs.declared.rule.Rule.{Rule}
-use Rattle.rules.specs.declared.rule.Rule.the-variants.{One, Two, Nothing}
 use Rattle.rules.specs.Limits.{noRule}
-use Rattle.rules.specs.Meaning.{Assignment, Meets}
+use Rattle.rules.specs.Meaning.{Assignment, Meets, boundOf}
 use Rattle.rules.specs.Steps.{halvedOf}
-use Rattle.tables.specs.declared.reply.Reply.the-variants.{Done}
-use Rattle.tables.specs.Places.{ruleAt, placeOf}
-use Rattle.tables.specs.Tables.{hasRule, emptyTable, ruleReply, putUndoubled, putRule, putAll, tableOf}
+use Rattle.tables.specs.Places.{ruleAt, findPlace}
+use Rattle.tables.specs.Tables.{hasRule, emptyTable, putAt, putHalved, putRule, putAll, AllAccepted, tableOf}
 use Rattle.tables.specs.Meaning.{Satisfies, MeetsAll}
 use Rattle.tables.proofs.Tests.{clash}
 use Rattle.tables.proofs.Putting.{accepted-put}
 
--- each rule of a list is accepted for n quantities
-abbrev pub AllAccepted : ℕ → List Rule → Type 0
-AllAccepted n [] = Unit {0}
-AllAccepted n (r ∷ rs) = (ruleReply n r ≡ Done) × AllAccepted n rs
-
-undoubled-length : (t : List ℤ) (r : Rule) → length (putUndoubled t r) ≡ length t
-unfolding putUndoubled
-undoubled-length t (One x c) = lowered-length t (placeOf (One x c)) c
-undoubled-length t (Two x y c) = lowered-length t (placeOf (Two x y c)) c
-undoubled-length t (Nothing c) = refl
+at-length : (t : List ℤ) (k : Place) (w : ℤ) → length (putAt t k w) ≡ length t
+unfolding putAt
+at-length t (At k) w = lowered-length t k w
+at-length t Nowhere w = refl
 
 pub put-length : (t : List ℤ) (r : Rule) → length (putRule t r) ≡ length t
-unfolding putRule
-put-length t r = undoubled-length t (halvedOf r)
+unfolding putRule putHalved
+put-length t r = at-length t (findPlace (halvedOf r)) (boundOf (halvedOf r))
 
 pub putAll-length : (t : List ℤ) (rs : List Rule) → length (putAll t rs) ≡ length t
 unfolding putAll
@@ -56,8 +50,8 @@ putAll-meaning n t (r ∷ rs) σ l a =
 pub empty-satisfied : (n : ℕ) (σ : Assignment) → Satisfies n (emptyTable n) σ
 empty-satisfied n σ = record { each = go }
   where
-    go : (k : ℕ) → k < blockStart n → hasRule (wordAt (emptyTable n) k) ≡ true → Meets σ (ruleAt k (wordAt (emptyTable n) k))
-    go k h e = clash {b = hasRule noRule} (rw (getD-replicate (blockStart n) k noRule (pos 0) h) at e) refl
+    go : (k : ℕ) → k < blockStart n → k < length (emptyTable n) → hasRule (wordAt (emptyTable n) k) ≡ true → Meets σ (ruleAt k (wordAt (emptyTable n) k))
+    go k h l e = clash {b = hasRule noRule} (rw (getD-replicate (blockStart n) k noRule (pos 0) h) at e) refl
 
 pub tableOf-length : (n : ℕ) (rs : List Rule) → length (tableOf n rs) ≡ blockStart n
 tableOf-length n rs = putAll-length (emptyTable n) rs ∙ length-replicate (blockStart n) noRule

@@ -6,32 +6,32 @@ use mathlib.Core.List.{List}
 use mathlib.Core.Logic.{_↔_}
 use Prim.Native.Nat.{ℕ, _≤_, _<_}
 use lib.IntN.{ℤ, pos}
-use lib.Signed.{_≤ℤ_}
+use lib.ListN.{length}
 use Rattle.words.specs.Change.{wordAt}
 use Rattle.places.specs.Numbering.{blockStart}
 use Rattle.rules.specs.declared.rule.Rule.{Rule}
 use Rattle.rules.specs.Meaning.{Assignment, Meets, termValue, boundOf}
 use Rattle.rules.specs.Meaning.{names}
-use Rattle.tables.specs.Places.{ruleAt, placeOf, Undoubled}
+use Rattle.tables.specs.Places.{ruleAt, placeOf, HasPlace}
 use Rattle.tables.specs.Tables.{hasRule}
 use Rattle.tables.specs.Meaning.{Satisfies, joined, SheetAllows, ScriptAllows, SameVisible, NamesVisible}
-use Rattle.tables.proofs.Places.{ruleAt-bound, ruleAt-place, ruleAt-undoubled, undoubled-below, undoubled-names}
+use Rattle.tables.proofs.Places.{ruleAt-bound, ruleAt-place, ruleAt-hasPlace, hasPlace-below, hasPlace-names}
 use Rattle.tables.proofs.Values.{place-value, meets-at, meets-named}
 
--- the same, term by term: an assignment satisfies a table where it meets every undoubled rule over n quantities whose bound is the word at
--- its place
+-- the same, term by term: an assignment satisfies a table where it meets every rule that has a place in it and whose bound is the
+-- word there
 pub satisfies-terms : (n : ℕ) (t : List ℤ) (σ : Assignment)
-    → Satisfies n t σ ↔ ((r : Rule) → Undoubled n r → boundOf r ≡ wordAt t (placeOf r) → hasRule (boundOf r) ≡ true → Meets σ r)
+    → Satisfies n t σ ↔ ((r : Rule) → HasPlace n r → placeOf r < length t → boundOf r ≡ wordAt t (placeOf r) → hasRule (boundOf r) ≡ true → Meets σ r)
 satisfies-terms n t σ = (to, of)
   where
-    to : Satisfies n t σ → (r : Rule) → Undoubled n r → boundOf r ≡ wordAt t (placeOf r) → hasRule (boundOf r) ≡ true → Meets σ r
-    to s r u e h =
-        let m = s .each (placeOf r) (undoubled-below n r u) (rw (← e) h) in
+    to : Satisfies n t σ → (r : Rule) → HasPlace n r → placeOf r < length t → boundOf r ≡ wordAt t (placeOf r) → hasRule (boundOf r) ≡ true → Meets σ r
+    to s r u l e h =
+        let m = s .each (placeOf r) (hasPlace-below n r u) l (rw (← e) h) in
         record { met = rw (← place-value n σ r (pos 0) u, e) (meets-at σ (placeOf r) (wordAt t (placeOf r)) m) }
 
-    of : ((r : Rule) → Undoubled n r → boundOf r ≡ wordAt t (placeOf r) → hasRule (boundOf r) ≡ true → Meets σ r) → Satisfies n t σ
+    of : ((r : Rule) → HasPlace n r → placeOf r < length t → boundOf r ≡ wordAt t (placeOf r) → hasRule (boundOf r) ≡ true → Meets σ r) → Satisfies n t σ
     of f = record {
-      each = λ k h e. f (ruleAt k (wordAt t k)) (ruleAt-undoubled n k (wordAt t k) h)
+      each = λ k h l e. f (ruleAt k (wordAt t k)) (ruleAt-hasPlace n k (wordAt t k) h) (rw (ruleAt-place k (wordAt t k)) l)
           (rw (ruleAt-bound k (wordAt t k), ruleAt-place k (wordAt t k))) (rw (ruleAt-bound k (wordAt t k)) e);
     }
 
@@ -40,11 +40,11 @@ abbrev pub Agree : ℕ → Assignment → Assignment → Type 0
 Agree n σ τ = (q : ℕ) → 1 ≤ q → q ≤ n → σ q ≡ τ q
 
 pub satisfies-agree : (n : ℕ) (t : List ℤ) (σ τ : Assignment) → Agree n σ τ → Satisfies n t σ → Satisfies n t τ
-satisfies-agree n t σ τ a s = record { each = λ k h e. meets-named σ τ (ruleAt k (wordAt t k)) (same k h) (s .each k h e) }
+satisfies-agree n t σ τ a s = record { each = λ k h l e. meets-named σ τ (ruleAt k (wordAt t k)) (same k h) (s .each k h l e) }
   where
     same : (k : ℕ) → k < blockStart n → (q : ℕ) → names q (ruleAt k (wordAt t k)) ≡ true → σ q ≡ τ q
     same k h q e =
-        let l = undoubled-names n q (ruleAt k (wordAt t k)) (ruleAt-undoubled n k (wordAt t k) h) e in a q (l .0) (l .1)
+        let l = hasPlace-names n q (ruleAt k (wordAt t k)) (ruleAt-hasPlace n k (wordAt t k) h) e in a q (l .0) (l .1)
 
 -- what the sheet allows does not depend on what stands at hidden quantities, nor on quantities past n
 pub allows-visible : (n : ℕ) (hidden : ℕ → Bool) (t : List ℤ) (σ τ : Assignment) → SameVisible n hidden σ τ
@@ -66,9 +66,16 @@ allows-none-visible n hidden t σ τ all = allows-visible n hidden t σ τ (λ q
 -- a script whose rules name visible quantities alone allows visible integers whatever stands at the hidden quantities
 pub script-visible : (n : ℕ) (hidden : ℕ → Bool) (t : List ℤ) (σ τ : Assignment) → NamesVisible n hidden t → SameVisible n hidden σ τ
     → ScriptAllows n t σ → ScriptAllows n t τ
-script-visible n hidden t σ τ v same s = record {
-  each = λ k h e. meets-named σ τ (ruleAt k (wordAt t k)) (λ q d. agree k h e q d (undoubled-names n q (ruleAt k (wordAt t k)) (ruleAt-undoubled n k (wordAt t k) h) d)) (s .each k h e);
-}
+script-visible n hidden t σ τ v same s = record
+  { each = λ k h l e. meets-named σ τ (ruleAt k (wordAt t k)) (agree k h l e) (s .each k h l e)
+  }
   where
-    agree : (k : ℕ) → k < blockStart n → hasRule (wordAt t k) ≡ true → (q : ℕ) → names q (ruleAt k (wordAt t k)) ≡ true → (1 ≤ q) × (q ≤ n) → σ q ≡ τ q
-    agree k h e q d l = same q (l .0) (l .1) (v .each k h e q d)
+    agree : (k : ℕ) → k < blockStart n → k < length t → hasRule (wordAt t k) ≡ true → (q : ℕ) → names q (ruleAt k (wordAt t k)) ≡ true → σ q ≡ τ q
+    agree k h l e q d =
+      let i = hasPlace-names n q (ruleAt k (wordAt t k)) (ruleAt-hasPlace n k (wordAt t k) h) d in
+      same q (i .0) (i .1) (v .each k h l e q d)
+
+-- where no quantity is visible it allows the one empty choice or forbids it
+pub script-none-visible : (n : ℕ) (hidden : ℕ → Bool) (t : List ℤ) (σ τ : Assignment) → NamesVisible n hidden t
+    → ((q : ℕ) → 1 ≤ q → q ≤ n → hidden q ≡ true) → ScriptAllows n t σ → ScriptAllows n t τ
+script-none-visible n hidden t σ τ v all = script-visible n hidden t σ τ v (λ q l h e. cc (all q l h))

@@ -1,4 +1,4 @@
--- Places and undoubled terms go together one by one: each undoubled term over n quantities has a place below 2n², and each such place is that of
+-- Places and terms go together one by one: each term of one or two different quantities of 1 to n has a place below 2n², and each such place is that of
 -- exactly one, which is `ruleAt`. Assumes nothing.
 use mathlib.Core.Path.{_≡_, refl, sym, _∙_, ap}
 use mathlib.Core.Bool.{Bool, true, false, cond}
@@ -8,15 +8,16 @@ use native.Mathlib.Omega.{arith}
 use lib.Dec.{ltb, eqb}
 use lib.IntN.{ℤ}
 use borrow.Author.Tests.{ltb-true, ltb-false, lt-ltb, le-ltb, eqb-true, eq-eqb, ne-eqb}
-use Rattle.places.specs.Numbering.{blockStart, placeOfOne, placeOfPair, placeOfTwo, blockOf, offsetOf, isOne, higherAt, lowerAt}
-use Rattle.places.proofs.Numbering.{one-below, pair-below, one-isOne, one-higher, pair-isOne, pair-higher, pair-lower, higher-half, at-one, at-lower, at-pair, at-below}
+use Rattle.places.specs.declared.Place.the-variants.{At, Nowhere}
+use Rattle.places.specs.Numbering.{blockStart, placeOfOne, placeOfPair, placeOfTwo, findTwo, blockOf, offsetOf, isOne, higherAt, lowerAt}
+use Rattle.places.proofs.Numbering.{block-ends, one-below, pair-below, one-isOne, one-higher, pair-isOne, pair-higher, pair-lower, higher-half, at-one, at-lower, at-pair, at-below}
 use Rattle.rules.specs.declared.rule.Rule.{Rule}
 use Rattle.rules.specs.declared.rule.Rule.the-variants.{One, Two, Nothing}
 use Rattle.rules.specs.Literal.{quantityOf}
 use Rattle.rules.specs.Meaning.{boundOf}
 use Rattle.rules.specs.Meaning.{names}
 use Rattle.rules.specs.Steps.{inOrder}
-use Rattle.tables.specs.Places.{ruleAt, placeOf, Undoubled}
+use Rattle.tables.specs.Places.{ruleAt, placeOf, findPlace, HasPlace}
 
 -- ---- each place is that of a term
 
@@ -36,28 +37,28 @@ ruleAt-place k c = go (isOne k) refl
     go true e = at-one k e
     go false e = rw (lt-ltb (lowerAt k) (higherAt k) (omega (arith, at-lower k e))) (at-pair k e)
 
-pub ruleAt-undoubled : (n k : ℕ) (c : ℤ) → k < blockStart n → Undoubled n (ruleAt k c)
+pub ruleAt-hasPlace : (n k : ℕ) (c : ℤ) → k < blockStart n → HasPlace n (ruleAt k c)
 unfolding ruleAt
-ruleAt-undoubled n k c h = go (isOne k) refl
+ruleAt-hasPlace n k c h = go (isOne k) refl
   where
-    go : (b : Bool) → isOne k ≡ b → Undoubled n (cond b (One (higherAt k) c) (Two (lowerAt k) (higherAt k) c))
+    go : (b : Bool) → isOne k ≡ b → HasPlace n (cond b (One (higherAt k) c) (Two (lowerAt k) (higherAt k) c))
     go true e = at-below n k h
     go false e = (omega (arith, at-below n k h, at-lower k e), at-below n k h, λ q. omega (arith, at-lower k e))
 
 -- ---- each term has its place
 
-pub undoubled-below : (n : ℕ) (r : Rule) → Undoubled n r → placeOf r < blockStart n
+pub hasPlace-below : (n : ℕ) (r : Rule) → HasPlace n r → placeOf r < blockStart n
 unfolding placeOf placeOfTwo
-undoubled-below n (One x c) u = one-below n x u
-undoubled-below n (Two x y c) u = go (ltb x y) refl
+hasPlace-below n (One x c) u = one-below n x u
+hasPlace-below n (Two x y c) u = go (ltb x y) refl
   where
     go : (b : Bool) → ltb x y ≡ b → cond b (placeOfPair x y) (placeOfPair y x) < blockStart n
     go true e = pair-below n x y (omega (arith, ltb-true x y e, u .2)) (u .1)
     go false e = pair-below n y x (omega (arith, ltb-false x y e, u .2)) (u .0)
-undoubled-below n (Nothing c) u = absurd u
+hasPlace-below n (Nothing c) u = absurd u
 
 -- and is the one there
-pub ruleAt-inOrder : (n : ℕ) (r : Rule) → Undoubled n r → ruleAt (placeOf r) (boundOf r) ≡ inOrder r
+pub ruleAt-inOrder : (n : ℕ) (r : Rule) → HasPlace n r → ruleAt (placeOf r) (boundOf r) ≡ inOrder r
 unfolding ruleAt placeOf placeOfTwo inOrder
 ruleAt-inOrder n (One x c) u = rw (one-isOne x, one-higher x)
 ruleAt-inOrder n (Two x y c) u = go (ltb x y) refl
@@ -66,6 +67,32 @@ ruleAt-inOrder n (Two x y c) u = go (ltb x y) refl
     go true e = let l : x / 2 < y / 2 = omega (arith, ltb-true x y e, u .2) in rw (pair-isOne x y l, pair-higher x y l, pair-lower x y l)
     go false e = let l : y / 2 < x / 2 = omega (arith, ltb-false x y e, u .2) in rw (pair-isOne y x l, pair-higher y x l, pair-lower y x l)
 ruleAt-inOrder n (Nothing c) u = absurd u
+
+-- so it is found there
+pub found-two : (x y : ℕ) → (quantityOf x ≡ quantityOf y → ⊥) → findTwo x y ≡ At (placeOfTwo x y)
+unfolding findTwo
+found-two x y u = rw (ne-eqb (x / 2) (y / 2) (λ e. u (omega arith)))
+
+pub hasPlace-found : (n : ℕ) (r : Rule) → HasPlace n r → findPlace r ≡ At (placeOf r)
+unfolding findPlace placeOf
+hasPlace-found n (One x c) u = refl
+hasPlace-found n (Two x y c) u = found-two x y (u .2)
+hasPlace-found n (Nothing c) u = absurd u
+
+pub ruleAt-found : (k : ℕ) (c : ℤ) → findPlace (ruleAt k c) ≡ At k
+ruleAt-found k c =
+    hasPlace-found (suc (blockOf k)) (ruleAt k c) (ruleAt-hasPlace (suc (blockOf k)) k c (block-ends k)) ∙ ap At (ruleAt-place k c)
+
+-- a place below 2n² is that of exactly one term over n quantities, up to the order of its literals
+pub place-exactly-one : (n k : ℕ) (c : ℤ) → k < blockStart n
+    → (HasPlace n (ruleAt k c) × (findPlace (ruleAt k c) ≡ At k))
+    × ((r : Rule) → HasPlace n r → findPlace r ≡ At k → boundOf r ≡ c → inOrder r ≡ ruleAt k c)
+place-exactly-one n k c h = ((ruleAt-hasPlace n k c h, ruleAt-found k c), only)
+  where
+    only : (r : Rule) → HasPlace n r → findPlace r ≡ At k → boundOf r ≡ c → inOrder r ≡ ruleAt k c
+    only r u e b =
+      let same : placeOf r ≡ k = cc (hasPlace-found n r u) in
+      sym (ruleAt-inOrder n r u) ∙ rw (same, b)
 
 -- ---- which places name a quantity
 
@@ -114,12 +141,12 @@ not-named j k c n o = go o (isOne k) refl
     go (inr h) false e = names-two (suc j) k c e ∙ rw (ne-eqb (quantityOf (lowerAt k)) (suc j) (λ q. omega arith), other)
 
 -- an undoubled rule over n quantities names quantities of 1 to n alone
-pub undoubled-names : (n q : ℕ) (r : Rule) → Undoubled n r → names q r ≡ true → (1 ≤ q) × (q ≤ n)
+pub hasPlace-names : (n q : ℕ) (r : Rule) → HasPlace n r → names q r ≡ true → (1 ≤ q) × (q ≤ n)
 unfolding names
-undoubled-names n q (One x c) u e = let h = eqb-true (quantityOf x) q e in omega arith
-undoubled-names n q (Two x y c) u e = go (eqb (quantityOf x) q) refl e
+hasPlace-names n q (One x c) u e = let h = eqb-true (quantityOf x) q e in omega arith
+hasPlace-names n q (Two x y c) u e = go (eqb (quantityOf x) q) refl e
   where
     go : (b : Bool) → eqb (quantityOf x) q ≡ b → cond b true (eqb (quantityOf y) q) ≡ true → (1 ≤ q) × (q ≤ n)
     go true d e = let h = eqb-true (quantityOf x) q d in let l = u .0 in omega arith
     go false d e = let h = eqb-true (quantityOf y) q e in let l = u .1 in omega arith
-undoubled-names n q (Nothing c) u e = absurd u
+hasPlace-names n q (Nothing c) u e = absurd u

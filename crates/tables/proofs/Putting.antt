@@ -11,22 +11,22 @@ use lib.ListN.{length}
 use lib.Signed.{_≤ℤ_, ltZ}
 use borrow.Author.Tests.{eqb-true, eqb-false, ltb-true}
 use Rattle.integers.specs.Bound.{half, smaller}
-use Rattle.integers.proofs.Parts.{linear, positivePart, negativePart, ltZ-true, ltZ-false, parts-half, smaller-left, smaller-right, smaller-either}
+use Rattle.integers.proofs.Parts.{linear, ltZ-true, ltZ-false, smaller-left, smaller-right, smaller-either}
 use Rattle.words.specs.Change.{wordAt, lowered}
-use Rattle.words.proofs.Change.{lowered-same, lowered-other}
+use Rattle.words.proofs.Change.{lowered-length, lowered-same, lowered-other}
 use Rattle.places.specs.Numbering.{blockStart}
 use Rattle.rules.specs.declared.rule.Rule.{Rule}
 use Rattle.rules.specs.declared.rule.Rule.the-variants.{One, Two, Nothing}
 use Rattle.rules.specs.Limits.{noRule}
-use Rattle.rules.specs.Literal.{negated}
+use Rattle.rules.specs.Literal.{quantityOf, negated}
 use Rattle.rules.specs.Meaning.{Assignment, Meets, termValue, boundOf}
 use Rattle.rules.specs.Steps.{halvedOf}
-use Rattle.rules.proofs.Meanings.{doubled-meaning}
+use Rattle.rules.proofs.Meanings.{halved-meaning}
 use Rattle.tables.specs.declared.reply.Reply.the-variants.{Done, Refused}
-use Rattle.tables.specs.Places.{ruleAt, placeOf, Undoubled}
-use Rattle.tables.specs.Tables.{hasRule, ruleReply, putUndoubled, putRule}
+use Rattle.tables.specs.Places.{ruleAt, placeOf, findPlace, HasPlace}
+use Rattle.tables.specs.Tables.{hasRule, ruleReply, putAt, putHalved, putRule}
 use Rattle.tables.specs.Meaning.{Satisfies}
-use Rattle.tables.proofs.Places.{undoubled-below}
+use Rattle.tables.proofs.Places.{hasPlace-below, found-two}
 use Rattle.tables.proofs.Values.{place-value, meets-at, at-meets}
 use Rattle.tables.proofs.Tests.{passed, not-refused, both-true}
 
@@ -48,41 +48,44 @@ module _ (n : ℕ) (t : List ℤ) (k : ℕ) (c : ℤ) (σ : Assignment) (l : k <
       )
 
   lowered-to : k < blockStart n → hasRule c ≡ true → Satisfies n (lowered t k c) σ → Satisfies n t σ × Meets σ (ruleAt k c)
-  lowered-to b e s = (record { each = λ j h q. go j h q (eqb j k) refl }, here .1)
+  lowered-to b e s = (record { each = λ j h g q. go j h g q (eqb j k) refl }, here .1)
     where
-      here′ : (r : hasRule (smaller (wordAt t k) c) ≡ true) → Meets σ (ruleAt k (wordAt t k)) × Meets σ (ruleAt k c)
-      here′ r = stronger (rw (lowered-same t k c l) at (s .each k b (rw (lowered-same t k c l) r)))
+      at-k : hasRule (smaller (wordAt t k) c) ≡ true → Meets σ (ruleAt k (wordAt t k)) × Meets σ (ruleAt k c)
+      at-k r = stronger
+        (rw (lowered-same t k c l) at (s .each k b (rw (lowered-length t k c) l) (rw (lowered-same t k c l) r)))
 
       here : Meets σ (ruleAt k (wordAt t k)) × Meets σ (ruleAt k c)
-      here = here′ (rule-below (smaller (wordAt t k) c) c (smaller-right (wordAt t k) c) e)
+      here = at-k (rule-below (smaller (wordAt t k) c) c (smaller-right (wordAt t k) c) e)
 
-      go : (j : ℕ) → j < blockStart n → hasRule (wordAt t j) ≡ true → (d : Bool) → eqb j k ≡ d → Meets σ (ruleAt j (wordAt t j))
-      go j h q true w = rw (eqb-true j k w) (here .0)
-      go j h q false w =
-          rw (lowered-other t k j c (eqb-false j k w)) at (s .each j h (rw (lowered-other t k j c (eqb-false j k w)) q))
+      go : (j : ℕ) → j < blockStart n → j < length t → hasRule (wordAt t j) ≡ true → (d : Bool) → eqb j k ≡ d → Meets σ (ruleAt j (wordAt t j))
+      go j h g q true w = rw (eqb-true j k w) (here .0)
+      go j h g q false w =
+        let same : wordAt (lowered t k c) j ≡ wordAt t j = lowered-other t k j c (eqb-false j k w) in
+        rw same at (s .each j h (rw (lowered-length t k c) g) (rw same q))
 
   lowered-of : Satisfies n t σ → Meets σ (ruleAt k c) → Satisfies n (lowered t k c) σ
-  lowered-of s m = record { each = λ j h q. go j h q (eqb j k) refl }
+  lowered-of s m = record { each = λ j h g q. go j h (rw (lowered-length t k c) at g) q (eqb j k) refl }
     where
       here : k < blockStart n → hasRule (wordAt (lowered t k c) k) ≡ true → Meets σ (ruleAt k (wordAt (lowered t k c) k))
       here b =
-          rw (lowered-same t k c l)
-          (smaller-either (λ z. hasRule z ≡ true → Meets σ (ruleAt k z)) (wordAt t k) c (s .each k b) (λ q. m))
+        rw (lowered-same t k c l)
+        (smaller-either (λ z. hasRule z ≡ true → Meets σ (ruleAt k z)) (wordAt t k) c (s .each k b l) (λ q. m))
 
-      go : (j : ℕ) → j < blockStart n → hasRule (wordAt (lowered t k c) j) ≡ true → (d : Bool) → eqb j k ≡ d → Meets σ (ruleAt j (wordAt (lowered t k c) j))
-      go j h q true w =
-          subst (λ (i : ℕ). i < blockStart n → hasRule (wordAt (lowered t k c) i) ≡ true → Meets σ (ruleAt i (wordAt (lowered t k c) i)))
-          (sym (eqb-true j k w)) here h q
-      go j h q false w =
-          rw (lowered-other t k j c (eqb-false j k w)) (s .each j h (rw (lowered-other t k j c (eqb-false j k w)) at q))
+      go : (j : ℕ) → j < blockStart n → j < length t → hasRule (wordAt (lowered t k c) j) ≡ true → (d : Bool) → eqb j k ≡ d
+          → Meets σ (ruleAt j (wordAt (lowered t k c) j))
+      go j h g q true w =
+        subst (λ (i : ℕ). i < blockStart n → hasRule (wordAt (lowered t k c) i) ≡ true → Meets σ (ruleAt i (wordAt (lowered t k c) i)))
+        (sym (eqb-true j k w)) here h q
+      go j h g q false w =
+        rw (lowered-other t k j c (eqb-false j k w)) (s .each j h g (rw (lowered-other t k j c (eqb-false j k w)) at q))
 
--- an undoubled rule, put in at its place
-pub undoubled-put : (n : ℕ) (t : List ℤ) (r : Rule) (σ : Assignment) → blockStart n ≤ length t → Undoubled n r → hasRule (boundOf r) ≡ true
+-- a rule that has a place, put in there
+pub hasPlace-put : (n : ℕ) (t : List ℤ) (r : Rule) (σ : Assignment) → blockStart n ≤ length t → HasPlace n r → hasRule (boundOf r) ≡ true
     → Satisfies n (lowered t (placeOf r) (boundOf r)) σ ↔ (Satisfies n t σ × Meets σ r)
-undoubled-put n t r σ l u e = (to, of)
+hasPlace-put n t r σ l u e = (to, of)
   where
     b : placeOf r < blockStart n
-    b = undoubled-below n r u
+    b = hasPlace-below n r u
 
     to : Satisfies n (lowered t (placeOf r) (boundOf r)) σ → Satisfies n t σ × Meets σ r
     to s =
@@ -96,19 +99,27 @@ undoubled-put n t r σ l u e = (to, of)
 
 -- ---- which rules are accepted
 
-half-rule : (c : ℤ) → hasRule c ≡ true → hasRule (half c) ≡ true
-unfolding positivePart negativePart
-half-rule c e = go (hasRule (half c)) refl
+-- a term that is not doubled
+abbrev Single : Rule → Type 0
+Single (One x c) = Unit {0}
+Single (Two x y c) = x ≡ y → ⊥
+Single (Nothing c) = Unit {0}
+
+halved-single : (r : Rule) → Single (halvedOf r)
+unfolding halvedOf
+halved-single (One x c) = tt
+halved-single (Two x y c) = go (eqb x y) refl
   where
-    go : (t : Bool) → hasRule (half c) ≡ t → t ≡ true
-    go true q = refl
-    go false q = let z : ⊥ = omega (linear, ltZ-false (half c) noRule q, ltZ-true c noRule e, parts-half c) in absurd z
+    go : (b : Bool) → eqb x y ≡ b → Single (cond b (One x (half c)) (Two x y c))
+    go true e = tt
+    go false e = eqb-false x y e
+halved-single (Nothing c) = tt
 
 -- literals that are neither alike nor opposite are of different quantities
-different : (x y : ℕ) → (x ≡ y → ⊥) → (y ≡ negated x → ⊥) → x / 2 + 1 ≡ y / 2 + 1 → ⊥
+different : (x y : ℕ) → (x ≡ y → ⊥) → (y ≡ negated x → ⊥) → quantityOf x ≡ quantityOf y → ⊥
 different x y d e q = omega arith
 
--- the rule that is accepted, halved, is undoubled and has a bound; or it is bare and always met
+-- what it tells that a halved rule is accepted: it has a place and a bound, or it is bare and always met
 pub one-accepted : (n x : ℕ) (c : ℤ) → ruleReply n (One x c) ≡ Done → (x < 2 * n) × (hasRule c ≡ true)
 unfolding ruleReply
 one-accepted n x c e =
@@ -120,7 +131,7 @@ pub two-accepted : (n x y : ℕ) (c : ℤ) → ruleReply n (Two x y c) ≡ Done
 unfolding ruleReply
 two-accepted n x y c e =
     let a = passed _ _ _ e in
-    let p = both-true (_&&_ (ltb x (2 * n)) (ltb y (2 * n))) (hasRule c) (a .0) in
+    let p = both-true (ltb x (2 * n) && ltb y (2 * n)) (hasRule c) (a .0) in
     let q = both-true (ltb x (2 * n)) (ltb y (2 * n)) (p .0) in
     (ltb-true x (2 * n) (q .0), ltb-true y (2 * n) (q .1), p .1, eqb-false y (negated x) (not-refused _ _ _ (a .1) .0))
 
@@ -128,24 +139,24 @@ pub nothing-accepted : (n : ℕ) (c : ℤ) (σ : Assignment) → ruleReply n (No
 unfolding ruleReply
 nothing-accepted n c σ e = record { met = omega (linear, ltZ-false c (pos 0) (not-refused _ _ _ e .0)) }
 
--- an accepted rule, put in
-pub accepted-put : (n : ℕ) (t : List ℤ) (r : Rule) (σ : Assignment) → blockStart n ≤ length t → ruleReply n r ≡ Done
+-- ---- an accepted rule, put in
+
+-- a rule that is not doubled
+single-put : (n : ℕ) (t : List ℤ) (r : Rule) (σ : Assignment) → blockStart n ≤ length t → Single r → ruleReply n r ≡ Done
+    → Satisfies n (putHalved t r) σ ↔ (Satisfies n t σ × Meets σ r)
+unfolding putHalved putAt findPlace placeOf
+single-put n t (One x c) σ l d e =
+    let p = one-accepted n x c e in hasPlace-put n t (One x c) σ l (p .0) (p .1)
+single-put n t (Two x y c) σ l d e =
+    let p = two-accepted n x y c e in
+    let u : quantityOf x ≡ quantityOf y → ⊥ = different x y d (p .3) in
+    rw (found-two x y u) (hasPlace-put n t (Two x y c) σ l (p .0, p .1, u) (p .2))
+single-put n t (Nothing c) σ l d e = (λ s. (s, nothing-accepted n c σ e), λ s. s .0)
+
+pub accepted-put : (n : ℕ) (t : List ℤ) (r : Rule) (σ : Assignment) → blockStart n ≤ length t → ruleReply n (halvedOf r) ≡ Done
     → Satisfies n (putRule t r) σ ↔ (Satisfies n t σ × Meets σ r)
-unfolding putRule putUndoubled halvedOf
-accepted-put n t (One x c) σ l e =
-    let p = one-accepted n x c e in undoubled-put n t (One x c) σ l (p .0) (p .1)
-accepted-put n t (Two x y c) σ l e = go (eqb x y) refl
-  where
-    p : (x < 2 * n) × (y < 2 * n) × (hasRule c ≡ true) × (y ≡ negated x → ⊥)
-    p = two-accepted n x y c e
-
-    single : x ≡ y → Satisfies n (putUndoubled t (One x (half c))) σ ↔ (Satisfies n t σ × Meets σ (Two x y c))
-    single d =
-        let u = undoubled-put n t (One x (half c)) σ l (p .0) (half-rule c (p .2)) in
-        let m = doubled-meaning σ x y c d in
-        (λ s. (u .0 s .0, record { met = m .0 (u .0 s .1) }), λ s. u .1 (s .0, m .1 (s .1 .met)))
-
-    go : (b : Bool) → eqb x y ≡ b → Satisfies n (putUndoubled t (cond b (One x (half c)) (Two x y c))) σ ↔ (Satisfies n t σ × Meets σ (Two x y c))
-    go true d = single (eqb-true x y d)
-    go false d = undoubled-put n t (Two x y c) σ l (p .0, p .1, different x y (eqb-false x y d) (p .3)) (p .2)
-accepted-put n t (Nothing c) σ l e = (λ s. (s, nothing-accepted n c σ e), λ s. s .0)
+unfolding putRule
+accepted-put n t r σ l e =
+    let p = single-put n t (halvedOf r) σ l (halved-single r) e in
+    let m = halved-meaning σ r in
+    (λ s. (p .0 s .0, m .0 (p .0 s .1)), λ s. p .1 (s .0, m .1 (s .1)))

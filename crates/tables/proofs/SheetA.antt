@@ -12,11 +12,11 @@ use Rattle.integers.proofs.Parts.{linear, positivePart, negativePart, parts-add
 use Rattle.rules.specs.declared.rule.Rule.{Rule}
 use Rattle.rules.specs.Hidden.{hiddenIn}
 use Rattle.rules.specs.Meaning.{Assignment, Meets, literalValue}
-use Rattle.rules.specs.Steps.{ruleOf}
+use Rattle.rules.specs.Steps.{ruleOf, halvedOf}
 use Rattle.tables.specs.declared.reply.Reply.the-variants.{Done}
-use Rattle.tables.specs.Tables.{tableOf, ruleReply}
+use Rattle.tables.specs.Tables.{AllAccepted, tableOf, ruleReply}
 use Rattle.tables.specs.Meaning.{Satisfies, MeetsAll, SheetAllows, joined, Completes}
-use Rattle.tables.proofs.Lists.{AllAccepted, tableOf-meaning}
+use Rattle.tables.proofs.Lists.{tableOf-meaning}
 
 -- +1+2:5, +1-2:2, +3-2:0
 unfoldable pub rules : List Rule
@@ -27,7 +27,7 @@ abbrev pub hidden : ℕ → Bool
 hidden = hiddenIn 2
 
 accepted : AllAccepted 3 rules
-unfolding rules ruleOf ruleReply
+unfolding rules ruleOf halvedOf ruleReply
 accepted = (refl, (refl, (refl, tt)))
 
 -- integers for quantities 1 and 3, and one for quantity 2

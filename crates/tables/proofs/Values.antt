@@ -14,7 +14,7 @@ use Rattle.rules.specs.Literal.{quantityOf}
 use Rattle.rules.specs.Meaning.{Assignment, literalValue, termValue, boundOf, Meets}
 use Rattle.rules.specs.Meaning.{names}
 use Rattle.rules.specs.Steps.{inOrder}
-use Rattle.tables.specs.Places.{ruleAt, placeOf, Undoubled}
+use Rattle.tables.specs.Places.{ruleAt, placeOf, HasPlace}
 use Rattle.tables.proofs.Places.{ruleAt-bound, ruleAt-inOrder}
 
 pub inOrder-value : (σ : Assignment) (r : Rule) → termValue σ (inOrder r) ≡ termValue σ r
@@ -36,7 +36,7 @@ ruleAt-value σ k c d = go (isOne k)
     go false = refl
 
 -- the term at the place of a rule is worth what the rule's own is
-pub place-value : (n : ℕ) (σ : Assignment) (r : Rule) (c : ℤ) → Undoubled n r → termValue σ (ruleAt (placeOf r) c) ≡ termValue σ r
+pub place-value : (n : ℕ) (σ : Assignment) (r : Rule) (c : ℤ) → HasPlace n r → termValue σ (ruleAt (placeOf r) c) ≡ termValue σ r
 place-value n σ r c u =
     ruleAt-value σ (placeOf r) c (boundOf r) ∙ ap (termValue σ) (ruleAt-inOrder n r u) ∙ inOrder-value σ r
 

@@ -9,7 +9,7 @@ use native.Mathlib.Omega.{arith}
 use lib.IntN.{ℤ}
 use lib.ListN.{length}
 use Rattle.words.specs.Change.{wordAt}
-use Rattle.words.proofs.Change.{change-below}
+use Rattle.words.proofs.Change.{change-length, change-below}
 use Rattle.places.specs.Numbering.{blockStart}
 use Rattle.rules.specs.Limits.{noRule}
 use Rattle.rules.specs.Meaning.{Assignment, Meets}
@@ -28,6 +28,10 @@ cleared-word : (n q : ℕ) (t : List ℤ) (k : ℕ) → blockStart n ≤ length 
 unfolding cleared
 cleared-word n q t k l h = change-below (blockStart n) (clearing q) t k h (omega arith)
 
+cleared-length : (n q : ℕ) (t : List ℤ) → length (cleared n q t) ≡ length t
+unfolding cleared
+cleared-length n q t = change-length (blockStart n) (clearing q) t
+
 pub cleared-meaning : (n q : ℕ) (t : List ℤ) (σ : Assignment) → blockStart n ≤ length t → Satisfies n (cleared n q t) σ ↔ SatisfiesWithout q n t σ
 cleared-meaning n q t σ l = (to, of)
   where
@@ -35,16 +39,16 @@ cleared-meaning n q t σ l = (to, of)
     kept k h e = cleared-word n q t k l h ∙ rw e
 
     to : Satisfies n (cleared n q t) σ → SatisfiesWithout q n t σ
-    to s = record { each = λ k h r e. rw (kept k h e) at (s .each k h (rw (kept k h e) r)) }
+    to s = record { each = λ k h g r e. rw (kept k h e) at (s .each k h (rw (cleared-length n q t) g) (rw (kept k h e) r)) }
 
-    go : SatisfiesWithout q n t σ → (k : ℕ) → k < blockStart n → (b : Bool) → names q (ruleAt k (wordAt t k)) ≡ b
+    go : SatisfiesWithout q n t σ → (k : ℕ) → k < blockStart n → k < length t → (b : Bool) → names q (ruleAt k (wordAt t k)) ≡ b
         → hasRule (cond b noRule (wordAt t k)) ≡ true → Meets σ (ruleAt k (cond b noRule (wordAt t k)))
-    go s k h true e r = clash r refl
-    go s k h false e r = s .each k h r e
+    go s k h g true e r = clash r refl
+    go s k h g false e r = s .each k h g r e
 
     of : SatisfiesWithout q n t σ → Satisfies n (cleared n q t) σ
     of s = record {
-      each = λ k h. rw (cleared-word n q t k l h) (go s k h (names q (ruleAt k (wordAt t k))) refl);
+      each = λ k h g. rw (cleared-word n q t k l h) (go s k h (rw (cleared-length n q t) at g) (names q (ruleAt k (wordAt t k))) refl);
     }
 
 -- ---- a rule that does not name a quantity does not see it
@@ -54,7 +58,7 @@ abbrev pub SameBut : ℕ → Assignment → Assignment → Type 0
 SameBut q σ τ = (p : ℕ) → (p ≡ q → ⊥) → σ p ≡ τ p
 
 pub without-same : (q n : ℕ) (t : List ℤ) (σ τ : Assignment) → SameBut q σ τ → SatisfiesWithout q n t σ → SatisfiesWithout q n t τ
-without-same q n t σ τ s w = record { each = λ k h r e. meets-named σ τ (ruleAt k (wordAt t k)) (other k e) (w .each k h r e) }
+without-same q n t σ τ s w = record { each = λ k h g r e. meets-named σ τ (ruleAt k (wordAt t k)) (other k e) (w .each k h g r e) }
   where
     other : (k : ℕ) → names q (ruleAt k (wordAt t k)) ≡ false → (p : ℕ) → names p (ruleAt k (wordAt t k)) ≡ true → σ p ≡ τ p
     other k e p d = s p (λ same. clash (rw same at d) e)

@@ -4,7 +4,9 @@ use mathlib.Core.Path.{_≡_}
 use mathlib.Core.Bool.{Bool, true, false, cond}
 use mathlib.Core.List.{List, [], _∷_}
 use Prim.Native.Nat.{ℕ, _≤_, _<_}
-use lib.IntN.{ℤ}
+use lib.IntN.{ℤ, negℤ}
+use lib.ListN.{length}
+use lib.Signed.{_≤ℤ_}
 use Rattle.words.specs.Change.{wordAt}
 use Rattle.places.specs.Numbering.{blockStart}
 use Rattle.rules.specs.declared.rule.Rule.{Rule}
@@ -13,13 +15,14 @@ use Rattle.rules.specs.Meaning.{names}
 use Rattle.tables.specs.Places.{ruleAt}
 use Rattle.tables.specs.Tables.{hasRule}
 
--- an assignment satisfies a table over n quantities: it meets the rule of every place that has one
+-- an assignment satisfies a table over n quantities: it meets the rule of every place that has one, of the 2n² where the block of quantity n + 1
+-- would start
 pub record Satisfies (n : ℕ) (t : List ℤ) (σ : Assignment) : Type 0 where
-  pub each : (k : ℕ) → k < blockStart n → hasRule (wordAt t k) ≡ true → Meets σ (ruleAt k (wordAt t k))
+  pub each : (k : ℕ) → k < blockStart n → k < length t → hasRule (wordAt t k) ≡ true → Meets σ (ruleAt k (wordAt t k))
 
 -- the same of the rules alone that do not name quantity q
 pub record SatisfiesWithout (q n : ℕ) (t : List ℤ) (σ : Assignment) : Type 0 where
-  pub each : (k : ℕ) → k < blockStart n → hasRule (wordAt t k) ≡ true → names q (ruleAt k (wordAt t k)) ≡ false → Meets σ (ruleAt k (wordAt t k))
+  pub each : (k : ℕ) → k < blockStart n → k < length t → hasRule (wordAt t k) ≡ true → names q (ruleAt k (wordAt t k)) ≡ false → Meets σ (ruleAt k (wordAt t k))
 
 -- an assignment meets every rule of a list
 abbrev pub MeetsAll : Assignment → List Rule → Type 0
@@ -41,15 +44,20 @@ pub record SheetAllows (n : ℕ) (hidden : ℕ → Bool) (sheet : List ℤ) (vis
 
 -- the rules of a table name visible quantities alone
 pub record NamesVisible (n : ℕ) (hidden : ℕ → Bool) (t : List ℤ) : Type 0 where
-  pub each : (k : ℕ) → k < blockStart n → hasRule (wordAt t k) ≡ true → (q : ℕ) → names q (ruleAt k (wordAt t k)) ≡ true → hidden q ≡ false
+  pub each : (k : ℕ) → k < blockStart n → k < length t → hasRule (wordAt t k) ≡ true → (q : ℕ) → names q (ruleAt k (wordAt t k)) ≡ true → hidden q ≡ false
 
 -- the script allows the visible integers that satisfy every rule of its own, which name visible quantities alone; it forbids all others
 abbrev pub ScriptAllows : ℕ → List ℤ → Assignment → Type 0
 ScriptAllows n script visibles = Satisfies n script visibles
 
+-- document 01: forbids
 abbrev pub ScriptForbids : ℕ → List ℤ → Assignment → Type 0
 ScriptForbids n script visibles = ScriptAllows n script visibles → ⊥
 
 -- two assignments give the visible quantities of 1 to n the same integers
 abbrev pub SameVisible : ℕ → (ℕ → Bool) → Assignment → Assignment → Type 0
 SameVisible n hidden σ τ = (q : ℕ) → 1 ≤ q → q ≤ n → hidden q ≡ false → σ q ≡ τ q
+
+-- each of the first m words, or of all where there are fewer, that holds a rule is at most B in magnitude
+pub record WordsWithin (m : ℕ) (B : ℤ) (t : List ℤ) : Type 0 where
+  pub each : (k : ℕ) → k < m → k < length t → hasRule (wordAt t k) ≡ true → (negℤ B ≤ℤ wordAt t k) × (wordAt t k ≤ℤ B)

@@ -6,20 +6,28 @@ use lib.IntN.{ℤ}
 use Rattle.rules.specs.declared.rule.Rule.{Rule}
 use Rattle.rules.specs.declared.rule.Rule.the-variants.{One, Two, Nothing}
 use Rattle.rules.specs.Literal.{quantityOf}
-use Rattle.places.specs.Numbering.{placeOfOne, placeOfTwo, isOne, higherAt, lowerAt}
+use Rattle.places.specs.declared.Place.{Place}
+use Rattle.places.specs.declared.Place.the-variants.{At, Nowhere}
+use Rattle.places.specs.Numbering.{placeOfOne, placeOfTwo, findTwo, isOne, higherAt, lowerAt}
 
 -- the rule of place k with the bound c, the lower quantity first
 unfoldable pub ruleAt : ℕ → ℤ → Rule
 ruleAt k c = cond (isOne k) (One (higherAt k) c) (Two (lowerAt k) (higherAt k) c)
 
--- the place of an undoubled term; a bare rule has none
+-- the place of a term of one quantity, or of two different ones
 unfoldable pub placeOf : Rule → ℕ
 placeOf (One x c) = placeOfOne x
 placeOf (Two x y c) = placeOfTwo x y
 placeOf (Nothing c) = 0
 
--- an undoubled term over n quantities: one of them, or two different ones
-abbrev pub Undoubled : ℕ → Rule → Type 0
-Undoubled n (One x c) = x < 2 * n
-Undoubled n (Two x y c) = (x < 2 * n) × (y < 2 * n) × (quantityOf x ≡ quantityOf y → ⊥)
-Undoubled n (Nothing c) = ⊥
+-- a rule has a place in a table over n quantities (document 01: an undoubled term): it is of one of them, or of two different ones
+abbrev pub HasPlace : ℕ → Rule → Type 0
+HasPlace n (One x c) = x < 2 * n
+HasPlace n (Two x y c) = (x < 2 * n) × (y < 2 * n) × (quantityOf x ≡ quantityOf y → ⊥)
+HasPlace n (Nothing c) = ⊥
+
+-- where a rule's term stands; a doubled term, one that cancels and a bare rule have no place
+unfoldable pub findPlace : Rule → Place
+findPlace (One x c) = At (placeOfOne x)
+findPlace (Two x y c) = findTwo x y
+findPlace (Nothing c) = Nowhere

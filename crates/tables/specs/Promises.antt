@@ -1,26 +1,26 @@
 -- What the functions on a table promise: the reply and every word, for every input, and what the table means afterwards.
-use mathlib.Core.Bool.{cond}
+use mathlib.Core.Bool.{Bool, true, cond}
 use mathlib.Core.Path.{_≡_}
 use mathlib.Core.Logic.{_↔_}
-use mathlib.Core.List.{List}
-use Prim.Native.Nat.{ℕ}
+use mathlib.Core.List.{List, _++_}
+use Prim.Native.Nat.{ℕ, _<_}
 use lib.IntN.{ℤ}
-use lib.ListN.{length}
-use Rattle.words.specs.Change.{change}
+use lib.ListN.{length, drop}
+use Rattle.places.specs.declared.Place.the-variants.{At}
 use Rattle.places.specs.Numbering.{blockStart}
 use Rattle.rules.specs.declared.rule.Rule.{Rule}
 use Rattle.rules.specs.declared.refusal.Refusal.the-variants.{Size}
-use Rattle.rules.specs.Limits.{noRule}
-use Rattle.rules.specs.Meaning.{Assignment, Meets}
+use Rattle.rules.specs.Meaning.{Assignment, Meets, boundOf}
+use Rattle.tables.specs.Places.{ruleAt, findPlace, HasPlace}
 use Rattle.tables.specs.declared.reply.Reply.{Reply}
 use Rattle.tables.specs.declared.reply.Reply.the-variants.{Done, Refused}
-use Rattle.tables.specs.Tables.{serves, isDone, putReply, putRule, clearReply, cleared}
-use Rattle.tables.specs.Meaning.{Satisfies, SatisfiesWithout}
+use Rattle.tables.specs.Tables.{emptyTable, serves, isDone, putReply, putRule, clearReply, cleared, wordsInLimit}
+use Rattle.tables.specs.Meaning.{Satisfies, SatisfiesWithout, WordsWithin}
 
--- no rules: the first 2n² words are no rule, and every assignment satisfies the table
+-- no rules: the first 2n² words are the empty table's, and every assignment satisfies it
 pub record Emptied (n : ℕ) (before : List ℤ) (r : Reply) (after : List ℤ) : Type 0 where
   pub reply : r ≡ cond (serves n (length before)) Done (Refused Size)
-  pub table : after ≡ cond (isDone r) (change (blockStart n) (λ k w. noRule) before) before
+  pub table : after ≡ cond (isDone r) (emptyTable n ++ drop (blockStart n) before) before
   pub meaning : r ≡ Done → (σ : Assignment) → Satisfies n after σ
 
 -- a rule put in: satisfied exactly by what satisfied the table before and meets the rule
@@ -34,3 +34,15 @@ pub record Cleared (n q : ℕ) (before : List ℤ) (r : Reply) (after : List ℤ
   pub reply : r ≡ clearReply n (length before) q
   pub table : after ≡ cond (isDone r) (cleared n q before) before
   pub meaning : r ≡ Done → (σ : Assignment) → Satisfies n after σ ↔ SatisfiesWithout q n before σ
+
+-- the answer whether words are in a limit
+pub record InLimit (m : ℕ) (B : ℤ) (t : List ℤ) (r : Bool) : Type 0 where
+  pub reply : r ≡ wordsInLimit m B t
+  pub meaning : (r ≡ true) ↔ WordsWithin m B t
+
+-- the rule of a place: its term has just that place, in every table that has the place
+pub record AtPlace (k : ℕ) (c : ℤ) (r : Rule) : Type 0 where
+  pub reply : r ≡ ruleAt k c
+  pub bound : boundOf r ≡ c
+  pub place : findPlace r ≡ At k
+  pub inside : (n : ℕ) → k < blockStart n → HasPlace n r

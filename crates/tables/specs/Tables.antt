@@ -1,12 +1,15 @@
 -- The table's steps: its size, its empty form, a rule put in, a quantity's places cleared, and the test of its words.
 use mathlib.Core.Bool.{Bool, true, false, cond, _&&_}
 use mathlib.Core.List.{List, [], _∷_}
+use mathlib.Core.Path.{_≡_}
 use Prim.Native.Nat.{ℕ, zero, suc, _*_}
 use lib.Dec.{leb, ltb, eqb}
 use lib.IntN.{ℤ, pos, negℤ}
 use lib.ListN.{length, replicate}
 use lib.Signed.{ltZ, leZ}
 use Rattle.words.specs.Change.{change, lowered}
+use Rattle.places.specs.declared.Place.{Place}
+use Rattle.places.specs.declared.Place.the-variants.{At, Nowhere}
 use Rattle.places.specs.Numbering.{blockStart}
 use Rattle.rules.specs.declared.rule.Rule.{Rule}
 use Rattle.rules.specs.declared.rule.Rule.the-variants.{One, Two, Nothing}
@@ -14,13 +17,14 @@ use Rattle.rules.specs.declared.refusal.Refusal.the-variants.{Size, OutOfLimit,
 use Rattle.rules.specs.Limits.{maxQuantities, noRule}
 use Rattle.rules.specs.Literal.{negated}
 use Rattle.rules.specs.Meaning.{boundOf}
+use Rattle.rules.specs.Refusal.{refusalNumber, refusalValues}
 use Rattle.rules.specs.Steps.{halvedOf}
 use Rattle.tables.specs.declared.reply.Reply.{Reply}
 use Rattle.tables.specs.declared.reply.Reply.the-variants.{Done, Refused}
 use Rattle.rules.specs.Meaning.{names}
-use Rattle.tables.specs.Places.{ruleAt, placeOf}
+use Rattle.tables.specs.Places.{ruleAt, findPlace}
 
--- the words of a table over n quantities; none where n is outside 1 to 32
+-- the words of a table over n quantities, 2n²; none where n is outside its range
 unfoldable pub tableSize : ℕ → ℕ
 tableSize n = cond (leb 1 n && leb n maxQuantities) (blockStart n) 0
 
@@ -36,7 +40,8 @@ hasRule w = ltZ w noRule
 abbrev pub emptyTable : ℕ → List ℤ
 emptyTable n = replicate (blockStart n) noRule
 
--- the reply to a rule for a table over n quantities. 3: a quantity past n, or the no-rule word as a bound; 4: +q-q; 5: a bare 0 ≤ c with c below 0
+-- the reply to a halved rule for a table over n quantities. 3: a quantity past n, or the no-rule word as a bound; 4: +q-q; 5: a bare 0 ≤ c with
+-- c below 0
 unfoldable pub ruleReply : ℕ → Rule → Reply
 ruleReply n (One x c) = cond (ltb x (2 * n) && hasRule c) Done (Refused (OutOfLimit 0))
 ruleReply n (Two x y c) =
@@ -45,28 +50,36 @@ ruleReply n (Two x y c) =
     (Refused (OutOfLimit 0))
 ruleReply n (Nothing c) = cond (ltZ c (pos 0)) (Refused NoAssignment) Done
 
--- the reply to putting a rule into a table of so many words
+-- the reply to putting a rule into a table of so many words, a doubled term halved first
 unfoldable pub putReply : ℕ → ℕ → Rule → Reply
-putReply n words r = cond (serves n words) (ruleReply n r) (Refused Size)
+putReply n words r = cond (serves n words) (ruleReply n (halvedOf r)) (Refused Size)
 
 abbrev pub isDone : Reply → Bool
 isDone Done = true
 isDone (Refused r) = false
 
--- an undoubled rule goes to its place by minimum; a bare one has no place
-unfoldable pub putUndoubled : List ℤ → Rule → List ℤ
-putUndoubled t (One x c) = lowered t (placeOf (One x c)) c
-putUndoubled t (Two x y c) = lowered t (placeOf (Two x y c)) c
-putUndoubled t (Nothing c) = t
+-- a word goes to a place by minimum
+unfoldable pub putAt : List ℤ → Place → ℤ → List ℤ
+putAt t (At k) w = lowered t k w
+putAt t Nowhere w = t
+
+-- a halved rule goes to the place of its term
+unfoldable pub putHalved : List ℤ → Rule → List ℤ
+putHalved t r = putAt t (findPlace r) (boundOf r)
 
 -- the table with a rule put in, a doubled term halved first
 unfoldable pub putRule : List ℤ → Rule → List ℤ
-putRule t r = putUndoubled t (halvedOf r)
+putRule t r = putHalved t (halvedOf r)
 
 -- the table with every rule of a list put in, one after the other
 unfoldable pub putAll : List ℤ → List Rule → List ℤ
 putAll t [] = t
 putAll t (r ∷ rs) = putAll (putRule t r) rs
+
+-- every rule of a list is accepted for n quantities
+abbrev pub AllAccepted : ℕ → List Rule → Type 0
+AllAccepted n [] = Unit {0}
+AllAccepted n (r ∷ rs) = (ruleReply n (halvedOf r) ≡ Done) × AllAccepted n rs
 
 -- the empty table with a list of rules put in
 abbrev pub tableOf : ℕ → List Rule → List ℤ
@@ -79,6 +92,16 @@ cleared n q t = change (blockStart n) (λ k w. cond (names q (ruleAt k w)) noRul
 -- the reply to clearing quantity q. 3: it is none of 1 to n
 unfoldable pub clearReply : ℕ → ℕ → ℕ → Reply
 clearReply n words q = cond (serves n words) (cond (leb 1 q && leb q n) Done (Refused (OutOfLimit 0))) (Refused Size)
+
+-- the paper's number of a reply; 0 where the call is not refused
+abbrev pub replyNumber : Reply → ℕ
+replyNumber Done = 0
+replyNumber (Refused r) = refusalNumber r
+
+-- what is returned beside it
+abbrev pub replyValues : Reply → List ℕ
+replyValues Done = []
+replyValues (Refused r) = refusalValues r
 
 -- a word is no rule, or a bound of at most B in magnitude
 unfoldable pub inLimit : ℤ → ℤ → Bool

@@ -1,11 +1,13 @@
-// The rule of a place.
+// The rule of a place, and the place of a rule.
+use places::Place;
 use rules::rule::Rule;
 ghost use mathlib.Core.Path.{_≡_};
-ghost use Rattle.tables.specs.Places.{ruleAt};
+ghost use Rattle.tables.specs.Places.{findPlace};
+ghost use Rattle.tables.specs.Promises.{AtPlace};
 
-// The rule of `place` with the bound given, the lower quantity first.
+// The rule of `place` with the bound given, the lower quantity first. Every place of a table has at most 32 bits.
 pub fn rule_at(place: u32, bound: i64) -> Rule
-    ensures { λ r. ⌜ r ≡ ruleAt place bound ⌝ }
+    ensures { λ r. ⌜ AtPlace place bound r ⌝ }
 {
     let block = places::block(place);
     let start = 2 * (block * block);
@@ -20,5 +22,16 @@ pub fn rule_at(place: u32, bound: i64) -> Rule
         first: (offset - 2) / 2,
         second: 2 * block + offset % 2,
         bound,
+    }
+}
+
+// Where a rule's term stands; a doubled term, one that cancels and a bare rule have no place.
+pub fn place_of(rule: Rule) -> Place
+    ensures { λ r. ⌜ r ≡ findPlace rule ⌝ }
+{
+    match rule {
+        Rule::One { literal, bound: _ } => Place::At(places::of_one(literal)),
+        Rule::Two { first, second, bound: _ } => places::of_two(first, second),
+        Rule::Nothing { bound: _ } => Place::Nowhere,
     }
 }

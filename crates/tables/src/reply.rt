@@ -1,7 +1,21 @@
 // The answer of a call that changes a table.
 use rules::refusal::Refusal;
+ghost use mathlib.Core.Path.{_≡_};
+ghost use Rattle.tables.specs.Tables.{replyNumber};
 
 pub enum Reply {
     Done,
     Refused(Refusal),
+}
+
+impl Reply {
+    // The paper's number of a refusal; 0 where there is none.
+    pub fn number(self) -> u32
+        ensures { λ r. ⌜ r ≡ replyNumber self ⌝ }
+    {
+        match self {
+            Reply::Done => 0,
+            Reply::Refused(refusal) => rules::refusal::number(refusal),
+        }
+    }
 }

@@ -1,13 +1,16 @@
 // What changes a table: emptied, a rule put in, a quantity's places cleared. A refusal changes no word, and no call changes a word past the
 // first 2n².
+use crate::place;
 use crate::reply::Reply;
+use places::Place;
 use rules::refusal::Refusal;
 use rules::rule::Rule;
 use rules::sheet::Sheet;
 ghost use mathlib.Core.Path.{_≡_};
 ghost use Prim.Native.Nat.{suc, _<_, _≤_};
 ghost use Rattle.rules.specs.Limits.{maxQuantities};
-ghost use Rattle.tables.specs.Tables.{tableSize, serves, ruleReply, putUndoubled, cleared};
+ghost use Rattle.tables.specs.Tables.{tableSize, ruleReply, putHalved, cleared};
+ghost use Rattle.tables.specs.Tables.{serves as Tables·serves};
 ghost use Rattle.tables.specs.Promises.{Emptied, Put, Cleared};
 
 // The words of a table over `n` quantities; 0 where `n` is outside its range.
@@ -23,9 +26,9 @@ pub fn size(n: usize) -> usize
     2 * (n * n)
 }
 
-// Whether a table of so many words serves `n` quantities.
-pub fn is_table(n: usize, words: usize) -> bool
-    ensures { λ r. ⌜ r ≡ serves n words ⌝ }
+// Whether a table of so many words serves `n` quantities: `n` is in its range, and the words are enough.
+pub fn serves(n: usize, words: usize) -> bool
+    ensures { λ r. ⌜ r ≡ Tables·serves n words ⌝ }
 {
     let needed = size(n);
     if needed == 0 {
@@ -38,7 +41,7 @@ pub fn is_table(n: usize, words: usize) -> bool
 pub fn empty(n: usize, table: &mut [i64]) -> Reply
     ensures { λ r. ⌜ Emptied n (now (table .entry)) r (now (table .exit)) ⌝ }
 {
-    let served = is_table(n, table.len());
+    let served = serves(n, table.len());
     if !served {
         return Reply::Refused(Refusal::Size);
     }
@@ -47,7 +50,7 @@ pub fn empty(n: usize, table: &mut [i64]) -> Reply
     Reply::Done
 }
 
-// The reply to a rule for a table over `n` quantities.
+// The reply to a halved rule for a table over `n` quantities.
 fn accepts(n: usize, rule: Rule) -> Reply
     ensures { λ r. ⌜ r ≡ ruleReply n rule ⌝ }
 {
@@ -89,22 +92,16 @@ fn accepts(n: usize, rule: Rule) -> Reply
     }
 }
 
-// Puts an undoubled rule in at its place by minimum; a bare one has no place.
+// Puts a halved rule in at the place of its term, by minimum.
 fn store(table: &mut [i64], rule: Rule)
-    ensures { λ _. ⌜ now (table .exit) ≡ putUndoubled (now (table .entry)) rule ⌝ }
+    ensures { λ _. ⌜ now (table .exit) ≡ putHalved (now (table .entry)) rule ⌝ }
 {
-    match rule {
-        Rule::One { literal, bound } => {
-            words::lower(table, places::of_one(literal), bound);
+    let place = place::place_of(rule);
+    match place {
+        Place::At(k) => {
+            words::lower(table, k, rule.bound());
         }
-        Rule::Two {
-            first,
-            second,
-            bound,
-        } => {
-            words::lower(table, places::of_two(first, second), bound);
-        }
-        Rule::Nothing { bound: _ } => {}
+        Place::Nowhere => {}
     }
 }
 
@@ -112,15 +109,16 @@ fn store(table: &mut [i64], rule: Rule)
 pub fn put(n: usize, table: &mut [i64], rule: Rule) -> Reply
     ensures { λ r. ⌜ Put n rule (now (table .entry)) r (now (table .exit)) ⌝ }
 {
-    let served = is_table(n, table.len());
+    let served = serves(n, table.len());
     if !served {
         return Reply::Refused(Refusal::Size);
     }
-    let reply = accepts(n, rule);
+    let halved = rule.halved();
+    let reply = accepts(n, halved);
     let Reply::Done = reply else {
         return reply;
     };
-    store(table, rule.halved());
+    store(table, halved);
     Reply::Done
 }
 
@@ -144,7 +142,7 @@ fn clear_places(n: usize, table: &mut [i64], j: usize)
 pub fn clear(n: usize, table: &mut [i64], q: usize) -> Reply
     ensures { λ r. ⌜ Cleared n q (now (table .entry)) r (now (table .exit)) ⌝ }
 {
-    let served = is_table(n, table.len());
+    let served = serves(n, table.len());
     if !served {
         return Reply::Refused(Refusal::Size);
     }

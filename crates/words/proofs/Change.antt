@@ -1,6 +1,6 @@
 -- What a changed list holds at each place, and how one more word is changed. Assumes nothing.
-use mathlib.Core.Path.{_≡_, refl, sym, _∙_, ap}
-use mathlib.Core.List.{List, [], _∷_}
+use mathlib.Core.Path.{_≡_, refl, sym, _∙_, ap, ap₂}
+use mathlib.Core.List.{List, [], _∷_, _++_}
 use mathlib.Core.Logic.{_≢_}
 use mathlib.Core.Bool.{Bool, true, false}
 use Prim.Native.Nat.{ℕ, zero, suc, _+_, _≤_, _<_}
@@ -8,7 +8,7 @@ use native.Mathlib.Nat.{add-zero, zero-add, add-suc, suc-add}
 use native.Mathlib.Omega.{arith}
 use lib.Dec.{eqb, ltb}
 use lib.IntN.{ℤ, pos}
-use lib.ListN.{length, getD, set, length-set}
+use lib.ListN.{length, getD, set, drop, replicate, length-set}
 use lib.Seq.{getD-set-same, getD-set-other, set-out, ext-getD}
 use borrow.Author.Tests.{eqb-true, eqb-false, ltb-true, ltb-false, lt-ltb, le-ltb}
 use Rattle.integers.specs.Bound.{smaller}
@@ -100,6 +100,17 @@ fill-before from m w t h = change-nothing m (fillFrom from w) t (λ k p. rw (lt-
 pub fill-more : (from i : ℕ) (w : ℤ) (t : List ℤ) → from ≤ i → i < length t → set (change i (fillFrom from w) t) i w ≡ change (suc i) (fillFrom from w) t
 fill-more from i w t h l =
     ap (λ (z : ℤ). set (change i (fillFrom from w) t) i z) (sym (fill-at from i w (wordAt t i) h)) ∙ change-more i (fillFrom from w) t l
+
+-- a fill from the first place on is a run of one word, and the rest
+front-from : (i m : ℕ) (w : ℤ) (t : List ℤ) → m ≤ length t → changeFrom i m (fillFrom 0 w) t ≡ replicate m w ++ drop m t
+unfolding changeFrom
+front-from i zero w t h = refl
+front-from i (suc m) w [] h = let z : ⊥ = omega arith in absurd z
+front-from i (suc m) w (v ∷ t) h = ap₂ _∷_ (fill-at 0 i w v (omega arith)) (front-from (suc i) m w t (omega arith))
+
+pub fill-front : (m : ℕ) (w : ℤ) (t : List ℤ) → m ≤ length t → change m (fillFrom 0 w) t ≡ replicate m w ++ drop m t
+unfolding change
+fill-front m w t h = front-from 0 m w t h
 
 -- ---- one word by minimum
 

@@ -1,7 +1,8 @@
 -- `limit::is_table_in` meets its contract. The loop's invariant: the answer is that of the words that are left. The measure is their number.
 -- Assumes nothing.
 use mathlib.Core.Path.{_≡_, refl, sym, _∙_, ap}
-use mathlib.Core.Bool.{true, false, _&&_}
+use mathlib.Core.Bool.{Bool, true, false, _&&_}
+use mathlib.Core.List.{List}
 use Prim.Native.Nat.{ℕ, _+_, _-_, _≤_}
 use native.Mathlib.Nat.{sub-zero}
 use native.Mathlib.Omega.{arith}
@@ -15,7 +16,8 @@ use borrow.Author.Tests.{not-true, not-false}
 use Rattle.integers.proofs.Parts.{word-value, held-value}
 use Rattle.words.specs.Change.{wordAt}
 use Rattle.tables.specs.Tables.{inLimit, wordsInLimit}
-use Rattle.tables.proofs.Limits.{inLimit-more, inLimit-none, inLimit-zero}
+use Rattle.tables.specs.Promises.{InLimit}
+use Rattle.tables.proofs.Limits.{inLimit-more, inLimit-none, inLimit-zero, wordsInLimit-within}
 use Rattle.tables.proofs.limit.is_table_in.Statement.{statement}
 use Rattle.tables.proofs.limit.is_table_in.Tie as tie
 
@@ -24,6 +26,9 @@ Inv-loop table m limit i₀ i = wordsInLimit (m - i) (toZ w64 limit) (drop i tab
 
 abbrev μ-loop : tie.MeasureT-loop
 μ-loop table m limit i₀ i = m - i
+
+answered : (m : ℕ) (B : ℤ) (t : List ℤ) (r : Bool) → r ≡ wordsInLimit m B t → InLimit m B t r
+answered m B t r e = record { reply = e; meaning = rw e (wordsInLimit-within m B t) }
 
 -- the limit is that of its bits
 answer : (c : tie.Start Inv-loop μ-loop) → wordsInLimit (c .args .m) (toZ w64 (ofZ w64 (c .args .limit))) (now (c .args .table)) ≡ wordsInLimit (c .args .m) (c .args .limit) (now (c .args .table))
@@ -42,9 +47,10 @@ loop-holds c = rw sub-zero
 
 returns : tie.Need-returns Inv-loop μ-loop
 returns c = let l = c .before .before in let s = l .before in
-    sym (inLimit-none (s .args .m - l .loop .i) (toZ w64 (ofZ w64 (s .args .limit))))
+    answered _ _ _ _
+    (sym (inLimit-none (s .args .m - l .loop .i) (toZ w64 (ofZ w64 (s .args .limit))))
     ∙ ap (wordsInLimit (s .args .m - l .loop .i) (toZ w64 (ofZ w64 (s .args .limit)))) (sym (drop-of-length-le (now (s .args .table)) (c .if1 .taken)))
-    ∙ l .loop .inv ∙ answer s
+    ∙ l .loop .inv ∙ answer s)
 
 mul-w : tie.Need-mul-w Inv-loop μ-loop
 mul-w c = search needs
@@ -57,7 +63,8 @@ is-word-in-requires c κs = search needs
 
 returns-2 : tie.Need-returns-2 Inv-loop μ-loop
 returns-2 c = let a = c .before in
-    rw (not-true (a .is-word-in .result) (c .if2 .taken)) at (step a) ∙ answer (a .before .before .before .before .before)
+    answered _ _ _ _
+    (rw (not-true (a .is-word-in .result) (c .if2 .taken)) at (step a) ∙ answer (a .before .before .before .before .before))
 
 add-i : tie.Need-add-i Inv-loop μ-loop
 add-i c = omega arith
@@ -70,9 +77,10 @@ loop-again c = rw (not-false (c .before .is-word-in .result) (c .if2 .left)) at 
 
 returns-3 : tie.Need-returns-3 Inv-loop μ-loop
 returns-3 c = let l = c .before in let s = l .before in
-    sym (inLimit-zero (toZ w64 (ofZ w64 (s .args .limit))) (drop (l .loop .i) (now (s .args .table))))
+    answered _ _ _ _
+    (sym (inLimit-zero (toZ w64 (ofZ w64 (s .args .limit))) (drop (l .loop .i) (now (s .args .table))))
     ∙ ap (λ (k : ℕ). wordsInLimit k (toZ w64 (ofZ w64 (s .args .limit))) (drop (l .loop .i) (now (s .args .table)))) (omega arith)
-    ∙ l .loop .inv ∙ answer s
+    ∙ l .loop .inv ∙ answer s)
 
 pub is-table-in-spec : {M : Type 1} → statement M
 is-table-in-spec =

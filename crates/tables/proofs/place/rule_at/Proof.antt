@@ -10,6 +10,7 @@ use Rattle.places.specs.Numbering.{blockStart, blockOf, offsetOf, isOne, higher
 use Rattle.places.proofs.Numbering.{block-starts, blockStart-above}
 use Rattle.rules.specs.declared.rule.Rule.the-variants.{One, Two}
 use Rattle.tables.specs.Places.{ruleAt}
+use Rattle.tables.proofs.Promised.{at-place}
 use Rattle.tables.proofs.place.rule_at.Statement.{statement}
 use Rattle.tables.proofs.place.rule_at.Tie as tie
 
@@ -46,7 +47,8 @@ add-t10 : tie.Need-add-t10
 add-t10 c = omega (arith, starts _ _ (c .before .block .ensures))
 
 returns : tie.Need-returns
-returns c = one-at _ _ _ _ (c .before .block .ensures) (c .if1 .taken) (word-value (c .before .before .fits .bound))
+returns c =
+    at-place _ _ _ (one-at _ _ _ _ (c .before .block .ensures) (c .if1 .taken) (word-value (c .before .before .fits .bound)))
 
 mul-t12 : tie.Need-mul-t12
 mul-t12 c = omega (arith, starts _ _ (c .before .block .ensures))
@@ -55,7 +57,8 @@ add-t14 : tie.Need-add-t14
 add-t14 c = omega (arith, starts _ _ (c .before .block .ensures))
 
 returns-2 : tie.Need-returns-2
-returns-2 c = two-at _ _ _ _ (c .before .block .ensures) (c .if1 .left) (word-value (c .before .before .fits .bound))
+returns-2 c =
+    at-place _ _ _ (two-at _ _ _ _ (c .before .block .ensures) (c .if1 .left) (word-value (c .before .before .fits .bound)))
 
 pub rule-at-spec : {M : Type 1} → statement M
 rule-at-spec =

@@ -14,14 +14,14 @@ use Rattle.tables.proofs.Promised.{cleared-refused-size, cleared-refuse
 use Rattle.tables.proofs.table.clear.Statement.{statement}
 use Rattle.tables.proofs.table.clear.Tie as tie
 
-is-table-requires : tie.Need-is-table-requires
-is-table-requires c κs = search needs
+serves-requires : tie.Need-serves-requires
+serves-requires c κs = search needs
 
 returns : tie.Need-returns
-returns c = cleared-refused-size _ _ _ (sym (c .before .is-table .ensures) ∙ not-true _ (c .if1 .taken))
+returns c = cleared-refused-size _ _ _ (sym (c .before .serves .ensures) ∙ not-true _ (c .if1 .taken))
 
 served : (c : tie.Else1) → serves (c .before .before .args .n) (length (now (c .before .before .args .table))) ≡ true
-served c = sym (c .before .is-table .ensures) ∙ not-false _ (c .if1 .left)
+served c = sym (c .before .serves .ensures) ∙ not-false _ (c .if1 .left)
 
 returns-2 : tie.Need-returns-2
 returns-2 c = cleared-refused-limit _ _ _ (served (c .before)) (inl (c .if2 .taken))
@@ -46,7 +46,7 @@ pub clear-spec : {M : Type 1} → statement M
 clear-spec =
     tie.close
     (tie.spec
-    is-table-requires
+    serves-requires
     returns
     returns-2
     returns-3

@@ -6,11 +6,11 @@ use Rattle.tables.proofs.Promised.{emptied-refused, emptied-done}
 use Rattle.tables.proofs.table.empty.Statement.{statement}
 use Rattle.tables.proofs.table.empty.Tie as tie
 
-is-table-requires : tie.Need-is-table-requires
-is-table-requires c κs = search needs
+serves-requires : tie.Need-serves-requires
+serves-requires c κs = search needs
 
 returns : tie.Need-returns
-returns c = emptied-refused _ _ (sym (c .before .is-table .ensures) ∙ not-true _ (c .if1 .taken))
+returns c = emptied-refused _ _ (sym (c .before .serves .ensures) ∙ not-true _ (c .if1 .taken))
 
 size-requires : tie.Need-size-requires
 size-requires c κs = search needs
@@ -23,9 +23,9 @@ same-length c = search needs
 
 returns-2 : tie.Need-returns-2
 returns-2 c = let s = c .before .before .before in
-    emptied-done _ _ _ (sym (s .before .before .is-table .ensures) ∙ not-false _ (s .before .if1 .left)) (rw (s .size .ensures) at (c .before .fill .ensures))
+    emptied-done _ _ _ (sym (s .before .before .serves .ensures) ∙ not-false _ (s .before .if1 .left)) (rw (s .size .ensures) at (c .before .fill .ensures))
 
 pub empty-spec : {M : Type 1} → statement M
 empty-spec =
     tie.close
-    (tie.spec is-table-requires returns size-requires fill-requires same-length returns-2)
+    (tie.spec serves-requires returns size-requires fill-requires same-length returns-2)

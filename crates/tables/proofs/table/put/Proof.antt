@@ -1,16 +1,20 @@
--- `table::put` meets its contract: `accepts` gives the reply, and `store` puts the halved rule in. Assumes nothing.
-use mathlib.Core.Path.{_≡_, sym, _∙_}
-use borrow.Author.Needs.{needs}
+-- `table::put` meets its contract: the halved rule gets its reply and goes to its place. Assumes nothing.
+use mathlib.Core.Path.{_≡_, sym, _∙_, ap}
 use borrow.Author.Tests.{not-true, not-false}
+use borrow.Author.Needs.{needs}
+use Rattle.tables.specs.Tables.{ruleReply}
 use Rattle.tables.proofs.Promised.{put-refused-size, put-refused, put-done}
 use Rattle.tables.proofs.table.put.Statement.{statement}
 use Rattle.tables.proofs.table.put.Tie as tie
 
-is-table-requires : tie.Need-is-table-requires
-is-table-requires c κs = search needs
+serves-requires : tie.Need-serves-requires
+serves-requires c κs = search needs
 
 returns : tie.Need-returns
-returns c = put-refused-size _ _ _ (sym (c .before .is-table .ensures) ∙ not-true _ (c .if1 .taken))
+returns c = put-refused-size _ _ _ (sym (c .before .serves .ensures) ∙ not-true _ (c .if1 .taken))
+
+halved-requires : tie.Need-halved-requires
+halved-requires c κs = search needs
 
 accepts-requires : tie.Need-accepts-requires
 accepts-requires c κs = search needs
@@ -22,11 +26,11 @@ enum-told-2 : tie.Need-enum-told-2
 enum-told-2 c = search needs
 
 returns-2 : tie.Need-returns-2
-returns-2 c = let a = c .before .before in
-    put-refused _ _ _ _ _ (sym (a .before .before .is-table .ensures) ∙ not-false _ (a .before .if1 .left)) (a .accepts .ensures) (c .enum-told2 .given .1)
-
-halved-requires : tie.Need-halved-requires
-halved-requires c κs = search needs
+returns-2 c = let a = c .before .before in let h = a .before in
+    put-refused _ _ _ _ _
+    (sym (h .before .before .serves .ensures) ∙ not-false _ (h .before .if1 .left))
+    (a .accepts .ensures ∙ ap (ruleReply _) (h .halved .ensures .reply))
+    (c .enum-told2 .given .1)
 
 store-requires : tie.Need-store-requires
 store-requires c κs = search needs
@@ -35,24 +39,24 @@ same-length : tie.Need-same-length
 same-length c = search needs
 
 returns-3 : tie.Need-returns-3
-returns-3 c = let d = c .before .before .before .before in let a = d .before .before in
+returns-3 c = let d = c .before .before .before in let a = d .before .before in let h = a .before in
     put-done _ _ _ _ _
-    (sym (a .before .before .is-table .ensures) ∙ not-false _ (a .before .if1 .left))
-    (sym (d .enum-told .given .1) ∙ a .accepts .ensures)
-    (c .before .before .halved .ensures .reply)
+    (sym (h .before .before .serves .ensures) ∙ not-false _ (h .before .if1 .left))
+    (sym (d .enum-told .given .1) ∙ a .accepts .ensures ∙ ap (ruleReply _) (h .halved .ensures .reply))
+    (h .halved .ensures .reply)
     (c .before .store .ensures)
 
 pub put-spec : {M : Type 1} → statement M
 put-spec =
     tie.close
     (tie.spec
-    is-table-requires
+    serves-requires
     returns
+    halved-requires
     accepts-requires
     enum-told
     enum-told-2
     returns-2
-    halved-requires
     store-requires
     same-length
     returns-3)

@@ -1,33 +1,40 @@
--- `table::store` meets its contract: each variant goes to the place that the definition names. Assumes nothing.
-use mathlib.Core.Path.{_≡_, sym, _∙_, ap₂}
+-- `table::store` meets its contract: the word goes to the place found, and nowhere where there is none. Assumes nothing.
+use mathlib.Core.Path.{_≡_, sym, _∙_, ap}
 use mathlib.Core.List.{List}
-use Prim.Native.Nat.{ℕ}
 use lib.IntN.{ℤ}
+use mir.Syntax.{w64}
+use mir.Val.{toZ, ofZ}
+use Prim.Native.Nat.{ℕ}
 use borrow.Author.Needs.{needs}
-use Rattle.words.specs.Change.{lowered}
 use Rattle.integers.proofs.Parts.{held-value}
-use Rattle.tables.specs.Places.{placeOf}
-use Rattle.tables.specs.Tables.{putUndoubled}
+use Rattle.words.specs.Change.{lowered}
+use Rattle.places.specs.declared.Place.the-variants.{At, Nowhere}
+use Rattle.rules.specs.declared.rule.Rule.{Rule}
+use Rattle.rules.specs.Meaning.{boundOf}
+use Rattle.tables.specs.Places.{findPlace}
+use Rattle.tables.specs.Tables.{putAt, putHalved}
 use Rattle.tables.proofs.table.store.Statement.{statement}
 use Rattle.tables.proofs.table.store.Tie as tie
 
-enum-known-rule : tie.Need-enum-known-rule
-enum-known-rule c = search needs
+place-of-requires : tie.Need-place-of-requires
+place-of-requires c κs = search needs
 
-of-one-requires : tie.Need-of-one-requires
-of-one-requires c κs = search needs
+put-at : (t : List ℤ) (r : Rule) (k : ℕ) (w : ℤ) → findPlace r ≡ At k → w ≡ boundOf r → lowered t k w ≡ putHalved t r
+unfolding putHalved putAt
+put-at t r k w e f = rw (e, f)
+
+put-nowhere : (t : List ℤ) (r : Rule) → findPlace r ≡ Nowhere → t ≡ putHalved t r
+unfolding putHalved putAt
+put-nowhere t r e = rw e
+
+enum-known-place : tie.Need-enum-known-place
+enum-known-place c = search needs
+
+bound-requires : tie.Need-bound-requires
+bound-requires c κs = search needs
 
 lower-requires : tie.Need-lower-requires
 lower-requires c κs = search needs
-
-enum-known-rule-2 : tie.Need-enum-known-rule-2
-enum-known-rule-2 c = search needs
-
-of-two-requires : tie.Need-of-two-requires
-of-two-requires c κs = search needs
-
-lower-requires-2 : tie.Need-lower-requires-2
-lower-requires-2 c κs = search needs
 
 enum-told : tie.Need-enum-told
 enum-told c = search needs
@@ -36,37 +43,22 @@ same-length : tie.Need-same-length
 same-length c = search needs
 
 returns : tie.Need-returns
-unfolding putUndoubled placeOf
-returns c = let m = c .before .before .before .before in
-    rw (m .before .rule .given .1)
-    (c .before .lower .ensures ∙ ap₂ (lowered _) (c .before .before .of-one .ensures) (held-value (m .known-told .given .1 .0 .1)))
-
-same-length-2 : tie.Need-same-length-2
-same-length-2 c = search needs
+returns c = let b = c .before .before in let m = b .before .before in
+    c .before .lower .ensures
+    ∙ put-at _ _ _ _ (sym (m .before .before .before .place-of .ensures) ∙ m .before .place .given .1) (held-value (b .bound .ok) ∙ b .bound .ensures)
 
 returns-2 : tie.Need-returns-2
-unfolding putUndoubled placeOf
-returns-2 c = let m = c .before .before .before .before in
-    rw (m .before .rule2 .given .1)
-    (c .before .lower2 .ensures ∙ ap₂ (lowered _) (c .before .before .of-two .ensures) (held-value (m .known-told2 .given .1 .1 .0 .1)))
-
-returns-3 : tie.Need-returns-3
-unfolding putUndoubled
-returns-3 c = rw (c .enum-told .given .1)
+returns-2 c = put-nowhere _ _ (sym (c .before .before .place-of .ensures) ∙ c .enum-told .given .1)
 
 pub store-spec : {M : Type 1} → statement M
 store-spec =
     tie.close
     (tie.spec
-    enum-known-rule
-    of-one-requires
+    place-of-requires
+    enum-known-place
+    bound-requires
     lower-requires
-    enum-known-rule-2
-    of-two-requires
-    lower-requires-2
     enum-told
     same-length
     returns
-    same-length-2
-    returns-2
-    returns-3)
+    returns-2)

@@ -1,4 +1,4 @@
--- `table::is_table` meets its contract: the size is the definition's. Assumes nothing.
+-- `table::serves` meets its contract: the size is the definition's. Assumes nothing.
 use mathlib.Core.Path.{_≡_, sym, _∙_}
 use mathlib.Core.Bool.{false}
 use Prim.Native.Nat.{ℕ, _<_}
@@ -7,8 +7,8 @@ use borrow.Author.Needs.{needs}
 use borrow.Author.Tests.{lt-ltb}
 use lib.Dec.{leb}
 use Rattle.tables.specs.Tables.{tableSize, serves}
-use Rattle.tables.proofs.table.is_table.Statement.{statement}
-use Rattle.tables.proofs.table.is_table.Tie as tie
+use Rattle.tables.proofs.table.serves.Statement.{statement}
+use Rattle.tables.proofs.table.serves.Tie as tie
 
 no-size : (n words s : ℕ) → s ≡ tableSize n → s ≡ 0 → false ≡ serves n words
 unfolding serves
@@ -27,5 +27,5 @@ returns c = no-size _ _ _ (c .before .size .ensures) (c .if1 .taken)
 returns-2 : tie.Need-returns-2
 returns-2 c = some-size _ _ _ (c .before .size .ensures) (c .if1 .left)
 
-pub is-table-spec : {M : Type 1} → statement M
-is-table-spec = tie.close (tie.spec size-requires returns returns-2)
+pub serves-spec : {M : Type 1} → statement M
+serves-spec = tie.close (tie.spec size-requires returns returns-2)

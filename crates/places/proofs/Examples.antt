@@ -1,6 +1,6 @@
 -- Document 01's places: quantity 3 starts at 8, and +1+3 has place 10. Assumes nothing.
 use mathlib.Core.Path.{_≡_, refl}
-use Rattle.places.specs.Numbering.{blockStart, placeOfOne, placeOfPair, placeOfTwo, blockUpTo, blockOf, offsetOf, isOne, higherAt, lowerAt}
+use Rattle.places.specs.Numbering.{blockStart, placeOfOne, placeOfPair, placeOfTwo, blockUpTo, blockOf, offsetOf, higherAt, lowerAt}
 
 -- +3 is literal 4
 plus-3 : placeOfOne 4 ≡ 8

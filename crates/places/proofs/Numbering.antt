@@ -1,14 +1,13 @@
 -- The numbering goes both ways: blocks do not overlap and leave no place out, so a place has one block, one offset and one term.
 -- Assumes nothing.
-use mathlib.Core.Path.{_≡_, refl, sym, _∙_, ap}
+use mathlib.Core.Path.{_≡_, refl}
 use mathlib.Core.Bool.{Bool, true, false, cond}
-use mathlib.Core.Logic.{_⊎_, ⊎-elim}
-use Prim.Native.Nat.{ℕ, zero, suc, _+_, _-_, _*_, _/_, _%_, _≤_, _<_}
+use Prim.Native.Nat.{ℕ, zero, suc, _+_, _*_, _/_, _%_, _≤_, _<_}
 use native.Mathlib.Omega.{arith}
 use native.Mathlib.Nat.{mul-le-mul}
-use lib.Dec.{leb, ltb}
+use lib.Dec.{leb}
 use borrow.Author.Tests.{leb-true, leb-false, ltb-true, ltb-false, lt-ltb, le-ltb}
-use Rattle.places.specs.Numbering.{blockStart, placeOfOne, placeOfPair, placeOfTwo, blockUpTo, blockOf, offsetOf, isOne, higherAt, lowerAt}
+use Rattle.places.specs.Numbering.{blockStart, placeOfOne, placeOfPair, blockUpTo, blockOf, offsetOf, isOne, higherAt, lowerAt}
 
 -- ---- blocks
 

@@ -1,6 +1,6 @@
 -- The numbering of terms (document 01, 'The table'): each term of one or two quantities has its place, counted from 0. Literals are codes:
 -- quantity q has 2(q - 1) with + and 2(q - 1) + 1 with -.
-use mathlib.Core.Bool.{Bool, true, false, cond}
+use mathlib.Core.Bool.{Bool, cond}
 use Prim.Native.Nat.{ℕ, zero, suc, _+_, _-_, _*_, _/_, _%_}
 use lib.Dec.{leb, ltb, eqb}
 use Rattle.places.specs.declared.Place.{Place}

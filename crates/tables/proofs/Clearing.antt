@@ -12,7 +12,7 @@ use lib.ListN.{length}
 use borrow.Author.Tests.{ltb-true, ltb-false, lt-ltb}
 use Rattle.words.specs.Change.{wordAt, change, fillFrom}
 use Rattle.words.proofs.Change.{change-is, change-length, change-below, change-past, change-nothing, fill-at}
-use Rattle.places.specs.Numbering.{blockStart, blockOf, offsetOf}
+use Rattle.places.specs.Numbering.{blockStart, offsetOf}
 use Rattle.places.proofs.Numbering.{blockStart-suc, block-unique, block-below, offset-below, offset-place}
 use Rattle.rules.specs.Limits.{noRule}
 use Rattle.rules.specs.Meaning.{names}

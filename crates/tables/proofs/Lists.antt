@@ -1,22 +1,20 @@
 -- A table made of a list of rules is satisfied exactly by what meets each of them. Assumes nothing.
-use mathlib.Core.Path.{_≡_, refl, sym, _∙_}
-use mathlib.Core.Bool.{true}
+use mathlib.Core.Path.{_≡_, refl, _∙_}
 use mathlib.Core.List.{List, [], _∷_}
 use mathlib.Core.Logic.{_↔_}
-use Prim.Native.Nat.{ℕ, _≤_, _<_}
+use Prim.Native.Nat.{ℕ, _≤_}
 use native.Mathlib.Omega.{arith}
 use lib.IntN.{ℤ, pos}
 use lib.ListN.{length, getD-replicate, length-replicate}
-use Rattle.words.specs.Change.{wordAt}
 use Rattle.words.proofs.Change.{lowered-length}
 use Rattle.places.specs.declared.Place.{Place}
 use Rattle.places.specs.declared.Place.the-variants.{At, Nowhere}
 use Rattle.places.specs.Numbering.{blockStart}
 use Rattle.rules.specs.declared.rule.Rule.{Rule}
 use Rattle.rules.specs.Limits.{noRule}
-use Rattle.rules.specs.Meaning.{Assignment, Meets, boundOf}
+use Rattle.rules.specs.Meaning.{Assignment, boundOf}
 use Rattle.rules.specs.Steps.{halvedOf}
-use Rattle.tables.specs.Places.{ruleAt, findPlace}
+use Rattle.tables.specs.Places.{findPlace}
 use Rattle.tables.specs.Tables.{hasRule, emptyTable, putAt, putHalved, putRule, putAll, AllAccepted, tableOf}
 use Rattle.tables.specs.Meaning.{Satisfies, MeetsAll}
 use Rattle.tables.proofs.Tests.{clash}
@@ -48,10 +46,9 @@ putAll-meaning n t (r ∷ rs) σ l a =
 -- ---- from no rules
 
 pub empty-satisfied : (n : ℕ) (σ : Assignment) → Satisfies n (emptyTable n) σ
-empty-satisfied n σ = record { each = go }
-  where
-    go : (k : ℕ) → k < blockStart n → k < length (emptyTable n) → hasRule (wordAt (emptyTable n) k) ≡ true → Meets σ (ruleAt k (wordAt (emptyTable n) k))
-    go k h l e = clash {b = hasRule noRule} (rw (getD-replicate (blockStart n) k noRule (pos 0) h) at e) refl
+empty-satisfied n σ = record {
+  each = λ k p. clash {b = hasRule noRule} (rw (getD-replicate (blockStart n) k noRule (pos 0) (p .inside)) at (p .rule)) refl;
+}
 
 pub tableOf-length : (n : ℕ) (rs : List Rule) → length (tableOf n rs) ≡ blockStart n
 tableOf-length n rs = putAll-length (emptyTable n) rs ∙ length-replicate (blockStart n) noRule

@@ -1,6 +1,6 @@
 -- What tables mean: an assignment satisfies a table by the quantities 1 to n alone; the sheet allows visible integers whatever stands at the
 -- hidden quantities. Assumes nothing.
-use mathlib.Core.Path.{_≡_, refl, sym, _∙_, ap}
+use mathlib.Core.Path.{_≡_, refl}
 use mathlib.Core.Bool.{Bool, true, false, cond}
 use mathlib.Core.List.{List}
 use mathlib.Core.Logic.{_↔_}
@@ -8,13 +8,11 @@ use Prim.Native.Nat.{ℕ, _≤_, _<_}
 use lib.IntN.{ℤ, pos}
 use lib.ListN.{length}
 use Rattle.words.specs.Change.{wordAt}
-use Rattle.places.specs.Numbering.{blockStart}
 use Rattle.rules.specs.declared.rule.Rule.{Rule}
-use Rattle.rules.specs.Meaning.{Assignment, Meets, termValue, boundOf}
-use Rattle.rules.specs.Meaning.{names}
-use Rattle.tables.specs.Places.{ruleAt, placeOf, HasPlace}
+use Rattle.rules.specs.Meaning.{Assignment, Meets, boundOf, names}
+use Rattle.tables.specs.Places.{placeOf, HasPlace}
 use Rattle.tables.specs.Tables.{hasRule}
-use Rattle.tables.specs.Meaning.{Satisfies, joined, SheetAllows, ScriptAllows, SameVisible, NamesVisible}
+use Rattle.tables.specs.Meaning.{HoldsRule, ruleIn, Satisfies, joined, SheetAllows, ScriptAllows, SameVisible, NamesVisible}
 use Rattle.tables.proofs.Places.{ruleAt-bound, ruleAt-place, ruleAt-hasPlace, hasPlace-below, hasPlace-names}
 use Rattle.tables.proofs.Values.{place-value, meets-at, meets-named}
 
@@ -26,25 +24,28 @@ satisfies-terms n t σ = (to, of)
   where
     to : Satisfies n t σ → (r : Rule) → HasPlace n r → placeOf r < length t → boundOf r ≡ wordAt t (placeOf r) → hasRule (boundOf r) ≡ true → Meets σ r
     to s r u l e h =
-        let m = s .each (placeOf r) (hasPlace-below n r u) l (rw (← e) h) in
+        let m = s .each (placeOf r) (record { inside = hasPlace-below n r u; there = l; rule = rw (← e) h }) in
         record { met = rw (← place-value n σ r (pos 0) u, e) (meets-at σ (placeOf r) (wordAt t (placeOf r)) m) }
 
     of : ((r : Rule) → HasPlace n r → placeOf r < length t → boundOf r ≡ wordAt t (placeOf r) → hasRule (boundOf r) ≡ true → Meets σ r) → Satisfies n t σ
     of f = record {
-      each = λ k h l e. f (ruleAt k (wordAt t k)) (ruleAt-hasPlace n k (wordAt t k) h) (rw (ruleAt-place k (wordAt t k)) l)
-          (rw (ruleAt-bound k (wordAt t k), ruleAt-place k (wordAt t k))) (rw (ruleAt-bound k (wordAt t k)) e);
+      each = λ k p. f (ruleIn t k) (ruleAt-hasPlace n k (wordAt t k) (p .inside)) (rw (ruleAt-place k (wordAt t k)) (p .there))
+          (rw (ruleAt-bound k (wordAt t k), ruleAt-place k (wordAt t k))) (rw (ruleAt-bound k (wordAt t k)) (p .rule));
     }
+
+-- the rules of a table name quantities of 1 to n alone
+in-range : (n : ℕ) (t : List ℤ) (k : ℕ) → HoldsRule n t k → (q : ℕ) → names q (ruleIn t k) ≡ true → (1 ≤ q) × (q ≤ n)
+in-range n t k p q e = hasPlace-names n q (ruleIn t k) (ruleAt-hasPlace n k (wordAt t k) (p .inside)) e
 
 -- two assignments give the quantities 1 to n the same integers
 abbrev pub Agree : ℕ → Assignment → Assignment → Type 0
 Agree n σ τ = (q : ℕ) → 1 ≤ q → q ≤ n → σ q ≡ τ q
 
 pub satisfies-agree : (n : ℕ) (t : List ℤ) (σ τ : Assignment) → Agree n σ τ → Satisfies n t σ → Satisfies n t τ
-satisfies-agree n t σ τ a s = record { each = λ k h l e. meets-named σ τ (ruleAt k (wordAt t k)) (same k h) (s .each k h l e) }
+satisfies-agree n t σ τ a s = record { each = λ k p. meets-named σ τ (ruleIn t k) (same k p) (s .each k p) }
   where
-    same : (k : ℕ) → k < blockStart n → (q : ℕ) → names q (ruleAt k (wordAt t k)) ≡ true → σ q ≡ τ q
-    same k h q e =
-        let l = hasPlace-names n q (ruleAt k (wordAt t k)) (ruleAt-hasPlace n k (wordAt t k) h) e in a q (l .0) (l .1)
+    same : (k : ℕ) → HoldsRule n t k → (q : ℕ) → names q (ruleIn t k) ≡ true → σ q ≡ τ q
+    same k p q e = let l = in-range n t k p q e in a q (l .0) (l .1)
 
 -- what the sheet allows does not depend on what stands at hidden quantities, nor on quantities past n
 pub allows-visible : (n : ℕ) (hidden : ℕ → Bool) (t : List ℤ) (σ τ : Assignment) → SameVisible n hidden σ τ
@@ -66,14 +67,10 @@ allows-none-visible n hidden t σ τ all = allows-visible n hidden t σ τ (λ q
 -- a script whose rules name visible quantities alone allows visible integers whatever stands at the hidden quantities
 pub script-visible : (n : ℕ) (hidden : ℕ → Bool) (t : List ℤ) (σ τ : Assignment) → NamesVisible n hidden t → SameVisible n hidden σ τ
     → ScriptAllows n t σ → ScriptAllows n t τ
-script-visible n hidden t σ τ v same s = record
-  { each = λ k h l e. meets-named σ τ (ruleAt k (wordAt t k)) (agree k h l e) (s .each k h l e)
-  }
+script-visible n hidden t σ τ v same s = record { each = λ k p. meets-named σ τ (ruleIn t k) (agree k p) (s .each k p) }
   where
-    agree : (k : ℕ) → k < blockStart n → k < length t → hasRule (wordAt t k) ≡ true → (q : ℕ) → names q (ruleAt k (wordAt t k)) ≡ true → σ q ≡ τ q
-    agree k h l e q d =
-      let i = hasPlace-names n q (ruleAt k (wordAt t k)) (ruleAt-hasPlace n k (wordAt t k) h) d in
-      same q (i .0) (i .1) (v .each k h l e q d)
+    agree : (k : ℕ) → HoldsRule n t k → (q : ℕ) → names q (ruleIn t k) ≡ true → σ q ≡ τ q
+    agree k p q e = let l = in-range n t k p q e in same q (l .0) (l .1) (v .each k p q e)
 
 -- where no quantity is visible it allows the one empty choice or forbids it
 pub script-none-visible : (n : ℕ) (hidden : ℕ → Bool) (t : List ℤ) (σ τ : Assignment) → NamesVisible n hidden t

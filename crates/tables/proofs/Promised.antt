@@ -1,8 +1,8 @@
 -- The contracts' records from plain facts: a refusal and a success of each call on a table. Assumes nothing.
 use mathlib.Core.Path.{_≡_, refl, sym, _∙_, ap}
-use mathlib.Core.Bool.{Bool, true, false}
+use mathlib.Core.Bool.{true, false}
 use mathlib.Core.List.{List, _++_}
-use mathlib.Core.Logic.{_↔_, _⊎_, inl, inr}
+use mathlib.Core.Logic.{_⊎_, inl, inr}
 use Prim.Native.Nat.{ℕ, _≤_, _<_}
 use native.Mathlib.Omega.{arith}
 use lib.IntN.{ℤ, pos}
@@ -15,16 +15,16 @@ use Rattle.rules.specs.declared.rule.Rule.{Rule}
 use Rattle.rules.specs.declared.refusal.Refusal.{Refusal}
 use Rattle.rules.specs.declared.refusal.Refusal.the-variants.{Size, OutOfLimit}
 use Rattle.rules.specs.Limits.{noRule}
-use Rattle.rules.specs.Meaning.{Assignment, Meets}
+use Rattle.rules.specs.Meaning.{Assignment}
 use Rattle.rules.specs.Steps.{halvedOf}
 use Rattle.tables.specs.declared.reply.Reply.{Reply}
 use Rattle.tables.specs.declared.reply.Reply.the-variants.{Done, Refused}
 use Rattle.tables.specs.Places.{ruleAt}
-use Rattle.tables.specs.Tables.{tableSize, emptyTable, serves, hasRule, ruleReply, putReply, putHalved, putRule, clearReply, cleared, isDone}
+use Rattle.tables.specs.Tables.{tableSize, emptyTable, serves, hasRule, ruleReply, putReply, putHalved, putRule, clearReply, cleared}
 use Rattle.tables.specs.Meaning.{Satisfies}
 use Rattle.tables.specs.Promises.{Emptied, Put, Cleared, AtPlace}
 use Rattle.tables.proofs.Tests.{refused-done, clash}
-use Rattle.tables.proofs.Sizes.{Served, serves-tells}
+use Rattle.tables.proofs.Sizes.{serves-tells}
 use Rattle.tables.proofs.Places.{ruleAt-bound, ruleAt-found, ruleAt-hasPlace}
 use Rattle.tables.proofs.Putting.{accepted-put}
 use Rattle.tables.proofs.Without.{cleared-meaning}
@@ -36,7 +36,7 @@ emptied-refused n t e = record { reply = rw e; table = refl; meaning = λ d. abs
 
 -- the empty table in front asks nothing, whatever follows it
 no-rules : (n : ℕ) (v : List ℤ) (σ : Assignment) → Satisfies n (emptyTable n ++ v) σ
-no-rules n v σ = record { each = λ k h l r. clash {b = hasRule noRule} (rw (word k h) at r) refl }
+no-rules n v σ = record { each = λ k p. clash {b = hasRule noRule} (rw (word k (p .inside)) at (p .rule)) refl }
   where
     word : (k : ℕ) → k < blockStart n → wordAt (emptyTable n ++ v) k ≡ noRule
     word k h =

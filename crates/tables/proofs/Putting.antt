@@ -1,14 +1,14 @@
 -- A rule put in: the table is satisfied afterwards exactly by what satisfied it before and meets the rule. Assumes nothing.
-use mathlib.Core.Path.{_≡_, refl, sym, _∙_, ap, subst}
+use mathlib.Core.Path.{_≡_, refl, sym, subst}
 use mathlib.Core.Bool.{Bool, true, false, cond, _&&_}
 use mathlib.Core.List.{List}
 use mathlib.Core.Logic.{_↔_}
-use Prim.Native.Nat.{ℕ, _+_, _-_, _*_, _/_, _%_, _≤_, _<_}
+use Prim.Native.Nat.{ℕ, _*_, _≤_, _<_}
 use native.Mathlib.Omega.{arith}
 use lib.Dec.{eqb, ltb}
 use lib.IntN.{ℤ, pos}
 use lib.ListN.{length}
-use lib.Signed.{_≤ℤ_, ltZ}
+use lib.Signed.{_≤ℤ_}
 use borrow.Author.Tests.{eqb-true, eqb-false, ltb-true}
 use Rattle.integers.specs.Bound.{half, smaller}
 use Rattle.integers.proofs.Parts.{linear, ltZ-true, ltZ-false, smaller-left, smaller-right, smaller-either}
@@ -22,10 +22,10 @@ use Rattle.rules.specs.Literal.{quantityOf, negated}
 use Rattle.rules.specs.Meaning.{Assignment, Meets, termValue, boundOf}
 use Rattle.rules.specs.Steps.{halvedOf}
 use Rattle.rules.proofs.Meanings.{halved-meaning}
-use Rattle.tables.specs.declared.reply.Reply.the-variants.{Done, Refused}
+use Rattle.tables.specs.declared.reply.Reply.the-variants.{Done}
 use Rattle.tables.specs.Places.{ruleAt, placeOf, findPlace, HasPlace}
 use Rattle.tables.specs.Tables.{hasRule, ruleReply, putAt, putHalved, putRule}
-use Rattle.tables.specs.Meaning.{Satisfies}
+use Rattle.tables.specs.Meaning.{HoldsRule, ruleIn, Satisfies}
 use Rattle.tables.proofs.Places.{hasPlace-below, found-two}
 use Rattle.tables.proofs.Values.{place-value, meets-at, at-meets}
 use Rattle.tables.proofs.Tests.{passed, not-refused, both-true}
@@ -48,28 +48,28 @@ module _ (n : ℕ) (t : List ℤ) (k : ℕ) (c : ℤ) (σ : Assignment) (l : k <
       )
 
   lowered-to : k < blockStart n → hasRule c ≡ true → Satisfies n (lowered t k c) σ → Satisfies n t σ × Meets σ (ruleAt k c)
-  lowered-to b e s = (record { each = λ j h g q. go j h g q (eqb j k) refl }, here .1)
+  lowered-to b e s = (record { each = λ j p. go j p (eqb j k) refl }, here .1)
     where
       at-k : hasRule (smaller (wordAt t k) c) ≡ true → Meets σ (ruleAt k (wordAt t k)) × Meets σ (ruleAt k c)
       at-k r = stronger
-        (rw (lowered-same t k c l) at (s .each k b (rw (lowered-length t k c) l) (rw (lowered-same t k c l) r)))
+        (rw (lowered-same t k c l) at (s .each k (record { inside = b; there = rw (lowered-length t k c) l; rule = rw (lowered-same t k c l) r })))
 
       here : Meets σ (ruleAt k (wordAt t k)) × Meets σ (ruleAt k c)
       here = at-k (rule-below (smaller (wordAt t k) c) c (smaller-right (wordAt t k) c) e)
 
-      go : (j : ℕ) → j < blockStart n → j < length t → hasRule (wordAt t j) ≡ true → (d : Bool) → eqb j k ≡ d → Meets σ (ruleAt j (wordAt t j))
-      go j h g q true w = rw (eqb-true j k w) (here .0)
-      go j h g q false w =
+      go : (j : ℕ) → HoldsRule n t j → (d : Bool) → eqb j k ≡ d → Meets σ (ruleIn t j)
+      go j p true w = rw (eqb-true j k w) (here .0)
+      go j p false w =
         let same : wordAt (lowered t k c) j ≡ wordAt t j = lowered-other t k j c (eqb-false j k w) in
-        rw same at (s .each j h (rw (lowered-length t k c) g) (rw same q))
+        rw same at (s .each j (record { inside = p .inside; there = rw (lowered-length t k c) (p .there); rule = rw same (p .rule) }))
 
   lowered-of : Satisfies n t σ → Meets σ (ruleAt k c) → Satisfies n (lowered t k c) σ
-  lowered-of s m = record { each = λ j h g q. go j h (rw (lowered-length t k c) at g) q (eqb j k) refl }
+  lowered-of s m = record { each = λ j p. go j (p .inside) (rw (lowered-length t k c) at (p .there)) (p .rule) (eqb j k) refl }
     where
       here : k < blockStart n → hasRule (wordAt (lowered t k c) k) ≡ true → Meets σ (ruleAt k (wordAt (lowered t k c) k))
       here b =
         rw (lowered-same t k c l)
-        (smaller-either (λ z. hasRule z ≡ true → Meets σ (ruleAt k z)) (wordAt t k) c (s .each k b l) (λ q. m))
+        (smaller-either (λ z. hasRule z ≡ true → Meets σ (ruleAt k z)) (wordAt t k) c (λ q. s .each k (record { inside = b; there = l; rule = q })) (λ q. m))
 
       go : (j : ℕ) → j < blockStart n → j < length t → hasRule (wordAt (lowered t k c) j) ≡ true → (d : Bool) → eqb j k ≡ d
           → Meets σ (ruleAt j (wordAt (lowered t k c) j))
@@ -77,7 +77,7 @@ module _ (n : ℕ) (t : List ℤ) (k : ℕ) (c : ℤ) (σ : Assignment) (l : k <
         subst (λ (i : ℕ). i < blockStart n → hasRule (wordAt (lowered t k c) i) ≡ true → Meets σ (ruleAt i (wordAt (lowered t k c) i)))
         (sym (eqb-true j k w)) here h q
       go j h g q false w =
-        rw (lowered-other t k j c (eqb-false j k w)) (s .each j h g (rw (lowered-other t k j c (eqb-false j k w)) at q))
+        rw (lowered-other t k j c (eqb-false j k w)) (s .each j (record { inside = h; there = g; rule = rw (lowered-other t k j c (eqb-false j k w)) at q }))
 
 -- a rule that has a place, put in there
 pub hasPlace-put : (n : ℕ) (t : List ℤ) (r : Rule) (σ : Assignment) → blockStart n ≤ length t → HasPlace n r → hasRule (boundOf r) ≡ true

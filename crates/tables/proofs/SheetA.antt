@@ -1,21 +1,19 @@
 -- Document 01's sheet A, on which the meanings are shown by witnesses: it allows 3 and 0 for quantities 1 and 3, by 1 for the hidden
 -- quantity 2, and it does not allow 0 and 6. Assumes nothing.
-use mathlib.Core.Path.{_≡_, refl}
+use mathlib.Core.Path.{refl}
 use mathlib.Core.Bool.{Bool}
 use mathlib.Core.List.{List, [], _∷_}
 use Prim.Native.Nat.{ℕ, pred}
-use native.Mathlib.Omega.{arith}
 use lib.IntN.{ℤ, pos, negsuc, negℤ, _+ℤ_}
 use lib.ListN.{getD}
 use lib.Signed.{_≤ℤ_, leZ-yes}
 use Rattle.integers.proofs.Parts.{linear, positivePart, negativePart, parts-add, parts-neg}
 use Rattle.rules.specs.declared.rule.Rule.{Rule}
 use Rattle.rules.specs.Hidden.{hiddenIn}
-use Rattle.rules.specs.Meaning.{Assignment, Meets, literalValue}
+use Rattle.rules.specs.Meaning.{Assignment, literalValue}
 use Rattle.rules.specs.Steps.{ruleOf, halvedOf}
-use Rattle.tables.specs.declared.reply.Reply.the-variants.{Done}
 use Rattle.tables.specs.Tables.{AllAccepted, tableOf, ruleReply}
-use Rattle.tables.specs.Meaning.{Satisfies, MeetsAll, SheetAllows, joined, Completes}
+use Rattle.tables.specs.Meaning.{SheetAllows, joined, Completes}
 use Rattle.tables.proofs.Lists.{tableOf-meaning}
 
 -- +1+2:5, +1-2:2, +3-2:0

@@ -1,15 +1,15 @@
 -- What it tells that a table serves n quantities. Assumes nothing.
-use mathlib.Core.Path.{_≡_, refl, sym, _∙_, ap}
+use mathlib.Core.Path.{_≡_, refl}
 use mathlib.Core.Bool.{Bool, true, false, cond, _&&_}
 use Prim.Native.Nat.{ℕ, _*_, _≤_, _<_}
 use native.Mathlib.Nat.{mul-le-mul}
 use native.Mathlib.Omega.{arith}
 use lib.Dec.{leb, ltb}
-use borrow.Author.Tests.{leb-true, ltb-true, le-leb}
+use borrow.Author.Tests.{leb-true, ltb-true}
 use Rattle.places.specs.Numbering.{blockStart}
 use Rattle.rules.specs.Limits.{maxQuantities}
 use Rattle.tables.specs.Tables.{tableSize, serves}
-use Rattle.tables.proofs.Tests.{both-true, clash}
+use Rattle.tables.proofs.Tests.{both-true}
 
 -- the square of an n in its range, and where its block starts, are small
 pub small-square : (n : ℕ) → n ≤ maxQuantities → n * n ≤ maxQuantities * maxQuantities

@@ -1,6 +1,6 @@
 -- What a rule's term is worth, and on what that depends: not on the order of its literals, not on its bound, and only on the quantities
 -- that it names. Assumes nothing.
-use mathlib.Core.Path.{_≡_, refl, sym, _∙_, ap, ap₂}
+use mathlib.Core.Path.{_≡_, refl, _∙_, ap, ap₂}
 use mathlib.Core.Bool.{Bool, true, false, cond}
 use Prim.Native.Nat.{ℕ, _%_}
 use lib.Dec.{ltb, eqb}
@@ -11,8 +11,7 @@ use Rattle.places.specs.Numbering.{isOne, higherAt, lowerAt}
 use Rattle.rules.specs.declared.rule.Rule.{Rule}
 use Rattle.rules.specs.declared.rule.Rule.the-variants.{One, Two, Nothing}
 use Rattle.rules.specs.Literal.{quantityOf}
-use Rattle.rules.specs.Meaning.{Assignment, literalValue, termValue, boundOf, Meets}
-use Rattle.rules.specs.Meaning.{names}
+use Rattle.rules.specs.Meaning.{Assignment, literalValue, termValue, boundOf, Meets, names}
 use Rattle.rules.specs.Steps.{inOrder}
 use Rattle.tables.specs.Places.{ruleAt, placeOf, HasPlace}
 use Rattle.tables.proofs.Places.{ruleAt-bound, ruleAt-inOrder}

@@ -12,11 +12,10 @@ use Rattle.words.specs.Change.{wordAt}
 use Rattle.words.proofs.Change.{change-length, change-below}
 use Rattle.places.specs.Numbering.{blockStart}
 use Rattle.rules.specs.Limits.{noRule}
-use Rattle.rules.specs.Meaning.{Assignment, Meets}
-use Rattle.rules.specs.Meaning.{names}
+use Rattle.rules.specs.Meaning.{Assignment, Meets, names}
 use Rattle.tables.specs.Places.{ruleAt}
 use Rattle.tables.specs.Tables.{hasRule, cleared}
-use Rattle.tables.specs.Meaning.{Satisfies, SatisfiesWithout}
+use Rattle.tables.specs.Meaning.{ruleIn, Satisfies, SatisfiesWithout}
 use Rattle.tables.proofs.Tests.{clash}
 use Rattle.tables.proofs.Values.{meets-named}
 
@@ -39,16 +38,21 @@ cleared-meaning n q t σ l = (to, of)
     kept k h e = cleared-word n q t k l h ∙ rw e
 
     to : Satisfies n (cleared n q t) σ → SatisfiesWithout q n t σ
-    to s = record { each = λ k h g r e. rw (kept k h e) at (s .each k h (rw (cleared-length n q t) g) (rw (kept k h e) r)) }
+    to s = record {
+      each = λ k p e. rw (kept k (p .inside) e)
+          at (s .each k (record { inside = p .inside; there = rw (cleared-length n q t) (p .there); rule = rw (kept k (p .inside) e) (p .rule) }));
+    }
 
-    go : SatisfiesWithout q n t σ → (k : ℕ) → k < blockStart n → k < length t → (b : Bool) → names q (ruleAt k (wordAt t k)) ≡ b
+    go : SatisfiesWithout q n t σ → (k : ℕ) → k < blockStart n → k < length t → (b : Bool) → names q (ruleIn t k) ≡ b
         → hasRule (cond b noRule (wordAt t k)) ≡ true → Meets σ (ruleAt k (cond b noRule (wordAt t k)))
     go s k h g true e r = clash r refl
-    go s k h g false e r = s .each k h g r e
+    go s k h g false e r = s .each k (record { inside = h; there = g; rule = r }) e
 
     of : SatisfiesWithout q n t σ → Satisfies n (cleared n q t) σ
     of s = record {
-      each = λ k h g. rw (cleared-word n q t k l h) (go s k h (rw (cleared-length n q t) at g) (names q (ruleAt k (wordAt t k))) refl);
+      each = λ k p. rw (cleared-word n q t k l (p .inside))
+          (go s k (p .inside) (rw (cleared-length n q t) at (p .there)) (names q (ruleIn t k)) refl
+          (rw (cleared-word n q t k l (p .inside)) at (p .rule)));
     }
 
 -- ---- a rule that does not name a quantity does not see it
@@ -58,7 +62,7 @@ abbrev pub SameBut : ℕ → Assignment → Assignment → Type 0
 SameBut q σ τ = (p : ℕ) → (p ≡ q → ⊥) → σ p ≡ τ p
 
 pub without-same : (q n : ℕ) (t : List ℤ) (σ τ : Assignment) → SameBut q σ τ → SatisfiesWithout q n t σ → SatisfiesWithout q n t τ
-without-same q n t σ τ s w = record { each = λ k h g r e. meets-named σ τ (ruleAt k (wordAt t k)) (other k e) (w .each k h g r e) }
+without-same q n t σ τ s w = record { each = λ k p e. meets-named σ τ (ruleIn t k) (other k e) (w .each k p e) }
   where
-    other : (k : ℕ) → names q (ruleAt k (wordAt t k)) ≡ false → (p : ℕ) → names p (ruleAt k (wordAt t k)) ≡ true → σ p ≡ τ p
+    other : (k : ℕ) → names q (ruleIn t k) ≡ false → (p : ℕ) → names p (ruleIn t k) ≡ true → σ p ≡ τ p
     other k e p d = s p (λ same. clash (rw same at d) e)

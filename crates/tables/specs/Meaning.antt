@@ -10,19 +10,27 @@ use lib.Signed.{_≤ℤ_}
 use Rattle.words.specs.Change.{wordAt}
 use Rattle.places.specs.Numbering.{blockStart}
 use Rattle.rules.specs.declared.rule.Rule.{Rule}
-use Rattle.rules.specs.Meaning.{Assignment, Meets}
-use Rattle.rules.specs.Meaning.{names}
+use Rattle.rules.specs.Meaning.{Assignment, Meets, names}
 use Rattle.tables.specs.Places.{ruleAt}
 use Rattle.tables.specs.Tables.{hasRule}
 
--- an assignment satisfies a table over n quantities: it meets the rule of every place that has one, of the 2n² where the block of quantity n + 1
--- would start
+-- place k of a table over n quantities holds a rule: it is one of the table's 2n² places, and its word is not the no-rule word
+pub record HoldsRule (n : ℕ) (t : List ℤ) (k : ℕ) : Type 0 where
+  pub inside : k < blockStart n
+  pub there : k < length t
+  pub rule : hasRule (wordAt t k) ≡ true
+
+-- the rule that it holds
+abbrev pub ruleIn : List ℤ → ℕ → Rule
+ruleIn t k = ruleAt k (wordAt t k)
+
+-- an assignment satisfies a table over n quantities: it meets every rule that a place holds
 pub record Satisfies (n : ℕ) (t : List ℤ) (σ : Assignment) : Type 0 where
-  pub each : (k : ℕ) → k < blockStart n → k < length t → hasRule (wordAt t k) ≡ true → Meets σ (ruleAt k (wordAt t k))
+  pub each : (k : ℕ) → HoldsRule n t k → Meets σ (ruleIn t k)
 
 -- the same of the rules alone that do not name quantity q
 pub record SatisfiesWithout (q n : ℕ) (t : List ℤ) (σ : Assignment) : Type 0 where
-  pub each : (k : ℕ) → k < blockStart n → k < length t → hasRule (wordAt t k) ≡ true → names q (ruleAt k (wordAt t k)) ≡ false → Meets σ (ruleAt k (wordAt t k))
+  pub each : (k : ℕ) → HoldsRule n t k → names q (ruleIn t k) ≡ false → Meets σ (ruleIn t k)
 
 -- an assignment meets every rule of a list
 abbrev pub MeetsAll : Assignment → List Rule → Type 0
@@ -44,13 +52,13 @@ pub record SheetAllows (n : ℕ) (hidden : ℕ → Bool) (sheet : List ℤ) (vis
 
 -- the rules of a table name visible quantities alone
 pub record NamesVisible (n : ℕ) (hidden : ℕ → Bool) (t : List ℤ) : Type 0 where
-  pub each : (k : ℕ) → k < blockStart n → k < length t → hasRule (wordAt t k) ≡ true → (q : ℕ) → names q (ruleAt k (wordAt t k)) ≡ true → hidden q ≡ false
+  pub each : (k : ℕ) → HoldsRule n t k → (q : ℕ) → names q (ruleIn t k) ≡ true → hidden q ≡ false
 
--- the script allows the visible integers that satisfy every rule of its own, which name visible quantities alone; it forbids all others
+-- the script allows the visible integers that satisfy every rule of its own, which name visible quantities alone
 abbrev pub ScriptAllows : ℕ → List ℤ → Assignment → Type 0
 ScriptAllows n script visibles = Satisfies n script visibles
 
--- document 01: forbids
+-- and it forbids all others
 abbrev pub ScriptForbids : ℕ → List ℤ → Assignment → Type 0
 ScriptForbids n script visibles = ScriptAllows n script visibles → ⊥
 

@@ -5,7 +5,7 @@ use mathlib.Core.Path.{_≡_}
 use Prim.Native.Nat.{ℕ, zero, suc, _*_}
 use lib.Dec.{leb, ltb, eqb}
 use lib.IntN.{ℤ, pos, negℤ}
-use lib.ListN.{length, replicate}
+use lib.ListN.{replicate}
 use lib.Signed.{ltZ, leZ}
 use Rattle.words.specs.Change.{change, lowered}
 use Rattle.places.specs.declared.Place.{Place}
@@ -16,12 +16,11 @@ use Rattle.rules.specs.declared.rule.Rule.the-variants.{One, Two, Nothing}
 use Rattle.rules.specs.declared.refusal.Refusal.the-variants.{Size, OutOfLimit, Cancelling, NoAssignment}
 use Rattle.rules.specs.Limits.{maxQuantities, noRule}
 use Rattle.rules.specs.Literal.{negated}
-use Rattle.rules.specs.Meaning.{boundOf}
+use Rattle.rules.specs.Meaning.{boundOf, names}
 use Rattle.rules.specs.Refusal.{refusalNumber, refusalValues}
 use Rattle.rules.specs.Steps.{halvedOf}
 use Rattle.tables.specs.declared.reply.Reply.{Reply}
 use Rattle.tables.specs.declared.reply.Reply.the-variants.{Done, Refused}
-use Rattle.rules.specs.Meaning.{names}
 use Rattle.tables.specs.Places.{ruleAt, findPlace}
 
 -- the words of a table over n quantities, 2n²; none where n is outside its range

@@ -1,9 +1,9 @@
 -- `places::block` meets its contract. The loop's invariant: the present block starts at the place or before it; where the loop ends the next
 -- one starts past it, so the block is the one found. The measure is what is left of the place. Assumes nothing.
-use mathlib.Core.Path.{_≡_, refl, sym}
+use mathlib.Core.Path.{sym}
 use Prim.Native.Nat.{suc, _+_, _-_, _*_, _≤_, _<_}
 use native.Mathlib.Omega.{arith}
-use Rattle.places.specs.Numbering.{blockStart, blockOf}
+use Rattle.places.specs.Numbering.{blockStart}
 use Rattle.places.proofs.Fits.{small-block, next-square}
 use Rattle.places.proofs.Numbering.{block-unique, blockStart-above}
 use Rattle.places.proofs.block.Statement.{statement}

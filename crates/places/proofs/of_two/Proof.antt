@@ -1,5 +1,5 @@
 -- `places::of_two` meets its contract: the tests are the definition's. Assumes nothing.
-use mathlib.Core.Path.{_≡_, ap}
+use mathlib.Core.Path.{ap}
 use borrow.Author.Needs.{needs}
 use borrow.Author.Tests.{lt-ltb, le-ltb, eq-eqb, ne-eqb}
 use Rattle.places.specs.declared.Place.the-variants.{At}

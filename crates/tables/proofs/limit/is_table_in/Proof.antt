@@ -1,13 +1,13 @@
 -- `limit::is_table_in` meets its contract. The loop's invariant: the answer is that of the words that are left. The measure is their number.
 -- Assumes nothing.
-use mathlib.Core.Path.{_≡_, refl, sym, _∙_, ap}
-use mathlib.Core.Bool.{Bool, true, false, _&&_}
+use mathlib.Core.Path.{_≡_, sym, _∙_, ap}
+use mathlib.Core.Bool.{Bool, _&&_}
 use mathlib.Core.List.{List}
-use Prim.Native.Nat.{ℕ, _+_, _-_, _≤_}
+use Prim.Native.Nat.{ℕ, _+_, _-_}
 use native.Mathlib.Nat.{sub-zero}
 use native.Mathlib.Omega.{arith}
 use lib.IntN.{ℤ}
-use lib.ListN.{length, drop, drop-of-length-le}
+use lib.ListN.{drop, drop-of-length-le}
 use mir.Syntax.{w64}
 use mir.Val.{toZ, ofZ}
 use denote.Ref.{now}
@@ -15,7 +15,7 @@ use borrow.Author.Needs.{needs}
 use borrow.Author.Tests.{not-true, not-false}
 use Rattle.integers.proofs.Parts.{word-value, held-value}
 use Rattle.words.specs.Change.{wordAt}
-use Rattle.tables.specs.Tables.{inLimit, wordsInLimit}
+use Rattle.tables.specs.Tables.{wordsInLimit}
 use Rattle.tables.specs.Promises.{InLimit}
 use Rattle.tables.proofs.Limits.{inLimit-more, inLimit-none, inLimit-zero, wordsInLimit-within}
 use Rattle.tables.proofs.limit.is_table_in.Statement.{statement}

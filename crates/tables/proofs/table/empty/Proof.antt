@@ -1,5 +1,5 @@
 -- `table::empty` meets its contract: the words filled are the table's. Assumes nothing.
-use mathlib.Core.Path.{_≡_, sym, _∙_}
+use mathlib.Core.Path.{sym, _∙_}
 use borrow.Author.Needs.{needs}
 use borrow.Author.Tests.{not-true, not-false}
 use Rattle.tables.proofs.Promised.{emptied-refused, emptied-done}

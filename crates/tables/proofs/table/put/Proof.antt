@@ -1,5 +1,5 @@
 -- `table::put` meets its contract: the halved rule gets its reply and goes to its place. Assumes nothing.
-use mathlib.Core.Path.{_≡_, sym, _∙_, ap}
+use mathlib.Core.Path.{sym, _∙_, ap}
 use borrow.Author.Tests.{not-true, not-false}
 use borrow.Author.Needs.{needs}
 use Rattle.tables.specs.Tables.{ruleReply}

@@ -3,17 +3,18 @@
 -- for the sums, negations and halves in sight. Assumes nothing.
 use mathlib.Core.Path.{_≡_, refl, ap, sym, _∙_, subst}
 use mathlib.Core.Bool.{Bool, true, false, not, cond}
-use mathlib.Core.Logic.{⊎-elim, _⊎_}
-use Prim.Native.Nat.{ℕ, zero, suc, _+_, _-_, _*_, _^_, _/_, _%_, _≤_, _<_}
+use mathlib.Core.Logic.{_↔_}
+use Prim.Native.Nat.{ℕ, zero, suc, _+_, _-_, _^_, _≤_, _<_}
 use native.Mathlib.Omega.{arith}
-use lib.Dec.{T, ltb, leb, ltb→lt, lt→ltb, leb→le, le→leb, nltb→le}
-use lib.IntN.{ℤ, pos, negsuc, negℤ, _+ℤ_, subℕ}
-use lib.Signed.{ltZ, leZ, mag, shrZ, _≤ℤ_, _<ℤ_, leZ-yes, ltZ-yes, ltZ-no}
+use lib.Dec.{T, ltb, ltb→lt, lt→ltb, leb→le, le→leb}
+use lib.IntN.{ℤ, pos, negsuc, negℤ, _+ℤ_}
+use lib.Signed.{ltZ, leZ, mag, _≤ℤ_, _<ℤ_, leZ-yes, ltZ-yes, ltZ-no}
 use mir.Syntax.{w64}
 use mir.Val.{SFits, toZ, ofZ}
 use mir.ValLaws.{toZ-ofZ}
 use borrow.Author.Tests.{ltb-true, ltb-false, lt-ltb, le-ltb}
-use Rattle.integers.specs.Bound.{half, oppositeBound, smaller, inWord}
+use Rattle.integers.specs.declared.Total.the-variants.{Sum, Overflow}
+use Rattle.integers.specs.Bound.{half, oppositeBound, smaller, inWord, leastWord, greatestWord, saturated, totalOf}
 
 unfoldable pub positivePart : ℤ → ℕ
 positivePart (pos n) = n
@@ -190,6 +191,58 @@ pub above-inWord : (z : ℤ) → 2 ^ 63 + negativePart z ≤ positivePart z → 
 unfolding positivePart negativePart inWord
 above-inWord (pos n) h = le-ltb n (2 ^ 63) (omega arith)
 above-inWord (negsuc n) h = let z : ⊥ = omega arith in absurd z
+
+-- where two words have a sum that is a word, it is that of the integers
+pub sum-total : (a b x : ℤ) → totalOf a b ≡ Sum x → (inWord (a +ℤ b) ≡ true) × (a +ℤ b ≡ x)
+unfolding totalOf
+sum-total a b x = go (inWord (a +ℤ b))
+  where
+    go : (t : Bool) → cond t (Sum (a +ℤ b)) Overflow ≡ Sum x → (t ≡ true) × (a +ℤ b ≡ x)
+    go true e = (refl, (cc))
+    go false e = ((cc), (cc))
+
+pub overflow-total : (a b : ℤ) → totalOf a b ≡ Overflow → inWord (a +ℤ b) ≡ false
+unfolding totalOf
+overflow-total a b = go (inWord (a +ℤ b))
+  where
+    go : (t : Bool) → cond t (Sum (a +ℤ b)) Overflow ≡ Overflow → t ≡ false
+    go true e = cc
+    go false e = refl
+
+-- ---- the nearest word
+
+pub saturated-below : (z : ℤ) → z <ℤ leastWord → saturated z ≡ leastWord
+unfolding saturated
+saturated-below z h = rw (lt-ltZ z leastWord h)
+
+pub saturated-above : (z : ℤ) → greatestWord <ℤ z → saturated z ≡ greatestWord
+unfolding saturated positivePart negativePart
+saturated-above z h = rw (le-ltZ z leastWord (omega linear), lt-ltZ greatestWord z h)
+
+pub saturated-word : (z : ℤ) → inWord z ≡ true → saturated z ≡ z
+unfolding saturated positivePart negativePart
+saturated-word z e =
+    rw (le-ltZ z leastWord (omega (linear, word-to (inWord-word z e))), le-ltZ greatestWord z (omega (linear, word-to (inWord-word z e))))
+
+-- an integer is a word, or lies beyond an end of their range
+pub word-cases : (P : Type 0) (z : ℤ) → (z <ℤ leastWord → P) → (inWord z ≡ true → P) → (greatestWord <ℤ z → P) → P
+unfolding positivePart negativePart
+word-cases P z low word high = go (ltZ z leastWord) refl (ltZ greatestWord z) refl
+  where
+    go : (s : Bool) → ltZ z leastWord ≡ s → (t : Bool) → ltZ greatestWord z ≡ t → P
+    go true d t e = low (omega (linear, ltZ-true z leastWord d))
+    go false d true e = high (omega (linear, ltZ-true greatestWord z e))
+    go false d false e =
+        word (word-inWord (word-of (omega (linear, ltZ-false greatestWord z e)) (omega (linear, ltZ-false z leastWord d))))
+
+-- the nearest word has the integer's sign
+pub saturated-sign : (z : ℤ) → (pos 0 ≤ℤ saturated z) ↔ (pos 0 ≤ℤ z)
+unfolding positivePart negativePart
+saturated-sign z =
+    word-cases ((pos 0 ≤ℤ saturated z) ↔ (pos 0 ≤ℤ z)) z
+    (λ h. rw (saturated-below z h) (λ k. omega linear, λ k. omega linear))
+    (λ e. rw (saturated-word z e) (λ k. k, λ k. k))
+    (λ h. rw (saturated-above z h) (λ k. omega linear, λ k. omega linear))
 
 -- ---- halving, the opposite's bound and the smaller of two
 

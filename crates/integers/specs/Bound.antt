@@ -1,5 +1,5 @@
 -- The operations on a bound, over unbounded integers, and the range of a signed 64-bit word.
-use mathlib.Core.Bool.{Bool, true, false, cond}
+use mathlib.Core.Bool.{Bool, cond}
 use Prim.Native.Nat.{ℕ, _^_}
 use lib.Dec.{ltb}
 use lib.IntN.{ℤ, pos, negsuc, negℤ, _+ℤ_}
@@ -22,6 +22,17 @@ smaller a b = cond (ltZ b a) b a
 -- z is a signed 64-bit word
 unfoldable pub inWord : ℤ → Bool
 inWord z = ltb (mag z) (2 ^ 63)
+
+-- the ends of the range of a signed 64-bit word
+abbrev pub leastWord : ℤ
+leastWord = negsuc 9223372036854775807
+
+abbrev pub greatestWord : ℤ
+greatestWord = pos 9223372036854775807
+
+-- the word nearest to z: z where it is one, else the end of the range on its side
+unfoldable pub saturated : ℤ → ℤ
+saturated z = cond (ltZ z leastWord) leastWord (cond (ltZ greatestWord z) greatestWord z)
 
 -- the sum of two words, where it is a word
 unfoldable pub totalOf : ℤ → ℤ → Total

@@ -1,7 +1,7 @@
 // The operations on a bound that is a signed 64-bit word. Each answers for every pair of words.
 ghost use mathlib.Core.Path.{_≡_};
-ghost use lib.IntN.{natAbs};
-ghost use Rattle.integers.specs.Bound.{half, oppositeBound, smaller, totalOf};
+ghost use lib.IntN.{natAbs, _+ℤ_};
+ghost use Rattle.integers.specs.Bound.{half, oppositeBound, smaller, saturated, totalOf};
 
 // The ends of the range of a word.
 const LEAST: i64 = -9_223_372_036_854_775_808;
@@ -49,6 +49,36 @@ pub fn add(a: i64, b: i64) -> Total
         return Total::Overflow;
     }
     Total::Sum(a + b)
+}
+
+// The sum of `a` and `b`, or the end of the range of words that it lies beyond.
+pub fn saturating_add(a: i64, b: i64) -> i64
+    ensures { λ r. ⌜ r ≡ saturated (a +ℤ b) ⌝ }
+{
+    let together = add(a, b);
+    match together {
+        Total::Sum(c) => c,
+        Total::Overflow => {
+            if a < 0 {
+                return LEAST;
+            }
+            GREATEST
+        }
+    }
+}
+
+// The sum of `a` and `b` halved and rounded toward minus infinity, which is a word also where the sum is none.
+pub fn midpoint(a: i64, b: i64) -> i64
+    ensures { λ r. ⌜ r ≡ half (a +ℤ b) ⌝ }
+{
+    let x = halved(a);
+    let y = halved(b);
+    if x + x < a {
+        if y + y < b {
+            return x + y + 1;
+        }
+    }
+    x + y
 }
 
 // The magnitude of a word, which for the least one is 2 ^ 63.

@@ -28,7 +28,11 @@ fn print_term(rule: Rule) {
         Rule::One { literal, bound: _ } => {
             print_literal(literal);
         }
-        Rule::Two { first, second, bound: _ } => {
+        Rule::Two {
+            first,
+            second,
+            bound: _,
+        } => {
             print_literal(first);
             print_literal(second);
         }

@@ -4,3 +4,4 @@ pub mod Words
 pub mod Sets
 pub mod Literals
 pub mod Meanings
+mod Examples

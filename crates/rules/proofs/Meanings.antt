@@ -1,24 +1,25 @@
--- What a rule means after each step, over every assignment: the opposite is met exactly where the rule is not, halving keeps the
--- meaning, and the sum over a literal says of both terms together what it says of the bounds. Assumes nothing.
+-- What a rule means after each step, over every assignment: the opposite is met exactly where the rule is not, halving and ordering keep the
+-- meaning, and the sum over a literal says of both terms together what it says of the bounds, without the literal's quantity. Assumes
+-- nothing.
 use mathlib.Core.Path.{_≡_, refl}
 use mathlib.Core.Bool.{Bool, true, false, cond}
-use mathlib.Core.Logic.{_↔_, inl, inr}
+use mathlib.Core.Logic.{_↔_, Iff·rfl, Iff·trans, _⊎_, inl, inr, ⊎-elim}
 use Prim.Native.Nat.{ℕ}
 use lib.Dec.{eqb, ltb}
 use lib.IntN.{ℤ, pos, negℤ, _+ℤ_}
 use lib.Signed.{ltZ, _≤ℤ_}
-use borrow.Author.Tests.{eqb-true, eq-eqb}
+use borrow.Author.Tests.{eqb-true, eq-eqb, ne-eqb}
 use Rattle.integers.specs.Bound.{half, oppositeBound, inWord}
-use Rattle.integers.proofs.Parts.{linear, positivePart, negativePart, parts-add, parts-neg, parts-half, parts-opposite}
+use Rattle.integers.proofs.Parts.{linear, positivePart, negativePart, parts-add, parts-neg, parts-half, parts-opposite, saturated-sign}
 use Rattle.rules.specs.declared.rule.Rule.{Rule}
 use Rattle.rules.specs.declared.rule.Rule.the-variants.{One, Two, Nothing}
 use Rattle.rules.specs.declared.rule.Partner.{Partner}
-use Rattle.rules.specs.declared.rule.Partner.the-variants.{Literal, Alone, Absent}
-use Rattle.rules.specs.Literal.{negated, literalOf}
-use Rattle.rules.specs.Meaning.{Assignment, literalValue, signedValue, termValue, boundOf, Meets}
-use Rattle.rules.specs.Steps.{trivialRule, isNone, ruleOf, oppositeOf, halvedOf, partnerOf, ruleOfPair, ruleOfRest, sumOver}
-use Rattle.rules.specs.Promises.{Stands}
-use Rattle.rules.proofs.Literals.{value-negated, none-value, some-value}
+use Rattle.rules.specs.declared.rule.Partner.the-variants.{With, Alone, Absent}
+use Rattle.rules.specs.Literal.{quantityOf, negated, literalOf}
+use Rattle.rules.specs.Meaning.{Assignment, literalValue, signedValue, termValue, boundOf, Meets, names}
+use Rattle.rules.specs.Steps.{trivialRule, isNone, ruleOf, oppositeOf, halvedOf, inOrder, partnerOf, restRule, fitted, sumOver}
+use Rattle.rules.specs.Promises.{Stands, Plain}
+use Rattle.rules.proofs.Literals.{negated-quantity, value-negated, none-value, some-value}
 
 -- ---- the constructor
 
@@ -110,10 +111,66 @@ halved-meaning σ (Two x y c) = go (eqb x y) refl
     go true e = let d = doubled-meaning σ x y c (eqb-true x y e) in (λ h. record { met = d .0 h }, λ h. d .1 (h .met))
     go false e = (λ h. h, λ h. h)
 
--- ---- what a sum leaves
+-- ---- order
 
 swapped : (a b : ℤ) → a +ℤ b ≡ b +ℤ a
 swapped a b = omega (linear, parts-add a b, parts-add b a)
+
+pub inOrder-term : (σ : Assignment) (r : Rule) → termValue σ (inOrder r) ≡ termValue σ r
+unfolding inOrder
+inOrder-term σ (One x c) = refl
+inOrder-term σ (Two x y c) = go (ltb x y)
+  where
+    go : (t : Bool) → termValue σ (cond t (Two x y c) (Two y x c)) ≡ literalValue σ x +ℤ literalValue σ y
+    go true = refl
+    go false = swapped (literalValue σ y) (literalValue σ x)
+inOrder-term σ (Nothing c) = refl
+
+pub inOrder-bound : (r : Rule) → boundOf (inOrder r) ≡ boundOf r
+unfolding inOrder
+inOrder-bound (One x c) = refl
+inOrder-bound (Two x y c) = go (ltb x y)
+  where
+    go : (t : Bool) → boundOf (cond t (Two x y c) (Two y x c)) ≡ c
+    go true = refl
+    go false = refl
+inOrder-bound (Nothing c) = refl
+
+pub inOrder-meaning : (σ : Assignment) (r : Rule) → Meets σ (inOrder r) ↔ Meets σ r
+inOrder-meaning σ r = (
+  λ h. record { met = rw (inOrder-term σ r, inOrder-bound r) at (h .met) },
+  λ h. record { met = rw (inOrder-term σ r, inOrder-bound r) (h .met) },
+)
+
+-- ---- a bound that is a word
+
+pub trivial-met : (σ : Assignment) → Meets σ trivialRule
+trivial-met σ = record { met = record { le = tt } }
+
+kept-or-trivial : (t : Bool) (r : Rule)
+    → (cond t r trivialRule ≡ trivialRule) ⊎ ((σ : Assignment) → Meets σ (cond t r trivialRule) ↔ Meets σ r)
+kept-or-trivial true r = inr (λ σ. Iff·rfl)
+kept-or-trivial false r = inl refl
+
+-- a bare rule keeps its meaning
+pub bare-meaning : (σ : Assignment) (c : ℤ) → Meets σ (fitted (Nothing c)) ↔ (pos 0 ≤ℤ c)
+unfolding fitted
+bare-meaning σ c = Iff·trans (λ h. h .met, λ h. record { met = h }) (saturated-sign c)
+
+-- every other one keeps it, or is given up
+pub fitted-cases : (r : Rule) → (fitted r ≡ trivialRule) ⊎ ((σ : Assignment) → Meets σ (fitted r) ↔ Meets σ r)
+unfolding fitted
+fitted-cases (Nothing c) = inr (λ σ. Iff·trans (bare-meaning σ c) (λ h. record { met = h }, λ h. h .met))
+fitted-cases (One x c) = kept-or-trivial (inWord c) (One x c)
+fitted-cases (Two x y c) = kept-or-trivial (inWord c) (Two x y c)
+
+pub fitted-meaning : (r : Rule) → (fitted r ≡ trivialRule → ⊥) → (σ : Assignment) → Meets σ (fitted r) ↔ Meets σ r
+fitted-meaning r n σ = ⊎-elim (λ e. absurd (n e)) (λ f. f σ) (fitted-cases r)
+
+pub fitted-met : (σ : Assignment) (r : Rule) → Meets σ r → Meets σ (fitted r)
+fitted-met σ r h = ⊎-elim (λ e. rw e (trivial-met σ)) (λ f. f σ .1 h) (fitted-cases r)
+
+-- ---- what a sum leaves
 
 minus-self : (a : ℤ) → pos 0 ≡ a +ℤ negℤ a
 unfolding positivePart negativePart
@@ -124,32 +181,28 @@ meets-as : (σ : Assignment) (r : Rule) {t : ℤ} → termValue σ r ≡ t → M
 meets-as σ r e = (λ h. rw e at (h .met), λ h. record { met = rw e h })
 
 -- two literals that are left
-pub pair-meaning : (σ : Assignment) (x y : ℕ) (c : ℤ) → Meets σ (ruleOfPair x y c) ↔ ((literalValue σ x +ℤ literalValue σ y) ≤ℤ c)
-unfolding ruleOfPair
-pair-meaning σ x y c = go (eqb x y) refl (eqb y (negated x)) refl (ltb x y)
+pub pair-meaning : (σ : Assignment) (x y : ℕ) (c : ℤ)
+    → Meets σ (restRule (With x) (With y) c) ↔ ((literalValue σ x +ℤ literalValue σ y) ≤ℤ c)
+unfolding restRule
+pair-meaning σ x y c = go (eqb y (negated x)) refl
   where
     cancels : y ≡ negated x → pos 0 ≡ literalValue σ x +ℤ literalValue σ y
     cancels e = rw (e, value-negated σ x) (minus-self (literalValue σ x))
 
-    go : (t : Bool) → eqb x y ≡ t → (u : Bool) → eqb y (negated x) ≡ u → (v : Bool)
-        → Meets σ (cond t (One x (half c)) (cond u (Nothing c) (cond v (Two x y c) (Two y x c))))
-        ↔ ((literalValue σ x +ℤ literalValue σ y) ≤ℤ c)
-    go true e u f v = doubled-meaning σ x y c (eqb-true x y e)
-    go false e true f v = meets-as σ (Nothing c) (cancels (eqb-true y (negated x) f))
-    go false e false f true = meets-as σ (Two x y c) refl
-    go false e false f false = meets-as σ (Two y x c) (swapped (literalValue σ y) (literalValue σ x))
-
-pub trivial-met : (σ : Assignment) → Meets σ trivialRule
-trivial-met σ = record { met = record { le = tt } }
+    go : (t : Bool) → eqb y (negated x) ≡ t
+        → Meets σ (cond t (Nothing c) (inOrder (halvedOf (Two x y c)))) ↔ ((literalValue σ x +ℤ literalValue σ y) ≤ℤ c)
+    go true e = meets-as σ (Nothing c) (cancels (eqb-true y (negated x) e))
+    go false e =
+        Iff·trans (inOrder-meaning σ (halvedOf (Two x y c))) (Iff·trans (halved-meaning σ (Two x y c)) (meets-as σ (Two x y c) refl))
 
 -- the integer of what is left of a term, and that the literal taken was there
 abbrev pub restValue : Assignment → Partner → ℤ
-restValue σ (Literal x) = literalValue σ x
+restValue σ (With x) = literalValue σ x
 restValue σ Alone = pos 0
 restValue σ Absent = pos 0
 
 abbrev pub Present : Partner → Type 0
-Present (Literal x) = Unit {0}
+Present (With x) = Unit {0}
 Present Alone = Unit {0}
 Present Absent = ⊥
 
@@ -159,7 +212,7 @@ stands-present z (One x c) e = rw (eq-eqb x z e) tt
 stands-present z (Two x y c) (inl e) = rw (eq-eqb x z e) tt
 stands-present z (Two x y c) (inr e) = rw (eq-eqb y z e) (go (eqb x z))
   where
-    go : (t : Bool) → Present (cond t (Literal y) (Literal x))
+    go : (t : Bool) → Present (cond t (With y) (With x))
     go true = tt
     go false = tt
 stands-present z (Nothing c) e = e
@@ -176,34 +229,34 @@ partner-term σ z (One x c) = go (eqb x z) refl
     go false e p = absurd p
 partner-term σ z (Two x y c) = go (eqb x z) refl (eqb y z) refl
   where
-    go : (t : Bool) → eqb x z ≡ t → (u : Bool) → eqb y z ≡ u → Present (cond t (Literal y) (cond u (Literal x) Absent))
+    go : (t : Bool) → eqb x z ≡ t → (u : Bool) → eqb y z ≡ u → Present (cond t (With y) (cond u (With x) Absent))
         → literalValue σ x +ℤ literalValue σ y
-        ≡ literalValue σ z +ℤ restValue σ (cond t (Literal y) (cond u (Literal x) Absent))
+        ≡ literalValue σ z +ℤ restValue σ (cond t (With y) (cond u (With x) Absent))
     go true e u f p = rw (eqb-true x z e)
     go false e true f p = rw (← eqb-true y z f) (swapped (literalValue σ x) (literalValue σ y))
     go false e false f p = absurd p
 partner-term σ z (Nothing c) = λ p. absurd p
 
 pub rest-meaning : (σ : Assignment) (p q : Partner) (c : ℤ) → Present p → Present q
-    → Meets σ (ruleOfRest p q c) ↔ ((restValue σ p +ℤ restValue σ q) ≤ℤ c)
-unfolding ruleOfRest positivePart negativePart
-rest-meaning σ (Literal x) (Literal y) c h k = pair-meaning σ x y c
-rest-meaning σ (Literal x) Alone c h k = meets-as σ (One x c) (omega (linear, parts-add (literalValue σ x) (pos 0)))
-rest-meaning σ (Literal x) Absent c h k = absurd k
-rest-meaning σ Alone (Literal y) c h k = meets-as σ (One y c) (omega (linear, parts-add (pos 0) (literalValue σ y)))
+    → Meets σ (restRule p q c) ↔ ((restValue σ p +ℤ restValue σ q) ≤ℤ c)
+unfolding restRule positivePart negativePart
+rest-meaning σ (With x) (With y) c h k = pair-meaning σ x y c
+rest-meaning σ (With x) Alone c h k = meets-as σ (One x c) (omega (linear, parts-add (literalValue σ x) (pos 0)))
+rest-meaning σ (With x) Absent c h k = absurd k
+rest-meaning σ Alone (With y) c h k = meets-as σ (One y c) (omega (linear, parts-add (pos 0) (literalValue σ y)))
 rest-meaning σ Alone Alone c h k = meets-as σ (Nothing c) refl
 rest-meaning σ Alone Absent c h k = absurd k
 rest-meaning σ Absent q c h k = absurd h
 
 -- where the literal is missing on either side, the trivial rule is left, which is met
 pub rest-met : (σ : Assignment) (p q : Partner) (c : ℤ)
-    → (Present p → Present q → Meets σ (ruleOfRest p q c))
-    → Meets σ (ruleOfRest p q c)
-unfolding ruleOfRest
-rest-met σ (Literal x) (Literal y) c h = h tt tt
-rest-met σ (Literal x) Alone c h = h tt tt
-rest-met σ (Literal x) Absent c h = trivial-met σ
-rest-met σ Alone (Literal y) c h = h tt tt
+    → (Present p → Present q → Meets σ (restRule p q c))
+    → Meets σ (restRule p q c)
+unfolding restRule
+rest-met σ (With x) (With y) c h = h tt tt
+rest-met σ (With x) Alone c h = h tt tt
+rest-met σ (With x) Absent c h = trivial-met σ
+rest-met σ Alone (With y) c h = h tt tt
 rest-met σ Alone Alone c h = h tt tt
 rest-met σ Alone Absent c h = trivial-met σ
 rest-met σ Absent q c h = trivial-met σ
@@ -222,22 +275,107 @@ sum-term σ z r s p q =
     (cancelled (literalValue σ z) (restValue σ (partnerOf z r)) (restValue σ (partnerOf (negated z) s)))
 
 pub sum-meaning : (σ : Assignment) (z : ℕ) (r s : Rule) (c : ℤ) → Present (partnerOf z r) → Present (partnerOf (negated z) s)
-    → Meets σ (ruleOfRest (partnerOf z r) (partnerOf (negated z) s) c) ↔ ((termValue σ r +ℤ termValue σ s) ≤ℤ c)
+    → Meets σ (restRule (partnerOf z r) (partnerOf (negated z) s) c) ↔ ((termValue σ r +ℤ termValue σ s) ≤ℤ c)
 sum-meaning σ z r s c p q = rw (sum-term σ z r s p q) (rest-meaning σ (partnerOf z r) (partnerOf (negated z) s) c p q)
 
-pub sum-exact : (z : ℕ) (r s : Rule) → Stands z r → Stands (negated z) s → inWord (boundOf r +ℤ boundOf s) ≡ true
+pub sum-exact : (z : ℕ) (r s : Rule) → Stands z r → Stands (negated z) s → (sumOver z r s ≡ trivialRule → ⊥)
     → (σ : Assignment) → Meets σ (sumOver z r s) ↔ ((termValue σ r +ℤ termValue σ s) ≤ℤ (boundOf r +ℤ boundOf s))
 unfolding sumOver
-sum-exact z r s p q w σ =
-    rw w (sum-meaning σ z r s (boundOf r +ℤ boundOf s) (stands-present z r p) (stands-present (negated z) s q))
+sum-exact z r s p q n σ =
+    Iff·trans (fitted-meaning (restRule (partnerOf z r) (partnerOf (negated z) s) (boundOf r +ℤ boundOf s)) n σ)
+    (sum-meaning σ z r s (boundOf r +ℤ boundOf s) (stands-present z r p) (stands-present (negated z) s q))
 
 pub sum-sound : (z : ℕ) (r s : Rule) (σ : Assignment) → Meets σ r → Meets σ s → Meets σ (sumOver z r s)
 unfolding sumOver
 sum-sound z r s σ h k =
-    go (inWord (boundOf r +ℤ boundOf s)) (boundOf r +ℤ boundOf s)
-    (omega (linear, h .met, k .met, parts-add (termValue σ r) (termValue σ s), parts-add (boundOf r) (boundOf s)))
+    let c = boundOf r +ℤ boundOf s in
+    fitted-met σ (restRule (partnerOf z r) (partnerOf (negated z) s) c)
+    (rest-met σ (partnerOf z r) (partnerOf (negated z) s) c
+    (λ p q. sum-meaning σ z r s c p q .1
+    (omega (linear, h .met, k .met, parts-add (termValue σ r) (termValue σ s), parts-add (boundOf r) (boundOf s)))))
+
+-- nothing remains of two terms, or the rest cancels
+abbrev pub Cancels : Partner → Partner → Type 0
+Cancels (With x) (With y) = y ≡ negated x
+Cancels (With x) Alone = ⊥
+Cancels (With x) Absent = ⊥
+Cancels Alone (With y) = ⊥
+Cancels Alone Alone = Unit {0}
+Cancels Alone Absent = ⊥
+Cancels Absent q = ⊥
+
+cancels-bare : (p q : Partner) (c : ℤ) → Cancels p q → restRule p q c ≡ Nothing c
+unfolding restRule
+cancels-bare (With x) (With y) c h = rw (eq-eqb y (negated x) h)
+cancels-bare (With x) Alone c h = absurd h
+cancels-bare (With x) Absent c h = absurd h
+cancels-bare Alone (With y) c h = absurd h
+cancels-bare Alone Alone c h = refl
+cancels-bare Alone Absent c h = absurd h
+cancels-bare Absent q c h = absurd h
+
+-- a bare sum is exact also where it is no word, so that no contradiction is lost
+pub bare-sum : (z : ℕ) (r s : Rule) → Cancels (partnerOf z r) (partnerOf (negated z) s)
+    → (σ : Assignment) → Meets σ (sumOver z r s) ↔ (pos 0 ≤ℤ (boundOf r +ℤ boundOf s))
+unfolding sumOver
+bare-sum z r s h σ =
+    rw (cancels-bare (partnerOf z r) (partnerOf (negated z) s) (boundOf r +ℤ boundOf s) h)
+    (bare-meaning σ (boundOf r +ℤ boundOf s))
+
+-- ---- the quantity that is summed over is gone
+
+-- what is left of a term names not quantity q
+abbrev pub Without : ℕ → Partner → Type 0
+Without q (With x) = quantityOf x ≡ q → ⊥
+Without q Alone = Unit {0}
+Without q Absent = Unit {0}
+
+partner-without : (z : ℕ) (r : Rule) → Plain r → Without (quantityOf z) (partnerOf z r)
+unfolding partnerOf
+partner-without z (One x c) p = go (eqb x z)
   where
-    go : (t : Bool) (c : ℤ) → (termValue σ r +ℤ termValue σ s) ≤ℤ c
-        → Meets σ (cond t (ruleOfRest (partnerOf z r) (partnerOf (negated z) s) c) trivialRule)
-    go true c l = rest-met σ (partnerOf z r) (partnerOf (negated z) s) c (λ p q. sum-meaning σ z r s c p q .1 l)
-    go false c l = trivial-met σ
+    go : (t : Bool) → Without (quantityOf z) (cond t Alone Absent)
+    go true = tt
+    go false = tt
+partner-without z (Two x y c) p = go (eqb x z) refl (eqb y z) refl
+  where
+    go : (t : Bool) → eqb x z ≡ t → (u : Bool) → eqb y z ≡ u
+        → Without (quantityOf z) (cond t (With y) (cond u (With x) Absent))
+    go true d u e = λ h. p (rw (eqb-true x z d, h))
+    go false d true e = λ h. p (rw (eqb-true y z e, h))
+    go false d false e = tt
+partner-without z (Nothing c) p = tt
+
+either-unnamed : (q : ℕ) (t : Bool) (r s : Rule) → names q r ≡ false → names q s ≡ false → names q (cond t r s) ≡ false
+either-unnamed q true r s d e = d
+either-unnamed q false r s d e = e
+
+rest-unnamed : (q : ℕ) (a b : Partner) (c : ℤ) → Without q a → Without q b → names q (restRule a b c) ≡ false
+unfolding restRule inOrder halvedOf names
+rest-unnamed q (With x) (With y) c h k = either-unnamed q (eqb y (negated x)) (Nothing c) (inOrder (halvedOf (Two x y c))) refl (go (eqb x y))
+  where
+    go : (t : Bool) → names q (inOrder (cond t (One x (half c)) (Two x y c))) ≡ false
+    go true = ne-eqb (quantityOf x) q h
+    go false =
+        either-unnamed q (ltb x y) (Two x y c) (Two y x c)
+        (rw (ne-eqb (quantityOf x) q h, ne-eqb (quantityOf y) q k))
+        (rw (ne-eqb (quantityOf x) q h, ne-eqb (quantityOf y) q k))
+rest-unnamed q (With x) Alone c h k = ne-eqb (quantityOf x) q h
+rest-unnamed q (With x) Absent c h k = refl
+rest-unnamed q Alone (With y) c h k = ne-eqb (quantityOf y) q k
+rest-unnamed q Alone Alone c h k = refl
+rest-unnamed q Alone Absent c h k = refl
+rest-unnamed q Absent b c h k = refl
+
+fitted-unnamed : (q : ℕ) (r : Rule) → names q r ≡ false → names q (fitted r) ≡ false
+unfolding fitted names
+fitted-unnamed q (One x c) e = either-unnamed q (inWord c) (One x c) trivialRule e refl
+fitted-unnamed q (Two x y c) e = either-unnamed q (inWord c) (Two x y c) trivialRule e refl
+fitted-unnamed q (Nothing c) e = refl
+
+pub sum-gone : (z : ℕ) (r s : Rule) → Plain r → Plain s → names (quantityOf z) (sumOver z r s) ≡ false
+unfolding sumOver
+sum-gone z r s p q =
+    fitted-unnamed (quantityOf z) (restRule (partnerOf z r) (partnerOf (negated z) s) (boundOf r +ℤ boundOf s))
+    (rest-unnamed (quantityOf z) (partnerOf z r) (partnerOf (negated z) s) (boundOf r +ℤ boundOf s) (partner-without z r p)
+    (rw (negated-quantity z) at (partner-without (negated z) s q)))

@@ -1,5 +1,5 @@
 -- The hidden set of a sheet, as document 01 writes it in a number, decoded here alone: bit q - 1 stands for quantity q.
-use mathlib.Core.Bool.{Bool, true, false}
+use mathlib.Core.Bool.{Bool, false}
 use Prim.Native.Nat.{ℕ, zero, suc, _/_, _%_, _^_}
 use lib.Dec.{eqb, ltb}
 

@@ -5,13 +5,12 @@ use mathlib.Core.Bool.{Bool, true, false}
 use Prim.Native.Nat.{ℕ, _<_}
 use lib.IntN.{ℤ, _+ℤ_}
 use lib.Signed.{_≤ℤ_}
-use Rattle.integers.specs.Bound.{inWord}
 use Rattle.rules.specs.declared.rule.Rule.{Rule}
 use Rattle.rules.specs.declared.rule.Rule.the-variants.{One, Two, Nothing}
 use Rattle.rules.specs.Hidden.{hiddenIn, setWithin}
-use Rattle.rules.specs.Literal.{negated}
-use Rattle.rules.specs.Meaning.{Assignment, Meets, signedValue, termValue, boundOf}
-use Rattle.rules.specs.Steps.{ruleOf, oppositeOf, halvedOf, sumOver}
+use Rattle.rules.specs.Literal.{quantityOf, negated}
+use Rattle.rules.specs.Meaning.{Assignment, Meets, signedValue, termValue, boundOf, names}
+use Rattle.rules.specs.Steps.{trivialRule, ruleOf, oppositeOf, halvedOf, sumOver}
 
 -- the answer whether a hidden set is in its range at n: it names no quantity past n
 pub record InRange (n set : ℕ) (r : Bool) : Type 0 where
@@ -39,10 +38,17 @@ Stands z (One x c) = x ≡ z
 Stands z (Two x y c) = (x ≡ z) ⊎ (y ≡ z)
 Stands z (Nothing c) = ⊥
 
--- t is the sum of r and s over z: every assignment that meets both meets it, and where z cancels and the bounds' sum is a word it says just
--- that both terms together are at most both bounds together
-pub record Sum (z : ℕ) (r s t : Rule) : Type 0 where
+-- the rule's term has no quantity twice, as in +q+q and +q-q
+abbrev pub Plain : Rule → Type 0
+Plain (One x c) = Unit {0}
+Plain (Two x y c) = quantityOf x ≡ quantityOf y → ⊥
+Plain (Nothing c) = Unit {0}
+
+-- t is the sum of r and s over z: every assignment that meets both meets it; where z cancels and t is not the trivial rule, it says just
+-- that both terms together are at most both bounds together; and z's quantity is gone from it
+pub record Added (z : ℕ) (r s t : Rule) : Type 0 where
   pub reply : t ≡ sumOver z r s
   pub sound : (σ : Assignment) → Meets σ r → Meets σ s → Meets σ t
-  pub exact : Stands z r → Stands (negated z) s → inWord (boundOf r +ℤ boundOf s) ≡ true
+  pub exact : Stands z r → Stands (negated z) s → (t ≡ trivialRule → ⊥)
       → (σ : Assignment) → Meets σ t ↔ ((termValue σ r +ℤ termValue σ s) ≤ℤ (boundOf r +ℤ boundOf s))
+  pub gone : Plain r → Plain s → names (quantityOf z) t ≡ false

@@ -3,11 +3,11 @@ use mathlib.Core.Bool.{Bool, true, false, cond}
 use Prim.Native.Nat.{ℕ, zero, suc}
 use lib.Dec.{eqb, ltb}
 use lib.IntN.{ℤ, pos, negsuc, _+ℤ_}
-use Rattle.integers.specs.Bound.{half, oppositeBound, inWord}
+use Rattle.integers.specs.Bound.{half, oppositeBound, inWord, saturated}
 use Rattle.rules.specs.declared.rule.Rule.{Rule}
 use Rattle.rules.specs.declared.rule.Rule.the-variants.{One, Two, Nothing}
 use Rattle.rules.specs.declared.rule.Partner.{Partner}
-use Rattle.rules.specs.declared.rule.Partner.the-variants.{Literal, Alone, Absent}
+use Rattle.rules.specs.declared.rule.Partner.the-variants.{With, Alone, Absent}
 use Rattle.rules.specs.Limits.{noRule}
 use Rattle.rules.specs.Literal.{negated, literalOf}
 use Rattle.rules.specs.Meaning.{boundOf}
@@ -50,30 +50,29 @@ inOrder (Nothing c) = Nothing c
 -- what is left of a rule's term when the literal z is taken from it: another literal, nothing, or z is not there
 unfoldable pub partnerOf : ℕ → Rule → Partner
 partnerOf z (One x c) = cond (eqb x z) Alone Absent
-partnerOf z (Two x y c) = cond (eqb x z) (Literal y) (cond (eqb y z) (Literal x) Absent)
+partnerOf z (Two x y c) = cond (eqb x z) (With y) (cond (eqb y z) (With x) Absent)
 partnerOf z (Nothing c) = Absent
 
--- the rule of two literals that are left of a sum: halved where they are alike, bare where they cancel, else the lower first
-unfoldable pub ruleOfPair : ℕ → ℕ → ℤ → Rule
-ruleOfPair x y c =
-    cond (eqb x y) (One x (half c))
-    (cond (eqb y (negated x)) (Nothing c)
-    (cond (ltb x y) (Two x y c) (Two y x c)))
+-- the rule of what two terms leave and the sum s of their bounds, over unbounded integers. Document 01, 'Hiding': the sum is halved where its
+-- two remaining terms are alike, or is a bare 0 ≤ s where nothing remains or the rest cancels. It is the trivial rule where
+-- one of the terms has not the literal to take
+unfoldable pub restRule : Partner → Partner → ℤ → Rule
+restRule (With x) (With y) s = cond (eqb y (negated x)) (Nothing s) (inOrder (halvedOf (Two x y s)))
+restRule (With x) Alone s = One x s
+restRule (With x) Absent s = trivialRule
+restRule Alone (With y) s = One y s
+restRule Alone Alone s = Nothing s
+restRule Alone Absent s = trivialRule
+restRule Absent q s = trivialRule
 
--- the rule of what two terms leave, and the sum of their bounds
-unfoldable pub ruleOfRest : Partner → Partner → ℤ → Rule
-ruleOfRest (Literal x) (Literal y) c = ruleOfPair x y c
-ruleOfRest (Literal x) Alone c = One x c
-ruleOfRest (Literal x) Absent c = trivialRule
-ruleOfRest Alone (Literal y) c = One y c
-ruleOfRest Alone Alone c = Nothing c
-ruleOfRest Alone Absent c = trivialRule
-ruleOfRest Absent p c = trivialRule
+-- the rule with a bound that is a word. A bare rule takes the word nearest to its bound, which has the bound's sign and so keeps the meaning.
+-- Any other rule stays where its bound is a word, and is the trivial rule where it is none
+unfoldable pub fitted : Rule → Rule
+fitted (One x c) = cond (inWord c) (One x c) trivialRule
+fitted (Two x y c) = cond (inWord c) (Two x y c) trivialRule
+fitted (Nothing c) = Nothing (saturated c)
 
--- the sum of two rules over a literal z of the first whose negation stands in the second: what both terms leave, and the sum of the
--- bounds. Where nothing cancels, or the sum of the bounds is no word, it is the trivial rule
+-- the sum of two rules over a literal z of the first whose negation stands in the second (document 01: a rule with +q is added to a rule
+-- with -q, and q drops out), fitted to words
 unfoldable pub sumOver : ℕ → Rule → Rule → Rule
-sumOver z r s =
-    cond (inWord (boundOf r +ℤ boundOf s))
-    (ruleOfRest (partnerOf z r) (partnerOf (negated z) s) (boundOf r +ℤ boundOf s))
-    trivialRule
+sumOver z r s = fitted (restRule (partnerOf z r) (partnerOf (negated z) s) (boundOf r +ℤ boundOf s))

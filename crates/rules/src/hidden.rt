@@ -6,7 +6,7 @@ ghost use Rattle.rules.specs.Promises.{InRange};
 // The bits of a set's type.
 const BITS: usize = 32;
 
-// Whether the set has quantity `q`; no number outside 1 to 32 is in any set.
+// Whether the set has quantity `q`; 0 and numbers past the set's bits are in none.
 pub fn is_hidden(set: u32, q: usize) -> bool
     ensures { λ r. ⌜ r ≡ hiddenIn set q ⌝ }
 {
@@ -20,7 +20,7 @@ pub fn is_hidden(set: u32, q: usize) -> bool
     (set >> bit) % 2 == 1
 }
 
-// Whether the set names quantities of 1 to `n` only; at 32 or more every set does.
+// Whether the set has no quantity past `n`; where `n` is at least the number of bits every set is so.
 pub fn is_within(set: u32, n: usize) -> bool
     ensures { λ r. ⌜ InRange n set r ⌝ }
 {

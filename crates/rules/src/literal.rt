@@ -1,6 +1,6 @@
 // Literals: a quantity with its sign, by a code that needs no cases (specs/Literal.antt).
 ghost use mathlib.Core.Path.{_≡_};
-ghost use Rattle.rules.specs.Literal.{quantityOf, negated, literalOf};
+ghost use Rattle.rules.specs.Literal.{quantityOf, negated};
 
 // The quantity that a literal names, counted from 1.
 pub fn quantity(x: u32) -> usize
@@ -14,17 +14,4 @@ pub fn negate(x: u32) -> u32
     ensures { λ r. ⌜ r ≡ negated x ⌝ }
 {
     2 * (x / 2) + (1 - x % 2)
-}
-
-// The literal of a signed quantity number; 0, which names none, gets that of quantity 1.
-pub fn of_signed(q: i32) -> u32
-    ensures { λ r. ⌜ r ≡ literalOf q ⌝ }
-{
-    if q < 0 {
-        return (-1 - q) as u32 * 2 + 1;
-    }
-    if q == 0 {
-        return 0;
-    }
-    (q - 1) as u32 * 2
 }

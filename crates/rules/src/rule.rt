@@ -3,9 +3,13 @@ use crate::literal;
 use crate::sheet::Sheet;
 use integers::Total;
 ghost use mathlib.Core.Path.{_≡_};
+ghost use lib.IntN.{_+ℤ_};
+ghost use Rattle.rules.specs.declared.rule.Rule.the-variants.{One};
+ghost use Rattle.rules.specs.declared.rule.Partner.the-variants.{With};
+ghost use Rattle.rules.specs.Literal.{literalOf};
 ghost use Rattle.rules.specs.Meaning.{boundOf};
-ghost use Rattle.rules.specs.Steps.{trivialRule, partnerOf, ruleOfPair, ruleOfRest};
-ghost use Rattle.rules.specs.Promises.{Made, Opposite, Halved, Sum};
+ghost use Rattle.rules.specs.Steps.{trivialRule, partnerOf, restRule, fitted};
+ghost use Rattle.rules.specs.Promises.{Made, Opposite, Halved, Added};
 
 // A rule as written: its literals stand in the order given, and a doubled term stays doubled. The bare rule 0 ≤ c keeps its c.
 pub enum Rule {
@@ -16,7 +20,7 @@ pub enum Rule {
 
 // What a rule leaves when a literal is taken from its term.
 pub enum Partner {
-    Literal(u32),
+    With(u32),
     Alone,
     Absent,
 }
@@ -31,19 +35,19 @@ impl Rule {
                 return Rule::Nothing { bound };
             }
             return Rule::One {
-                literal: literal::of_signed(second),
+                literal: of_signed(second),
                 bound,
             };
         }
         if second == 0 {
             return Rule::One {
-                literal: literal::of_signed(first),
+                literal: of_signed(first),
                 bound,
             };
         }
         Rule::Two {
-            first: literal::of_signed(first),
-            second: literal::of_signed(second),
+            first: of_signed(first),
+            second: of_signed(second),
             bound,
         }
     }
@@ -142,10 +146,10 @@ impl Rule {
                 bound: _,
             } => {
                 if first == literal {
-                    return Partner::Literal(second);
+                    return Partner::With(second);
                 }
                 if second == literal {
-                    return Partner::Literal(first);
+                    return Partner::With(first);
                 }
                 Partner::Absent
             }
@@ -153,61 +157,91 @@ impl Rule {
         }
     }
 
-    // The sum with another rule over a literal of this one whose negation stands in the other: both terms without it, both bounds together,
-    // halved where the rest is alike. The trivial rule where nothing cancels or the bounds' sum does not fit.
+    // The sum with another rule over a literal of this one whose negation stands in the other, and the trivial rule where nothing cancels or
+    // a term is left whose bound does not fit.
     pub fn sum(self, other: Rule, literal: u32) -> Rule
-        ensures { λ r. ⌜ Sum literal self other r ⌝ }
+        ensures { λ r. ⌜ Added literal self other r ⌝ }
     {
         let mine = self.partner(literal);
         let theirs = other.partner(literal::negate(literal));
-        let together = integers::add(self.bound(), other.bound());
-        match together {
-            Total::Sum(bound) => of_rest(mine, theirs, bound),
-            Total::Overflow => Rule::trivial(),
-        }
+        rest(mine, theirs, self.bound(), other.bound())
     }
 }
 
-// The rule of two literals that are left of a sum: halved where alike, bare where they cancel, else with the lower first.
-pub fn of_pair(x: u32, y: u32, bound: i64) -> Rule
-    ensures { λ r. ⌜ r ≡ ruleOfPair x y bound ⌝ }
+// The literal of a signed quantity number; 0, which names none, gets that of quantity 1.
+fn of_signed(q: i32) -> u32
+    ensures { λ r. ⌜ r ≡ literalOf q ⌝ }
 {
+    if q < 0 {
+        return (-1 - q) as u32 * 2 + 1;
+    }
+    if q == 0 {
+        return 0;
+    }
+    (q - 1) as u32 * 2
+}
+
+// The rule of one literal that is left of a sum of rules with the bounds `a` and `b`.
+fn rest_of_one(x: u32, a: i64, b: i64) -> Rule
+    ensures { λ r. ⌜ r ≡ fitted (One x (a +ℤ b)) ⌝ }
+{
+    let together = integers::add(a, b);
+    match together {
+        Total::Sum(bound) => Rule::One { literal: x, bound },
+        Total::Overflow => Rule::trivial(),
+    }
+}
+
+// The rule of two literals that are left: bare where they cancel, halved where they are alike, else with the lower first.
+fn rest_of_two(x: u32, y: u32, a: i64, b: i64) -> Rule
+    ensures { λ r. ⌜ r ≡ fitted (restRule (With x) (With y) (a +ℤ b)) ⌝ }
+{
+    if y == literal::negate(x) {
+        return Rule::Nothing {
+            bound: integers::saturating_add(a, b),
+        };
+    }
     if x == y {
         return Rule::One {
             literal: x,
-            bound: integers::halved(bound),
+            bound: integers::midpoint(a, b),
         };
     }
-    if y == literal::negate(x) {
-        return Rule::Nothing { bound };
-    }
-    if x < y {
-        return Rule::Two {
-            first: x,
-            second: y,
-            bound,
-        };
-    }
-    Rule::Two {
-        first: y,
-        second: x,
-        bound,
+    let together = integers::add(a, b);
+    match together {
+        Total::Sum(bound) => {
+            if x < y {
+                return Rule::Two {
+                    first: x,
+                    second: y,
+                    bound,
+                };
+            }
+            Rule::Two {
+                first: y,
+                second: x,
+                bound,
+            }
+        }
+        Total::Overflow => Rule::trivial(),
     }
 }
 
 // The rule of what two terms leave; the trivial one where either has nothing to take.
-pub fn of_rest(mine: Partner, theirs: Partner, bound: i64) -> Rule
-    ensures { λ r. ⌜ r ≡ ruleOfRest mine theirs bound ⌝ }
+fn rest(mine: Partner, theirs: Partner, a: i64, b: i64) -> Rule
+    ensures { λ r. ⌜ r ≡ fitted (restRule mine theirs (a +ℤ b)) ⌝ }
 {
     match mine {
-        Partner::Literal(x) => match theirs {
-            Partner::Literal(y) => of_pair(x, y, bound),
-            Partner::Alone => Rule::One { literal: x, bound },
+        Partner::With(x) => match theirs {
+            Partner::With(y) => rest_of_two(x, y, a, b),
+            Partner::Alone => rest_of_one(x, a, b),
             Partner::Absent => Rule::trivial(),
         },
         Partner::Alone => match theirs {
-            Partner::Literal(y) => Rule::One { literal: y, bound },
-            Partner::Alone => Rule::Nothing { bound },
+            Partner::With(y) => rest_of_one(y, a, b),
+            Partner::Alone => Rule::Nothing {
+                bound: integers::saturating_add(a, b),
+            },
             Partner::Absent => Rule::trivial(),
         },
         Partner::Absent => Rule::trivial(),

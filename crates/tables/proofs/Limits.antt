@@ -24,10 +24,11 @@ unfolding inLimit
 inLimit-bounded B w = go (hasRule w)
   where
     go : (t : Bool) → (cond t (leZ (negℤ B) w && leZ w B) true ≡ true) ↔ (t ≡ true → (negℤ B ≤ℤ w) × (w ≤ℤ B))
-    go true =
-      (λ e q. let p = both-true (leZ (negℤ B) w) (leZ w B) e in
-        (omega (linear, leZ-true (negℤ B) w (p .0)), omega (linear, leZ-true w B (p .1)))
-      , λ h. rw (le-leZ (negℤ B) w (h refl .0), le-leZ w B (h refl .1)))
+    go true = (
+      λ e q. let p = both-true (leZ (negℤ B) w) (leZ w B) e in
+          (omega (linear, leZ-true (negℤ B) w (p .0)), omega (linear, leZ-true w B (p .1))),
+      λ h. rw (le-leZ (negℤ B) w (h refl .0), le-leZ w B (h refl .1)),
+    )
     go false = (λ e q. clash q refl, λ h. refl)
 
 -- one word more

@@ -90,8 +90,8 @@ place-exactly-one n k c h = ((ruleAt-hasPlace n k c h, ruleAt-found k c), only)
   where
     only : (r : Rule) → HasPlace n r → findPlace r ≡ At k → boundOf r ≡ c → inOrder r ≡ ruleAt k c
     only r u e b =
-      let same : placeOf r ≡ k = cc (hasPlace-found n r u) in
-      sym (ruleAt-inOrder n r u) ∙ rw (same, b)
+        let same : placeOf r ≡ k = cc (hasPlace-found n r u) in
+        sym (ruleAt-inOrder n r u) ∙ rw (same, b)
 
 -- ---- which places name a quantity
 

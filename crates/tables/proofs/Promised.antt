@@ -40,16 +40,16 @@ no-rules n v σ = record { each = λ k p. clash {b = hasRule noRule} (rw (word k
   where
     word : (k : ℕ) → k < blockStart n → wordAt (emptyTable n ++ v) k ≡ noRule
     word k h =
-      List·getD-append (emptyTable n) v (pos 0) k (rw (length-replicate (blockStart n) noRule) h)
-      ∙ getD-replicate (blockStart n) k noRule (pos 0) h
+        List·getD-append (emptyTable n) v (pos 0) k (rw (length-replicate (blockStart n) noRule) h)
+        ∙ getD-replicate (blockStart n) k noRule (pos 0) h
 
 pub emptied-done : (n : ℕ) (t u : List ℤ) → serves n (length t) ≡ true → u ≡ change (tableSize n) (fillFrom 0 noRule) t → Emptied n t Done u
 emptied-done n t u e f = record { reply = rw e; table = filled; meaning = λ d σ. rw filled (no-rules n (drop (blockStart n) t) σ) }
   where
     filled : u ≡ emptyTable n ++ drop (blockStart n) t
     filled =
-      let s = serves-tells n (length t) e in
-      f ∙ ap (λ (m : ℕ). change m (fillFrom 0 noRule) t) (s .size) ∙ fill-front (blockStart n) noRule t (s .room)
+        let s = serves-tells n (length t) e in
+        f ∙ ap (λ (m : ℕ). change m (fillFrom 0 noRule) t) (s .size) ∙ fill-front (blockStart n) noRule t (s .room)
 
 -- ---- a rule put in
 

@@ -52,7 +52,7 @@ module _ (n : ℕ) (t : List ℤ) (k : ℕ) (c : ℤ) (σ : Assignment) (l : k <
     where
       at-k : hasRule (smaller (wordAt t k) c) ≡ true → Meets σ (ruleAt k (wordAt t k)) × Meets σ (ruleAt k c)
       at-k r = stronger
-        (rw (lowered-same t k c l) at (s .each k (record { inside = b; there = rw (lowered-length t k c) l; rule = rw (lowered-same t k c l) r })))
+          (rw (lowered-same t k c l) at (s .each k (record { inside = b; there = rw (lowered-length t k c) l; rule = rw (lowered-same t k c l) r })))
 
       here : Meets σ (ruleAt k (wordAt t k)) × Meets σ (ruleAt k c)
       here = at-k (rule-below (smaller (wordAt t k) c) c (smaller-right (wordAt t k) c) e)
@@ -60,24 +60,24 @@ module _ (n : ℕ) (t : List ℤ) (k : ℕ) (c : ℤ) (σ : Assignment) (l : k <
       go : (j : ℕ) → HoldsRule n t j → (d : Bool) → eqb j k ≡ d → Meets σ (ruleIn t j)
       go j p true w = rw (eqb-true j k w) (here .0)
       go j p false w =
-        let same : wordAt (lowered t k c) j ≡ wordAt t j = lowered-other t k j c (eqb-false j k w) in
-        rw same at (s .each j (record { inside = p .inside; there = rw (lowered-length t k c) (p .there); rule = rw same (p .rule) }))
+          let same : wordAt (lowered t k c) j ≡ wordAt t j = lowered-other t k j c (eqb-false j k w) in
+          rw same at (s .each j (record { inside = p .inside; there = rw (lowered-length t k c) (p .there); rule = rw same (p .rule) }))
 
   lowered-of : Satisfies n t σ → Meets σ (ruleAt k c) → Satisfies n (lowered t k c) σ
   lowered-of s m = record { each = λ j p. go j (p .inside) (rw (lowered-length t k c) at (p .there)) (p .rule) (eqb j k) refl }
     where
       here : k < blockStart n → hasRule (wordAt (lowered t k c) k) ≡ true → Meets σ (ruleAt k (wordAt (lowered t k c) k))
       here b =
-        rw (lowered-same t k c l)
-        (smaller-either (λ z. hasRule z ≡ true → Meets σ (ruleAt k z)) (wordAt t k) c (λ q. s .each k (record { inside = b; there = l; rule = q })) (λ q. m))
+          rw (lowered-same t k c l)
+          (smaller-either (λ z. hasRule z ≡ true → Meets σ (ruleAt k z)) (wordAt t k) c (λ q. s .each k (record { inside = b; there = l; rule = q })) (λ q. m))
 
       go : (j : ℕ) → j < blockStart n → j < length t → hasRule (wordAt (lowered t k c) j) ≡ true → (d : Bool) → eqb j k ≡ d
           → Meets σ (ruleAt j (wordAt (lowered t k c) j))
       go j h g q true w =
-        subst (λ (i : ℕ). i < blockStart n → hasRule (wordAt (lowered t k c) i) ≡ true → Meets σ (ruleAt i (wordAt (lowered t k c) i)))
-        (sym (eqb-true j k w)) here h q
+          subst (λ (i : ℕ). i < blockStart n → hasRule (wordAt (lowered t k c) i) ≡ true → Meets σ (ruleAt i (wordAt (lowered t k c) i)))
+          (sym (eqb-true j k w)) here h q
       go j h g q false w =
-        rw (lowered-other t k j c (eqb-false j k w)) (s .each j (record { inside = h; there = g; rule = rw (lowered-other t k j c (eqb-false j k w)) at q }))
+          rw (lowered-other t k j c (eqb-false j k w)) (s .each j (record { inside = h; there = g; rule = rw (lowered-other t k j c (eqb-false j k w)) at q }))
 
 -- a rule that has a place, put in there
 pub hasPlace-put : (n : ℕ) (t : List ℤ) (r : Rule) (σ : Assignment) → blockStart n ≤ length t → HasPlace n r → hasRule (boundOf r) ≡ true

@@ -1,10 +1,10 @@
--- What a rule's term is worth, and on what that depends: not on the order of its literals, not on its bound, and only on the quantities
--- that it names. Assumes nothing.
+-- What the term of a place is worth, and on what a term's worth depends: not on its bound, and only on the quantities that it names.
+-- Assumes nothing.
 use mathlib.Core.Path.{_≡_, refl, _∙_, ap, ap₂}
 use mathlib.Core.Bool.{Bool, true, false, cond}
 use Prim.Native.Nat.{ℕ, _%_}
-use lib.Dec.{ltb, eqb}
-use lib.IntN.{ℤ, pos, negℤ, _+ℤ_, +ℤ-comm}
+use lib.Dec.{eqb}
+use lib.IntN.{ℤ, pos, negℤ, _+ℤ_}
 use lib.Signed.{_≤ℤ_}
 use borrow.Author.Tests.{eq-eqb}
 use Rattle.places.specs.Numbering.{isOne, higherAt, lowerAt}
@@ -12,19 +12,9 @@ use Rattle.rules.specs.declared.rule.Rule.{Rule}
 use Rattle.rules.specs.declared.rule.Rule.the-variants.{One, Two, Nothing}
 use Rattle.rules.specs.Literal.{quantityOf}
 use Rattle.rules.specs.Meaning.{Assignment, literalValue, termValue, boundOf, Meets, names}
-use Rattle.rules.specs.Steps.{inOrder}
+use Rattle.rules.proofs.Meanings.{inOrder-term}
 use Rattle.tables.specs.Places.{ruleAt, placeOf, HasPlace}
 use Rattle.tables.proofs.Places.{ruleAt-bound, ruleAt-inOrder}
-
-pub inOrder-value : (σ : Assignment) (r : Rule) → termValue σ (inOrder r) ≡ termValue σ r
-unfolding inOrder
-inOrder-value σ (One x c) = refl
-inOrder-value σ (Two x y c) = go (ltb x y)
-  where
-    go : (b : Bool) → termValue σ (cond b (Two x y c) (Two y x c)) ≡ termValue σ (Two x y c)
-    go true = refl
-    go false = +ℤ-comm (literalValue σ y) (literalValue σ x)
-inOrder-value σ (Nothing c) = refl
 
 pub ruleAt-value : (σ : Assignment) (k : ℕ) (c d : ℤ) → termValue σ (ruleAt k c) ≡ termValue σ (ruleAt k d)
 unfolding ruleAt
@@ -37,7 +27,7 @@ ruleAt-value σ k c d = go (isOne k)
 -- the term at the place of a rule is worth what the rule's own is
 pub place-value : (n : ℕ) (σ : Assignment) (r : Rule) (c : ℤ) → HasPlace n r → termValue σ (ruleAt (placeOf r) c) ≡ termValue σ r
 place-value n σ r c u =
-    ruleAt-value σ (placeOf r) c (boundOf r) ∙ ap (termValue σ) (ruleAt-inOrder n r u) ∙ inOrder-value σ r
+    ruleAt-value σ (placeOf r) c (boundOf r) ∙ ap (termValue σ) (ruleAt-inOrder n r u) ∙ inOrder-term σ r
 
 -- a rule at a place is met where its term is at most the bound
 pub meets-at : (σ : Assignment) (k : ℕ) (c : ℤ) → Meets σ (ruleAt k c) → termValue σ (ruleAt k (pos 0)) ≤ℤ c

@@ -31,7 +31,11 @@ pub fn place_of(rule: Rule) -> Place
 {
     match rule {
         Rule::One { literal, bound: _ } => Place::At(places::of_one(literal)),
-        Rule::Two { first, second, bound: _ } => places::of_two(first, second),
+        Rule::Two {
+            first,
+            second,
+            bound: _,
+        } => places::of_two(first, second),
         Rule::Nothing { bound: _ } => Place::Nowhere,
     }
 }

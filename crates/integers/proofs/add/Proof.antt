@@ -1,59 +1,51 @@
 -- `integers::add` meets its contract: with one summand taken from the end of the range of words on its side, the other tells whether the
 -- sum is a word. Assumes nothing.
-use mathlib.Core.Path.{_≡_, _∙_, sym, ap}
+use mathlib.Core.Path.{_≡_}
 use mathlib.Core.Bool.{true, false}
-use Prim.Native.Nat.{_^_, _<_, _≤_, _+_}
-use lib.IntN.{ℤ, pos, negsuc, negℤ, _+ℤ_}
+use lib.IntN.{ℤ, pos, negℤ, _+ℤ_}
 use lib.Signed.{ltZ}
 use mir.Syntax.{w64}
 use mir.Val.{SFits, toZ, ofZ}
-use Rattle.integers.specs.declared.Total.{Total}
 use Rattle.integers.specs.declared.Total.the-variants.{Sum, Overflow}
-use Rattle.integers.specs.Bound.{totalOf}
+use Rattle.integers.specs.Bound.{leastWord, greatestWord, totalOf}
 use Rattle.integers.proofs.Parts.{linear, positivePart, negativePart, parts-add, parts-neg, word-to, word-of, word-value, word-inWord, below-inWord, above-inWord, ltZ-true, ltZ-false}
 use Rattle.integers.proofs.add.Statement.{statement}
 use Rattle.integers.proofs.add.Tie as tie
 
-abbrev least : ℤ
-least = negsuc 9223372036854775807
-
-abbrev greatest : ℤ
-greatest = pos 9223372036854775807
-
 module _ (a b : ℤ) (fa : SFits w64 a) (fb : SFits w64 b) where
   -- what a summand leaves of the range
-  room-below : ltZ b (pos 0) ≡ true → SFits w64 (least +ℤ negℤ b)
+  room-below : ltZ b (pos 0) ≡ true → SFits w64 (leastWord +ℤ negℤ b)
   unfolding positivePart negativePart
   room-below n = word-of
-      (omega (linear, parts-add least (negℤ b), parts-neg b, word-to fb, ltZ-true b (pos 0) n))
-      (omega (linear, parts-add least (negℤ b), parts-neg b, word-to fb, ltZ-true b (pos 0) n))
+      (omega (linear, parts-add leastWord (negℤ b), parts-neg b, word-to fb, ltZ-true b (pos 0) n))
+      (omega (linear, parts-add leastWord (negℤ b), parts-neg b, word-to fb, ltZ-true b (pos 0) n))
 
-  room-above : ltZ b (pos 0) ≡ false → SFits w64 (greatest +ℤ negℤ b)
+  room-above : ltZ b (pos 0) ≡ false → SFits w64 (greatestWord +ℤ negℤ b)
   unfolding positivePart negativePart
   room-above n = word-of
-      (omega (linear, parts-add greatest (negℤ b), parts-neg b, word-to fb, ltZ-false b (pos 0) n))
-      (omega (linear, parts-add greatest (negℤ b), parts-neg b, word-to fb, ltZ-false b (pos 0) n))
+      (omega (linear, parts-add greatestWord (negℤ b), parts-neg b, word-to fb, ltZ-false b (pos 0) n))
+      (omega (linear, parts-add greatestWord (negℤ b), parts-neg b, word-to fb, ltZ-false b (pos 0) n))
 
   -- no room: the sum is no word
-  too-low : ltZ a (least +ℤ negℤ b) ≡ true → Overflow ≡ totalOf a b
+  too-low : ltZ a (leastWord +ℤ negℤ b) ≡ true → Overflow ≡ totalOf a b
   unfolding positivePart negativePart totalOf
-  too-low l = rw (below-inWord (a +ℤ b) (omega (linear, parts-add a b, parts-add least (negℤ b), parts-neg b, ltZ-true a (least +ℤ negℤ b) l)))
+  too-low l = rw (below-inWord (a +ℤ b) (omega (linear, parts-add a b, parts-add leastWord (negℤ b), parts-neg b, ltZ-true a (leastWord +ℤ negℤ b) l)))
 
-  too-high : ltZ (greatest +ℤ negℤ b) a ≡ true → Overflow ≡ totalOf a b
+  too-high : ltZ (greatestWord +ℤ negℤ b) a ≡ true → Overflow ≡ totalOf a b
   unfolding positivePart negativePart totalOf
-  too-high l = rw (above-inWord (a +ℤ b) (omega (linear, parts-add a b, parts-add greatest (negℤ b), parts-neg b, ltZ-true (greatest +ℤ negℤ b) a l)))
+  too-high l = rw (above-inWord (a +ℤ b) (omega (linear, parts-add a b, parts-add greatestWord (negℤ b), parts-neg b, ltZ-true (greatestWord +ℤ negℤ b) a l)))
 
   -- room: it is one
-  sum-below : ltZ b (pos 0) ≡ true → ltZ a (least +ℤ negℤ b) ≡ false → SFits w64 (a +ℤ b)
+  sum-below : ltZ b (pos 0) ≡ true → ltZ a (leastWord +ℤ negℤ b) ≡ false → SFits w64 (a +ℤ b)
   unfolding positivePart negativePart
   sum-below n l = word-of
       (omega (linear, parts-add a b, word-to fa, ltZ-true b (pos 0) n))
-      (omega (linear, parts-add a b, parts-add least (negℤ b), parts-neg b, ltZ-false a (least +ℤ negℤ b) l))
+      (omega (linear, parts-add a b, parts-add leastWord (negℤ b), parts-neg b, ltZ-false a (leastWord +ℤ negℤ b) l))
 
-  sum-above : ltZ b (pos 0) ≡ false → ltZ (greatest +ℤ negℤ b) a ≡ false → SFits w64 (a +ℤ b)
+  sum-above : ltZ b (pos 0) ≡ false → ltZ (greatestWord +ℤ negℤ b) a ≡ false → SFits w64 (a +ℤ b)
   unfolding positivePart negativePart
   sum-above n l = word-of
-      (omega (linear, parts-add a b, parts-add greatest (negℤ b), parts-neg b, ltZ-false (greatest +ℤ negℤ b) a l))
+      (omega (linear, parts-add a b, parts-add greatestWord (negℤ b), parts-neg b, ltZ-false (greatestWord +ℤ negℤ b) a l))
       (omega (linear, parts-add a b, word-to fa, ltZ-false b (pos 0) n))
 
   is-sum : SFits w64 (a +ℤ b) → Sum (toZ w64 (ofZ w64 (a +ℤ b))) ≡ totalOf a b
@@ -67,10 +59,10 @@ negative c = rw (word-value (c .before .fits .b)) at (c .if1 .taken)
 positive : (c : tie.Else1) → ltZ (c .before .args .b) (pos 0) ≡ false
 positive c = rw (word-value (c .before .fits .b)) at (c .if1 .left)
 
-fits-below : (c : tie.Then1) → SFits w64 (least +ℤ negℤ (c .before .args .b))
+fits-below : (c : tie.Then1) → SFits w64 (leastWord +ℤ negℤ (c .before .args .b))
 fits-below c = room-below (c .before .args .a) (c .before .args .b) (c .before .fits .a) (c .before .fits .b) (negative c)
 
-fits-above : (c : tie.Else1) → SFits w64 (greatest +ℤ negℤ (c .before .args .b))
+fits-above : (c : tie.Else1) → SFits w64 (greatestWord +ℤ negℤ (c .before .args .b))
 fits-above c = room-above (c .before .args .a) (c .before .args .b) (c .before .fits .a) (c .before .fits .b) (positive c)
 
 fits-low : (c : tie.Else2) → SFits w64 (c .before .before .args .a +ℤ c .before .before .args .b)

@@ -1,5 +1,5 @@
 -- `integers::halved` meets its contract: a shift by one rounds down, and its result is a word. Assumes nothing.
-use mathlib.Core.Path.{_≡_, _∙_, ap}
+use mathlib.Core.Path.{_≡_}
 use lib.IntN.{ℤ}
 use lib.Signed.{shrZ, mag-shr}
 use mir.Syntax.{w64}

@@ -1,16 +1,16 @@
 -- `integers::magnitude` meets its contract: of a negative word the opposite's bound is the magnitude less 1. Assumes nothing.
-use mathlib.Core.Path.{_≡_, refl, sym, _∙_, ap, subst}
+use mathlib.Core.Path.{_≡_, refl, _∙_, ap, subst}
 use mathlib.Core.Bool.{true, false}
-use Prim.Native.Nat.{ℕ, suc, _+_, _^_, _<_}
+use Prim.Native.Nat.{ℕ, _+_, _^_, _<_}
 use native.Mathlib.Omega.{arith}
 use lib.Dec.{T}
 use lib.IntN.{ℤ, pos, negsuc, natAbs}
 use lib.Signed.{ltZ, nonNeg}
 use mir.Syntax.{w64}
-use mir.Val.{Fits, SFits, toZ, ofZ}
+use mir.Val.{SFits, toZ, ofZ}
 use borrow.Author.Needs.{needs}
 use Rattle.integers.specs.Bound.{oppositeBound}
-use Rattle.integers.proofs.Parts.{linear, positivePart, negativePart, parts-opposite, ltZ-true, ltZ-false, word-value, held-value}
+use Rattle.integers.proofs.Parts.{linear, positivePart, negativePart, parts-opposite, ltZ-true, word-value, held-value}
 use Rattle.integers.proofs.magnitude.Statement.{statement}
 use Rattle.integers.proofs.magnitude.Tie as tie
 

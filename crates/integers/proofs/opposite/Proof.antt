@@ -1,6 +1,6 @@
 -- `integers::opposite` meets its contract: -1 less any word is a word. Assumes nothing.
 use mathlib.Core.Path.{_≡_, _∙_, ap}
-use lib.IntN.{ℤ, pos, negsuc, negℤ, _+ℤ_}
+use lib.IntN.{ℤ, negsuc, negℤ, _+ℤ_}
 use mir.Syntax.{w64}
 use mir.Val.{SFits, toZ, ofZ}
 use Rattle.integers.specs.Bound.{oppositeBound}

@@ -1,9 +1,7 @@
 -- `hidden::is_hidden` meets its contract: the bit is the definition's, and a quantity past 32 has its bit past every set's last one.
 -- Assumes nothing.
 use mathlib.Core.Path.{_≡_, refl, sym}
-use mathlib.Core.Bool.{false}
-use Prim.Native.Nat.{ℕ, zero, suc, _-_, _/_, _%_, _^_, _<_}
-use native.Mathlib.Omega.{arith}
+use Prim.Native.Nat.{ℕ, zero, suc, _-_, _/_, _%_, _^_}
 use native.Mathlib.Numerals.{unary-clauses}
 use lib.Dec.{eqb}
 use borrow.Author.Needs.{needs}

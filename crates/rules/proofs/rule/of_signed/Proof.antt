@@ -1,4 +1,4 @@
--- `literal::of_signed` meets its contract: what is cast, -1 - q or q - 1, is the half of the literal's code, which counts from 0.
+-- `rule::of_signed` meets its contract: what is cast, -1 - q or q - 1, is the half of the literal's code, which counts from 0.
 -- Assumes nothing.
 use mathlib.Core.Path.{_≡_, refl}
 use mathlib.Core.Bool.{true, false}
@@ -11,8 +11,8 @@ use mir.Val.{SFits, toZ, ofZ}
 use Rattle.integers.proofs.Parts.{linear, positivePart, negativePart, parts-add}
 use Rattle.rules.specs.Literal.{literalOf}
 use Rattle.rules.proofs.Words.{narrow-value, zero-bits, nonzero-bits}
-use Rattle.rules.proofs.literal.of_signed.Statement.{statement}
-use Rattle.rules.proofs.literal.of_signed.Tie as tie
+use Rattle.rules.proofs.rule.of_signed.Statement.{statement}
+use Rattle.rules.proofs.rule.of_signed.Tie as tie
 
 -- d, which fits, is the half of a literal's code x, and s is the code's last bit
 record Half (d : ℤ) (x s : ℕ) : Type 0 where

@@ -8,10 +8,10 @@ use Prim.Native.Nat.{ℕ, zero, suc, _+_, _-_, _^_, _≤_, _<_}
 use native.Mathlib.Omega.{arith}
 use lib.Dec.{T, ltb, ltb→lt, lt→ltb, leb→le, le→leb}
 use lib.IntN.{ℤ, pos, negsuc, negℤ, _+ℤ_}
-use lib.Signed.{ltZ, leZ, mag, _≤ℤ_, _<ℤ_, leZ-yes, ltZ-yes, ltZ-no}
+use lib.Signed.{ltZ, leZ, mag, mag-shr, _≤ℤ_, _<ℤ_, leZ-yes, ltZ-yes, ltZ-no}
 use mir.Syntax.{w64}
 use mir.Val.{SFits, toZ, ofZ}
-use mir.ValLaws.{toZ-ofZ}
+use mir.ValLaws.{toZ-ofZ, sfits-le}
 use borrow.Author.Tests.{ltb-true, ltb-false, lt-ltb, le-ltb}
 use Rattle.integers.specs.declared.Total.the-variants.{Sum, Overflow}
 use Rattle.integers.specs.Bound.{half, oppositeBound, smaller, inWord, leastWord, greatestWord, saturated, totalOf}
@@ -282,3 +282,8 @@ smaller-either P a b p q = go (ltZ b a)
     go : (t : Bool) → P (cond t b a)
     go true = q
     go false = p
+
+-- half of a word is a word
+pub half-word : (c : ℤ) → inWord c ≡ true → inWord (half c) ≡ true
+unfolding half
+half-word c e = word-inWord (sfits-le (mag-shr c 2) (inWord-word c e))

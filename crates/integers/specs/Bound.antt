@@ -7,7 +7,7 @@ use lib.Signed.{mag, ltZ, shrZ, _≤ℤ_}
 use Rattle.integers.specs.declared.Total.{Total}
 use Rattle.integers.specs.declared.Total.the-variants.{Sum, Overflow}
 
--- c halved and rounded toward minus infinity: 7 gives 3, 0 gives 0, -1 gives -1, -3 gives -2
+-- c halved and rounded toward minus infinity: 7 gives 3, 0 gives 0, -1 gives -1, -3 gives -2. (`shrZ c m` is c divided by m, rounded down.)
 unfoldable pub half : ℤ → ℤ
 half c = shrZ c 2
 
@@ -19,7 +19,7 @@ oppositeBound c = negℤ c +ℤ negsuc 0
 unfoldable pub smaller : ℤ → ℤ → ℤ
 smaller a b = cond (ltZ b a) b a
 
--- z is a signed 64-bit word
+-- z is a signed 64-bit word. (`mag z` is n both for n and for -(n + 1).)
 unfoldable pub inWord : ℤ → Bool
 inWord z = ltb (mag z) (2 ^ 63)
 
@@ -39,6 +39,6 @@ unfoldable pub totalOf : ℤ → ℤ → Total
 totalOf a b = cond (inWord (a +ℤ b)) (Sum (a +ℤ b)) Overflow
 
 -- the integer z is at most B in magnitude
-pub record Within (B : ℕ) (z : ℤ) : Type 0 where
-  pub above : negℤ (pos B) ≤ℤ z
-  pub below : z ≤ℤ pos B
+pub record Within (B z : ℤ) : Type 0 where
+  pub above : negℤ B ≤ℤ z
+  pub below : z ≤ℤ B

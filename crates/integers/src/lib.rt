@@ -23,7 +23,7 @@ pub fn opposite(c: i64) -> i64
 }
 
 // The smaller of two words.
-pub fn least(a: i64, b: i64) -> i64
+pub fn minimum(a: i64, b: i64) -> i64
     ensures { λ r. ⌜ r ≡ smaller a b ⌝ }
 {
     if b < a { b } else { a }

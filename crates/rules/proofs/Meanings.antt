@@ -1,7 +1,7 @@
 -- What a rule means after each step, over every assignment: the opposite is met exactly where the rule is not, halving and ordering keep the
 -- meaning, and the sum over a literal says of both terms together what it says of the bounds, without the literal's quantity. Assumes
 -- nothing.
-use mathlib.Core.Path.{_≡_, refl}
+use mathlib.Core.Path.{_≡_, refl, ap}
 use mathlib.Core.Bool.{Bool, true, false, cond}
 use mathlib.Core.Logic.{_↔_, Iff·rfl, Iff·trans, _⊎_, inl, inr, ⊎-elim}
 use Prim.Native.Nat.{ℕ}
@@ -10,7 +10,7 @@ use lib.IntN.{ℤ, pos, negℤ, _+ℤ_}
 use lib.Signed.{ltZ, _≤ℤ_}
 use borrow.Author.Tests.{eqb-true, eq-eqb, ne-eqb}
 use Rattle.integers.specs.Bound.{half, oppositeBound, inWord}
-use Rattle.integers.proofs.Parts.{linear, positivePart, negativePart, parts-add, parts-neg, parts-half, parts-opposite, saturated-sign}
+use Rattle.integers.proofs.Parts.{linear, positivePart, negativePart, parts-add, parts-neg, parts-half, parts-opposite, saturated-sign, saturated-word, half-word}
 use Rattle.rules.specs.declared.rule.Rule.{Rule}
 use Rattle.rules.specs.declared.rule.Rule.the-variants.{One, Two, Nothing}
 use Rattle.rules.specs.declared.rule.Partner.{Partner}
@@ -18,7 +18,7 @@ use Rattle.rules.specs.declared.rule.Partner.the-variants.{With, Alone, 
 use Rattle.rules.specs.Literal.{quantityOf, negated, literalOf}
 use Rattle.rules.specs.Meaning.{Assignment, literalValue, signedValue, termValue, boundOf, Meets, names}
 use Rattle.rules.specs.Steps.{trivialRule, isNone, ruleOf, oppositeOf, halvedOf, inOrder, partnerOf, restRule, fitted, sumOver}
-use Rattle.rules.specs.Promises.{Stands, Plain}
+use Rattle.rules.specs.Promises.{Stands, Distinct}
 use Rattle.rules.proofs.Literals.{negated-quantity, value-negated, none-value, some-value}
 
 -- ---- the constructor
@@ -167,6 +167,13 @@ fitted-cases (Two x y c) = kept-or-trivial (inWord c) (Two x y c)
 pub fitted-meaning : (r : Rule) → (fitted r ≡ trivialRule → ⊥) → (σ : Assignment) → Meets σ (fitted r) ↔ Meets σ r
 fitted-meaning r n σ = ⊎-elim (λ e. absurd (n e)) (λ f. f σ) (fitted-cases r)
 
+-- a rule whose bound is a word stays
+pub fitted-word : (r : Rule) → inWord (boundOf r) ≡ true → fitted r ≡ r
+unfolding fitted
+fitted-word (One x c) e = rw e
+fitted-word (Two x y c) e = rw e
+fitted-word (Nothing c) e = ap Nothing (saturated-word c e)
+
 pub fitted-met : (σ : Assignment) (r : Rule) → Meets σ r → Meets σ (fitted r)
 fitted-met σ r h = ⊎-elim (λ e. rw e (trivial-met σ)) (λ f. f σ .1 h) (fitted-cases r)
 
@@ -248,6 +255,22 @@ rest-meaning σ Alone Alone c h k = meets-as σ (Nothing c) refl
 rest-meaning σ Alone Absent c h k = absurd k
 rest-meaning σ Absent q c h k = absurd h
 
+-- what is left has a word for its bound where the sum of the bounds is one
+pub rest-word : (p q : Partner) (c : ℤ) → Present p → Present q → inWord c ≡ true → inWord (boundOf (restRule p q c)) ≡ true
+unfolding restRule halvedOf
+rest-word (With x) (With y) c h k e = go (eqb y (negated x)) (eqb x y)
+  where
+    go : (t u : Bool) → inWord (boundOf (cond t (Nothing c) (inOrder (cond u (One x (half c)) (Two x y c))))) ≡ true
+    go true u = e
+    go false true = rw (inOrder-bound (One x (half c))) (half-word c e)
+    go false false = rw (inOrder-bound (Two x y c)) e
+rest-word (With x) Alone c h k e = e
+rest-word (With x) Absent c h k e = absurd k
+rest-word Alone (With y) c h k e = e
+rest-word Alone Alone c h k e = e
+rest-word Alone Absent c h k e = absurd k
+rest-word Absent q c h k e = absurd h
+
 -- where the literal is missing on either side, the trivial rule is left, which is met
 pub rest-met : (σ : Assignment) (p q : Partner) (c : ℤ)
     → (Present p → Present q → Meets σ (restRule p q c))
@@ -278,12 +301,24 @@ pub sum-meaning : (σ : Assignment) (z : ℕ) (r s : Rule) (c : ℤ) → Present
     → Meets σ (restRule (partnerOf z r) (partnerOf (negated z) s) c) ↔ ((termValue σ r +ℤ termValue σ s) ≤ℤ c)
 sum-meaning σ z r s c p q = rw (sum-term σ z r s p q) (rest-meaning σ (partnerOf z r) (partnerOf (negated z) s) c p q)
 
-pub sum-exact : (z : ℕ) (r s : Rule) → Stands z r → Stands (negated z) s → (sumOver z r s ≡ trivialRule → ⊥)
+pub sum-exact : (z : ℕ) (r s : Rule) → Stands z r → Stands (negated z) s
+    → (inWord (boundOf r +ℤ boundOf s) ≡ true) ⊎ (sumOver z r s ≡ trivialRule → ⊥)
     → (σ : Assignment) → Meets σ (sumOver z r s) ↔ ((termValue σ r +ℤ termValue σ s) ≤ℤ (boundOf r +ℤ boundOf s))
 unfolding sumOver
-sum-exact z r s p q n σ =
-    Iff·trans (fitted-meaning (restRule (partnerOf z r) (partnerOf (negated z) s) (boundOf r +ℤ boundOf s)) n σ)
-    (sum-meaning σ z r s (boundOf r +ℤ boundOf s) (stands-present z r p) (stands-present (negated z) s q))
+sum-exact z r s p q f σ =
+    Iff·trans (go f) (sum-meaning σ z r s c (stands-present z r p) (stands-present (negated z) s q))
+  where
+    c : ℤ
+    c = boundOf r +ℤ boundOf s
+
+    t : Rule
+    t = restRule (partnerOf z r) (partnerOf (negated z) s) (boundOf r +ℤ boundOf s)
+
+    go : (inWord (boundOf r +ℤ boundOf s) ≡ true) ⊎ (fitted t ≡ trivialRule → ⊥) → Meets σ (fitted t) ↔ Meets σ t
+    go (inl e) =
+        rw (fitted-word t (rest-word (partnerOf z r) (partnerOf (negated z) s) c (stands-present z r p) (stands-present (negated z) s q) e))
+        Iff·rfl
+    go (inr n) = fitted-meaning t n σ
 
 pub sum-sound : (z : ℕ) (r s : Rule) (σ : Assignment) → Meets σ r → Meets σ s → Meets σ (sumOver z r s)
 unfolding sumOver
@@ -330,7 +365,7 @@ Without q (With x) = quantityOf x ≡ q → ⊥
 Without q Alone = Unit {0}
 Without q Absent = Unit {0}
 
-partner-without : (z : ℕ) (r : Rule) → Plain r → Without (quantityOf z) (partnerOf z r)
+partner-without : (z : ℕ) (r : Rule) → Distinct r → Without (quantityOf z) (partnerOf z r)
 unfolding partnerOf
 partner-without z (One x c) p = go (eqb x z)
   where
@@ -373,7 +408,7 @@ fitted-unnamed q (One x c) e = either-unnamed q (inWord c) (One x c) trivialRule
 fitted-unnamed q (Two x y c) e = either-unnamed q (inWord c) (Two x y c) trivialRule e refl
 fitted-unnamed q (Nothing c) e = refl
 
-pub sum-gone : (z : ℕ) (r s : Rule) → Plain r → Plain s → names (quantityOf z) (sumOver z r s) ≡ false
+pub sum-gone : (z : ℕ) (r s : Rule) → Distinct r → Distinct s → names (quantityOf z) (sumOver z r s) ≡ false
 unfolding sumOver
 sum-gone z r s p q =
     fitted-unnamed (quantityOf z) (restRule (partnerOf z r) (partnerOf (negated z) s) (boundOf r +ℤ boundOf s))

@@ -5,6 +5,7 @@ use mathlib.Core.Bool.{Bool, true, false}
 use Prim.Native.Nat.{ℕ, _<_}
 use lib.IntN.{ℤ, _+ℤ_}
 use lib.Signed.{_≤ℤ_}
+use Rattle.integers.specs.Bound.{inWord}
 use Rattle.rules.specs.declared.rule.Rule.{Rule}
 use Rattle.rules.specs.declared.rule.Rule.the-variants.{One, Two, Nothing}
 use Rattle.rules.specs.Hidden.{hiddenIn, setWithin}
@@ -39,16 +40,16 @@ Stands z (Two x y c) = (x ≡ z) ⊎ (y ≡ z)
 Stands z (Nothing c) = ⊥
 
 -- the rule's term has no quantity twice, as in +q+q and +q-q
-abbrev pub Plain : Rule → Type 0
-Plain (One x c) = Unit {0}
-Plain (Two x y c) = quantityOf x ≡ quantityOf y → ⊥
-Plain (Nothing c) = Unit {0}
+abbrev pub Distinct : Rule → Type 0
+Distinct (One x c) = Unit {0}
+Distinct (Two x y c) = quantityOf x ≡ quantityOf y → ⊥
+Distinct (Nothing c) = Unit {0}
 
--- t is the sum of r and s over z: every assignment that meets both meets it; where z cancels and t is not the trivial rule, it says just
--- that both terms together are at most both bounds together; and z's quantity is gone from it
+-- t is the sum of r and s over z: every assignment that meets both meets it; where z cancels, and the bounds' sum is a word or t is not the
+-- trivial rule, it says just that both terms together are at most both bounds together; and z's quantity is gone from it
 pub record Added (z : ℕ) (r s t : Rule) : Type 0 where
   pub reply : t ≡ sumOver z r s
   pub sound : (σ : Assignment) → Meets σ r → Meets σ s → Meets σ t
-  pub exact : Stands z r → Stands (negated z) s → (t ≡ trivialRule → ⊥)
+  pub exact : Stands z r → Stands (negated z) s → (inWord (boundOf r +ℤ boundOf s) ≡ true) ⊎ (t ≡ trivialRule → ⊥)
       → (σ : Assignment) → Meets σ t ↔ ((termValue σ r +ℤ termValue σ s) ≤ℤ (boundOf r +ℤ boundOf s))
-  pub gone : Plain r → Plain s → names (quantityOf z) t ≡ false
+  pub gone : Distinct r → Distinct s → names (quantityOf z) t ≡ false

@@ -23,6 +23,6 @@ pub fn lower(t: &mut [i64], k: usize, w: i64)
 {
     if k < t.len() {
         let v = t[k];
-        t[k] = integers::least(v, w);
+        t[k] = integers::minimum(v, w);
     }
 }

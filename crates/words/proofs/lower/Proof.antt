@@ -1,4 +1,4 @@
--- `words::lower` meets its contract: `integers::least` gives the smaller word, and where there is no such place the list stays.
+-- `words::lower` meets its contract: `integers::minimum` gives the smaller word, and where there is no such place the list stays.
 -- Assumes nothing.
 use mathlib.Core.Path.{_≡_, _∙_, sym, ap}
 use lib.ListN.{set}
@@ -20,8 +20,8 @@ mul-v c = search needs
 slice-copy-out-v : tie.Need-slice-copy-out-v
 slice-copy-out-v c = search needs
 
-least-requires : tie.Need-least-requires
-least-requires c κs = search needs
+minimum-requires : tie.Need-minimum-requires
+minimum-requires c κs = search needs
 
 mul-t7 : tie.Need-mul-t7
 mul-t7 c = search needs
@@ -43,7 +43,7 @@ returns c =
     let t = now (s .args .t) in
     let k = s .args .k in
     ap (λ (z : ℤ). set t k z)
-    (held-value (c .least .ok) ∙ c .least .ensures
+    (held-value (c .minimum .ok) ∙ c .minimum .ensures
     ∙ smaller-value (wordAt t k) (s .args .w) (record { sfits = c .before .v .given }) (s .fits .w))
 
 returns-2 : tie.Need-returns-2
@@ -55,7 +55,7 @@ lower-spec =
     (tie.spec
     mul-v
     slice-copy-out-v
-    least-requires
+    minimum-requires
     mul-t7
     slice-set-from-t
     same-length

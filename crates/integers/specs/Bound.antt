@@ -1,6 +1,6 @@
 -- The operations on a bound, over unbounded integers, and the range of a signed 64-bit word.
 use mathlib.Core.Bool.{Bool, cond}
-use Prim.Native.Nat.{ℕ, _^_}
+use Prim.Native.Nat.{_^_}
 use lib.Dec.{ltb}
 use lib.IntN.{ℤ, pos, negsuc, negℤ, _+ℤ_}
 use lib.Signed.{mag, ltZ, shrZ, _≤ℤ_}

@@ -8,7 +8,8 @@ use native.Mathlib.Omega.{arith}
 use lib.IntN.{ℤ, pos, negℤ}
 use lib.ListN.{length, drop}
 use lib.Seq.{drop-cons}
-use lib.Signed.{leZ, _≤ℤ_}
+use lib.Signed.{leZ}
+use Rattle.integers.specs.Bound.{Within}
 use Rattle.integers.proofs.Parts.{linear, leZ-true, le-leZ}
 use Rattle.words.specs.Change.{wordAt}
 use Rattle.tables.specs.Tables.{hasRule, inLimit, wordsInLimit}
@@ -17,17 +18,17 @@ use Rattle.tables.proofs.Tests.{both-true, clash}
 
 -- a word that holds a rule is at most B in magnitude
 abbrev pub Bounded : ℤ → ℤ → Type 0
-Bounded B w = hasRule w ≡ true → (negℤ B ≤ℤ w) × (w ≤ℤ B)
+Bounded B w = hasRule w ≡ true → Within B w
 
 pub inLimit-bounded : (B w : ℤ) → (inLimit B w ≡ true) ↔ Bounded B w
 unfolding inLimit
 inLimit-bounded B w = go (hasRule w)
   where
-    go : (t : Bool) → (cond t (leZ (negℤ B) w && leZ w B) true ≡ true) ↔ (t ≡ true → (negℤ B ≤ℤ w) × (w ≤ℤ B))
+    go : (t : Bool) → (cond t (leZ (negℤ B) w && leZ w B) true ≡ true) ↔ (t ≡ true → Within B w)
     go true = (
       λ e q. let p = both-true (leZ (negℤ B) w) (leZ w B) e in
-          (omega (linear, leZ-true (negℤ B) w (p .0)), omega (linear, leZ-true w B (p .1))),
-      λ h. rw (le-leZ (negℤ B) w (h refl .0), le-leZ w B (h refl .1)),
+          record { above = omega (linear, leZ-true (negℤ B) w (p .0)); below = omega (linear, leZ-true w B (p .1)) },
+      λ h. rw (le-leZ (negℤ B) w (h refl .above), le-leZ w B (h refl .below)),
     )
     go false = (λ e q. clash q refl, λ h. refl)
 

@@ -12,7 +12,7 @@ use Rattle.rules.specs.declared.rule.Rule.{Rule}
 use Rattle.rules.specs.Meaning.{Assignment, Meets, boundOf, names}
 use Rattle.tables.specs.Places.{placeOf, HasPlace}
 use Rattle.tables.specs.Tables.{hasRule}
-use Rattle.tables.specs.Meaning.{HoldsRule, ruleIn, Satisfies, joined, SheetAllows, ScriptAllows, SameVisible, NamesVisible}
+use Rattle.tables.specs.Meaning.{HoldsRule, ruleIn, Satisfies, joined, Paper, SheetAllows, ScriptAllows, SameVisible, NamesVisible}
 use Rattle.tables.proofs.Places.{ruleAt-bound, ruleAt-place, ruleAt-hasPlace, hasPlace-below, hasPlace-names}
 use Rattle.tables.proofs.Values.{place-value, meets-at, meets-named}
 
@@ -47,32 +47,44 @@ satisfies-agree n t σ τ a s = record { each = λ k p. meets-named σ τ (ruleI
     same : (k : ℕ) → HoldsRule n t k → (q : ℕ) → names q (ruleIn t k) ≡ true → σ q ≡ τ q
     same k p q e = let l = in-range n t k p q e in a q (l .0) (l .1)
 
--- what the sheet allows does not depend on what stands at hidden quantities, nor on quantities past n
-pub allows-visible : (n : ℕ) (hidden : ℕ → Bool) (t : List ℤ) (σ τ : Assignment) → SameVisible n hidden σ τ
-    → SheetAllows n hidden t σ → SheetAllows n hidden t τ
-allows-visible n hidden t σ τ same a = record { hiddens = a .hiddens; complete = satisfies-agree n t (joined hidden σ (a .hiddens)) (joined hidden τ (a .hiddens)) agree (a .complete) }
+-- what a sheet allows does not depend on what stands at hidden quantities, nor on quantities past n, where its rules do not
+pub allows-visible : (n : ℕ) (hidden : ℕ → Bool) (sheet : Paper) → ((σ τ : Assignment) → Agree n σ τ → sheet σ → sheet τ)
+    → (σ τ : Assignment) → SameVisible n hidden σ τ → SheetAllows hidden sheet σ → SheetAllows hidden sheet τ
+allows-visible n hidden sheet within σ τ same a = record {
+  hiddens = a .hiddens;
+  complete = within (joined hidden σ (a .hiddens)) (joined hidden τ (a .hiddens)) (λ q l h. pick q (hidden q) (same q l h)) (a .complete);
+}
   where
-    pick : (q : ℕ) → (b : Bool) → (b ≡ false → σ q ≡ τ q) → cond b (a .hiddens q) (σ q) ≡ cond b (a .hiddens q) (τ q)
+    pick : (q : ℕ) (b : Bool) → (b ≡ false → σ q ≡ τ q) → cond b (a .hiddens q) (σ q) ≡ cond b (a .hiddens q) (τ q)
     pick q true e = refl
     pick q false e = e refl
 
-    agree : Agree n (joined hidden σ (a .hiddens)) (joined hidden τ (a .hiddens))
-    agree q l h = pick q (hidden q) (same q l h)
+-- no quantity is visible
+abbrev pub NoneVisible : ℕ → (ℕ → Bool) → Type 0
+NoneVisible n hidden = (q : ℕ) → 1 ≤ q → q ≤ n → hidden q ≡ true
 
--- where no quantity is visible there is one choice, the empty one: all visible integers are allowed or none are
-pub allows-none-visible : (n : ℕ) (hidden : ℕ → Bool) (t : List ℤ) (σ τ : Assignment)
-    → ((q : ℕ) → 1 ≤ q → q ≤ n → hidden q ≡ true) → SheetAllows n hidden t σ → SheetAllows n hidden t τ
-allows-none-visible n hidden t σ τ all = allows-visible n hidden t σ τ (λ q l h e. cc (all q l h))
+none-visible : (n : ℕ) (hidden : ℕ → Bool) (σ τ : Assignment) → NoneVisible n hidden → SameVisible n hidden σ τ
+none-visible n hidden σ τ all q l h e = cc (all q l h)
+
+-- so of a table,
+pub table-allows-visible : (n : ℕ) (hidden : ℕ → Bool) (t : List ℤ) (σ τ : Assignment) → SameVisible n hidden σ τ
+    → SheetAllows hidden (Satisfies n t) σ → SheetAllows hidden (Satisfies n t) τ
+table-allows-visible n hidden t = allows-visible n hidden (Satisfies n t) (satisfies-agree n t)
+
+-- and where no quantity is visible there is one choice, the empty one: it is allowed or not
+pub table-allows-none-visible : (n : ℕ) (hidden : ℕ → Bool) (t : List ℤ) (σ τ : Assignment) → NoneVisible n hidden
+    → SheetAllows hidden (Satisfies n t) σ → SheetAllows hidden (Satisfies n t) τ
+table-allows-none-visible n hidden t σ τ all = table-allows-visible n hidden t σ τ (none-visible n hidden σ τ all)
 
 -- a script whose rules name visible quantities alone allows visible integers whatever stands at the hidden quantities
 pub script-visible : (n : ℕ) (hidden : ℕ → Bool) (t : List ℤ) (σ τ : Assignment) → NamesVisible n hidden t → SameVisible n hidden σ τ
-    → ScriptAllows n t σ → ScriptAllows n t τ
+    → ScriptAllows (Satisfies n t) σ → ScriptAllows (Satisfies n t) τ
 script-visible n hidden t σ τ v same s = record { each = λ k p. meets-named σ τ (ruleIn t k) (agree k p) (s .each k p) }
   where
     agree : (k : ℕ) → HoldsRule n t k → (q : ℕ) → names q (ruleIn t k) ≡ true → σ q ≡ τ q
     agree k p q e = let l = in-range n t k p q e in same q (l .0) (l .1) (v .each k p q e)
 
 -- where no quantity is visible it allows the one empty choice or forbids it
-pub script-none-visible : (n : ℕ) (hidden : ℕ → Bool) (t : List ℤ) (σ τ : Assignment) → NamesVisible n hidden t
-    → ((q : ℕ) → 1 ≤ q → q ≤ n → hidden q ≡ true) → ScriptAllows n t σ → ScriptAllows n t τ
-script-none-visible n hidden t σ τ v all = script-visible n hidden t σ τ v (λ q l h e. cc (all q l h))
+pub script-none-visible : (n : ℕ) (hidden : ℕ → Bool) (t : List ℤ) (σ τ : Assignment) → NamesVisible n hidden t → NoneVisible n hidden
+    → ScriptAllows (Satisfies n t) σ → ScriptAllows (Satisfies n t) τ
+script-none-visible n hidden t σ τ v all = script-visible n hidden t σ τ v (none-visible n hidden σ τ all)

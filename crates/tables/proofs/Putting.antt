@@ -8,7 +8,7 @@ use native.Mathlib.Omega.{arith}
 use lib.Dec.{eqb, ltb}
 use lib.IntN.{ℤ, pos}
 use lib.ListN.{length}
-use lib.Signed.{_≤ℤ_}
+use lib.Signed.{_≤ℤ_, ltZ}
 use borrow.Author.Tests.{eqb-true, eqb-false, ltb-true}
 use Rattle.integers.specs.Bound.{half, smaller}
 use Rattle.integers.proofs.Parts.{linear, ltZ-true, ltZ-false, smaller-left, smaller-right, smaller-either}
@@ -17,12 +17,13 @@ use Rattle.words.proofs.Change.{lowered-length, lowered-same, lowered-other}
 use Rattle.places.specs.Numbering.{blockStart}
 use Rattle.rules.specs.declared.rule.Rule.{Rule}
 use Rattle.rules.specs.declared.rule.Rule.the-variants.{One, Two, Nothing}
+use Rattle.rules.specs.declared.refusal.Refusal.the-variants.{OutOfLimit, NoAssignment}
 use Rattle.rules.specs.Limits.{noRule}
 use Rattle.rules.specs.Literal.{quantityOf, negated}
 use Rattle.rules.specs.Meaning.{Assignment, Meets, termValue, boundOf}
 use Rattle.rules.specs.Steps.{halvedOf}
 use Rattle.rules.proofs.Meanings.{halved-meaning}
-use Rattle.tables.specs.declared.reply.Reply.the-variants.{Done}
+use Rattle.tables.specs.declared.reply.Reply.the-variants.{Done, Refused}
 use Rattle.tables.specs.Places.{ruleAt, placeOf, findPlace, HasPlace}
 use Rattle.tables.specs.Tables.{hasRule, ruleReply, putAt, putHalved, putRule}
 use Rattle.tables.specs.Meaning.{HoldsRule, ruleIn, Satisfies}
@@ -137,7 +138,9 @@ two-accepted n x y c e =
 
 pub nothing-accepted : (n : ℕ) (c : ℤ) (σ : Assignment) → ruleReply n (Nothing c) ≡ Done → Meets σ (Nothing c)
 unfolding ruleReply
-nothing-accepted n c σ e = record { met = omega (linear, ltZ-false c (pos 0) (not-refused _ _ _ e .0)) }
+nothing-accepted n c σ e =
+    let a = passed (hasRule c) (cond (ltZ c (pos 0)) (Refused NoAssignment) Done) (OutOfLimit 0) e in
+    record { met = omega (linear, ltZ-false c (pos 0) (not-refused (ltZ c (pos 0)) Done NoAssignment (a .1) .0)) }
 
 -- ---- an accepted rule, put in
 

@@ -4,9 +4,9 @@ use mathlib.Core.Path.{_≡_}
 use mathlib.Core.Bool.{Bool, true, false, cond}
 use mathlib.Core.List.{List, [], _∷_}
 use Prim.Native.Nat.{ℕ, _≤_, _<_}
-use lib.IntN.{ℤ, negℤ}
+use lib.IntN.{ℤ}
 use lib.ListN.{length}
-use lib.Signed.{_≤ℤ_}
+use Rattle.integers.specs.Bound.{Within}
 use Rattle.words.specs.Change.{wordAt}
 use Rattle.places.specs.Numbering.{blockStart}
 use Rattle.rules.specs.declared.rule.Rule.{Rule}
@@ -37,30 +37,35 @@ abbrev pub MeetsAll : Assignment → List Rule → Type 0
 MeetsAll σ [] = Unit {0}
 MeetsAll σ (r ∷ rs) = Meets σ r × MeetsAll σ rs
 
+-- a paper, sheet or script, by what satisfies its rules: those its table holds, `Satisfies n t`, or those its text writes,
+-- `λ σ. MeetsAll σ rules`, a doubled term taken as written
+abbrev pub Paper : Type 1
+Paper = Assignment → Type 0
+
 -- integers for the visible quantities from one assignment and for the hidden ones from another
 abbrev pub joined : (ℕ → Bool) → Assignment → Assignment → Assignment
 joined hidden visibles hiddens q = cond (hidden q) (hiddens q) (visibles q)
 
 -- hidden values complete visible integers: the two together satisfy every rule of the sheet
-abbrev pub Completes : ℕ → (ℕ → Bool) → List ℤ → Assignment → Assignment → Type 0
-Completes n hidden sheet visibles hiddens = Satisfies n sheet (joined hidden visibles hiddens)
+abbrev pub Completes : (ℕ → Bool) → Paper → Assignment → Assignment → Type 0
+Completes hidden sheet visibles hiddens = sheet (joined hidden visibles hiddens)
 
 -- the sheet allows visible integers: some hidden values complete them
-pub record SheetAllows (n : ℕ) (hidden : ℕ → Bool) (sheet : List ℤ) (visibles : Assignment) : Type 0 where
+pub record SheetAllows (hidden : ℕ → Bool) (sheet : Paper) (visibles : Assignment) : Type 0 where
   pub hiddens : Assignment
-  pub complete : Completes n hidden sheet visibles hiddens
+  pub complete : Completes hidden sheet visibles hiddens
 
--- the rules of a table name visible quantities alone
-pub record NamesVisible (n : ℕ) (hidden : ℕ → Bool) (t : List ℤ) : Type 0 where
-  pub each : (k : ℕ) → HoldsRule n t k → (q : ℕ) → names q (ruleIn t k) ≡ true → hidden q ≡ false
-
--- the script allows the visible integers that satisfy every rule of its own, which name visible quantities alone
-abbrev pub ScriptAllows : ℕ → List ℤ → Assignment → Type 0
-ScriptAllows n script visibles = Satisfies n script visibles
+-- the script allows the visible integers that satisfy every rule of its own
+abbrev pub ScriptAllows : Paper → Assignment → Type 0
+ScriptAllows script visibles = script visibles
 
 -- and it forbids all others
-abbrev pub ScriptForbids : ℕ → List ℤ → Assignment → Type 0
-ScriptForbids n script visibles = ScriptAllows n script visibles → ⊥
+abbrev pub ScriptForbids : Paper → Assignment → Type 0
+ScriptForbids script visibles = ScriptAllows script visibles → ⊥
+
+-- the rules of a table name visible quantities alone, as those of a script have to
+pub record NamesVisible (n : ℕ) (hidden : ℕ → Bool) (t : List ℤ) : Type 0 where
+  pub each : (k : ℕ) → HoldsRule n t k → (q : ℕ) → names q (ruleIn t k) ≡ true → hidden q ≡ false
 
 -- two assignments give the visible quantities of 1 to n the same integers
 abbrev pub SameVisible : ℕ → (ℕ → Bool) → Assignment → Assignment → Type 0
@@ -68,4 +73,4 @@ SameVisible n hidden σ τ = (q : ℕ) → 1 ≤ q → q ≤ n → hidden q ≡ 
 
 -- each of the first m words, or of all where there are fewer, that holds a rule is at most B in magnitude
 pub record WordsWithin (m : ℕ) (B : ℤ) (t : List ℤ) : Type 0 where
-  pub each : (k : ℕ) → k < m → k < length t → hasRule (wordAt t k) ≡ true → (negℤ B ≤ℤ wordAt t k) × (wordAt t k ≤ℤ B)
+  pub each : (k : ℕ) → k < m → k < length t → hasRule (wordAt t k) ≡ true → Within B (wordAt t k)

@@ -20,7 +20,7 @@ placeOf (One x c) = placeOfOne x
 placeOf (Two x y c) = placeOfTwo x y
 placeOf (Nothing c) = 0
 
--- a rule has a place in a table over n quantities (document 01: an undoubled term): it is of one of them, or of two different ones
+-- a rule has a place in a table over n quantities: it is of one of them, or of two different ones
 abbrev pub HasPlace : ℕ → Rule → Type 0
 HasPlace n (One x c) = x < 2 * n
 HasPlace n (Two x y c) = (x < 2 * n) × (y < 2 * n) × (quantityOf x ≡ quantityOf y → ⊥)

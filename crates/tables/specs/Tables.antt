@@ -39,15 +39,15 @@ hasRule w = ltZ w noRule
 abbrev pub emptyTable : ℕ → List ℤ
 emptyTable n = replicate (blockStart n) noRule
 
--- the reply to a halved rule for a table over n quantities. 3: a quantity past n, or the no-rule word as a bound; 4: +q-q; 5: a bare 0 ≤ c with
--- c below 0
+-- the reply to a halved rule for a table over n quantities. 3: a quantity past n, or the no-rule word as a bound, as the trivial rule has it;
+-- 4: +q-q; 5: a bare 0 ≤ c with c below 0
 unfoldable pub ruleReply : ℕ → Rule → Reply
 ruleReply n (One x c) = cond (ltb x (2 * n) && hasRule c) Done (Refused (OutOfLimit 0))
 ruleReply n (Two x y c) =
     cond (ltb x (2 * n) && ltb y (2 * n) && hasRule c)
     (cond (eqb y (negated x)) (Refused (Cancelling 0)) Done)
     (Refused (OutOfLimit 0))
-ruleReply n (Nothing c) = cond (ltZ c (pos 0)) (Refused NoAssignment) Done
+ruleReply n (Nothing c) = cond (hasRule c) (cond (ltZ c (pos 0)) (Refused NoAssignment) Done) (Refused (OutOfLimit 0))
 
 -- the reply to putting a rule into a table of so many words, a doubled term halved first
 unfoldable pub putReply : ℕ → ℕ → Rule → Reply

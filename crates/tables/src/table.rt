@@ -84,10 +84,13 @@ fn accepts(n: usize, rule: Rule) -> Reply
             Reply::Refused(Refusal::OutOfLimit { line: 0 })
         }
         Rule::Nothing { bound } => {
-            if bound < 0 {
-                return Reply::Refused(Refusal::NoAssignment);
+            if bound < Sheet::NO_RULE {
+                if bound < 0 {
+                    return Reply::Refused(Refusal::NoAssignment);
+                }
+                return Reply::Done;
             }
-            Reply::Done
+            Reply::Refused(Refusal::OutOfLimit { line: 0 })
         }
     }
 }

@@ -50,9 +50,9 @@ two-inside : (n x y : ℕ) (c : ℤ) (t u : Bool) → x / 2 < n → y / 2 < n �
 unfolding ruleReply
 two-inside n x y c t u h g e f = rw (inside n x h, inside n y g, e, f)
 
-bare : (n : ℕ) (c : ℤ) (t : Bool) → ltZ c (pos 0) ≡ t → cond t (Refused NoAssignment) Done ≡ ruleReply n (Nothing c)
+bare : (n : ℕ) (c : ℤ) (t u : Bool) → hasRule c ≡ t → ltZ c (pos 0) ≡ u → cond t (cond u (Refused NoAssignment) Done) outside ≡ ruleReply n (Nothing c)
 unfolding ruleReply
-bare n c t e = rw e
+bare n c t u e f = rw (e, f)
 
 -- ---- the ways of the code
 
@@ -106,22 +106,28 @@ enum-known-rule-3 : tie.Need-enum-known-rule-3
 enum-known-rule-3 c = search needs
 
 returns-7 : tie.Need-returns-7
-returns-7 c = let m = c .before in
-    rw (m .before .rule3 .given .1) (bare _ _ true (rw (held-value (m .known-told3 .given .0 .1)) at (c .if7 .taken)))
+returns-7 c = let m = c .before .before in let w = m .known-told3 .given .0 .1 in
+    rw (m .before .rule3 .given .1)
+    (bare _ _ true true (rw (held-value w) at (c .before .if7 .taken)) (rw (held-value w) at (c .if8 .taken)))
 
 returns-8 : tie.Need-returns-8
-returns-8 c = let m = c .before .before in
+returns-8 c = let m = c .before .before in let w = m .known-told3 .given .0 .1 in
+    rw (m .before .rule3 .given .1)
+    (bare _ _ true false (rw (held-value w) at (c .before .if7 .taken)) (rw (held-value w) at (c .if8 .left)))
+
+returns-9 : tie.Need-returns-9
+returns-9 c = let m = c .before .before in
     rw (m .before .rule .given .1)
     (one-inside _ _ _ false (c .before .if1 .left) (rw (held-value (m .known-told .given .1 .0 .1)) at (c .if2 .left)))
 
-returns-9 : tie.Need-returns-9
-returns-9 c = let m = c .before .before .before in
+returns-10 : tie.Need-returns-10
+returns-10 c = let m = c .before .before .before in
     rw (m .before .rule2 .given .1)
     (two-inside _ _ _ _ false _ (c .before .before .if3 .left) (c .before .if4 .left) (rw (held-value (m .known-told2 .given .1 .1 .0 .1)) at (c .if5 .left)) refl)
 
-returns-10 : tie.Need-returns-10
-returns-10 c = let m = c .before in
-    rw (m .before .rule3 .given .1) (bare _ _ false (rw (held-value (m .known-told3 .given .0 .1)) at (c .if7 .left)))
+returns-11 : tie.Need-returns-11
+returns-11 c = let m = c .before in
+    rw (m .before .rule3 .given .1) (bare _ _ false _ (rw (held-value (m .known-told3 .given .0 .1)) at (c .if7 .left)) refl)
 
 pub accepts-spec : {M : Type 1} → statement M
 accepts-spec =
@@ -143,4 +149,5 @@ accepts-spec =
     returns-7
     returns-8
     returns-9
-    returns-10)
+    returns-10
+    returns-11)

@@ -1,4 +1,5 @@
 -- The laws of integers that proofs above cite.
 pub mod Parts
+pub mod Orders
 pub mod Within
 mod Examples

@@ -6,11 +6,12 @@ use mathlib.Core.Bool.{Bool, true, false, cond}
 use mathlib.Core.Logic.{_↔_, Iff·rfl, Iff·trans, _⊎_, inl, inr, ⊎-elim}
 use Prim.Native.Nat.{ℕ}
 use lib.Dec.{eqb, ltb}
-use lib.IntN.{ℤ, pos, negℤ, _+ℤ_}
-use lib.Signed.{ltZ, _≤ℤ_}
+use lib.IntN.{ℤ, pos, negℤ, _+ℤ_, +ℤ-comm}
+use lib.Signed.{_≤ℤ_}
 use borrow.Author.Tests.{eqb-true, eq-eqb, ne-eqb}
 use Rattle.integers.specs.Bound.{half, oppositeBound, inWord}
-use Rattle.integers.proofs.Parts.{linear, positivePart, negativePart, parts-add, parts-neg, parts-half, parts-opposite, saturated-sign, saturated-word, half-word}
+use Rattle.integers.proofs.Parts.{linear, positivePart, negativePart, parts-add, saturated-sign, saturated-word, half-word}
+use Rattle.integers.proofs.Orders.{opposite-order, half-order, negated-sum, minus-self, cancelled}
 use Rattle.rules.specs.declared.rule.Rule.{Rule}
 use Rattle.rules.specs.declared.rule.Rule.the-variants.{One, Two, Nothing}
 use Rattle.rules.specs.declared.rule.Partner.{Partner}
@@ -58,18 +59,6 @@ ruleOf-meaning σ p q c =
 
 -- ---- the opposite
 
--- `-t ≤ -c - 1` holds exactly where `t ≤ c` does not
-pub opposite-order : (t c : ℤ) → (negℤ t ≤ℤ oppositeBound c) ↔ (t ≤ℤ c → ⊥)
-opposite-order t c = (λ h k. omega (linear, parts-neg t, parts-opposite c), λ n. go n (ltZ c t) refl)
-  where
-    go : (t ≤ℤ c → ⊥) → (b : Bool) → ltZ c t ≡ b → negℤ t ≤ℤ oppositeBound c
-    go n true e = omega (linear, parts-neg t, parts-opposite c)
-    go n false e = absurd (n (omega linear))
-
--- both terms of a pair turn their sign together
-negated-sum : (a b : ℤ) → negℤ a +ℤ negℤ b ≡ negℤ (a +ℤ b)
-negated-sum a b = omega (linear, parts-add (negℤ a) (negℤ b), parts-add a b, parts-neg a, parts-neg b, parts-neg (a +ℤ b))
-
 pub opposite-term : (σ : Assignment) (r : Rule) → termValue σ (oppositeOf r) ≡ negℤ (termValue σ r)
 unfolding oppositeOf
 opposite-term σ (One x c) = value-negated σ x
@@ -92,9 +81,6 @@ opposite-meaning σ r = (
 
 -- ---- halving
 
-pub half-order : (t c : ℤ) → (t ≤ℤ half c) ↔ ((t +ℤ t) ≤ℤ c)
-half-order t c = (λ h. omega (linear, parts-add t t, parts-half c), λ h. omega (linear, parts-add t t, parts-half c))
-
 -- two literals that are alike, as one
 pub doubled-meaning : (σ : Assignment) (x y : ℕ) (c : ℤ) → x ≡ y
     → Meets σ (One x (half c)) ↔ ((literalValue σ x +ℤ literalValue σ y) ≤ℤ c)
@@ -113,9 +99,6 @@ halved-meaning σ (Two x y c) = go (eqb x y) refl
 
 -- ---- order
 
-swapped : (a b : ℤ) → a +ℤ b ≡ b +ℤ a
-swapped a b = omega (linear, parts-add a b, parts-add b a)
-
 pub inOrder-term : (σ : Assignment) (r : Rule) → termValue σ (inOrder r) ≡ termValue σ r
 unfolding inOrder
 inOrder-term σ (One x c) = refl
@@ -123,7 +106,7 @@ inOrder-term σ (Two x y c) = go (ltb x y)
   where
     go : (t : Bool) → termValue σ (cond t (Two x y c) (Two y x c)) ≡ literalValue σ x +ℤ literalValue σ y
     go true = refl
-    go false = swapped (literalValue σ y) (literalValue σ x)
+    go false = +ℤ-comm (literalValue σ y) (literalValue σ x)
 inOrder-term σ (Nothing c) = refl
 
 pub inOrder-bound : (r : Rule) → boundOf (inOrder r) ≡ boundOf r
@@ -178,10 +161,6 @@ pub fitted-met : (σ : Assignment) (r : Rule) → Meets σ r → Meets σ (fitte
 fitted-met σ r h = ⊎-elim (λ e. rw e (trivial-met σ)) (λ f. f σ .1 h) (fitted-cases r)
 
 -- ---- what a sum leaves
-
-minus-self : (a : ℤ) → pos 0 ≡ a +ℤ negℤ a
-unfolding positivePart negativePart
-minus-self a = omega (linear, parts-add a (negℤ a), parts-neg a)
 
 -- a rule means that its term is at most its bound, whatever form the term has
 meets-as : (σ : Assignment) (r : Rule) {t : ℤ} → termValue σ r ≡ t → Meets σ r ↔ (t ≤ℤ boundOf r)
@@ -240,7 +219,7 @@ partner-term σ z (Two x y c) = go (eqb x z) refl (eqb y z) refl
         → literalValue σ x +ℤ literalValue σ y
         ≡ literalValue σ z +ℤ restValue σ (cond t (With y) (cond u (With x) Absent))
     go true e u f p = rw (eqb-true x z e)
-    go false e true f p = rw (← eqb-true y z f) (swapped (literalValue σ x) (literalValue σ y))
+    go false e true f p = rw (← eqb-true y z f) (+ℤ-comm (literalValue σ x) (literalValue σ y))
     go false e false f p = absurd p
 partner-term σ z (Nothing c) = λ p. absurd p
 
@@ -285,10 +264,6 @@ rest-met σ Alone Absent c h = trivial-met σ
 rest-met σ Absent q c h = trivial-met σ
 
 -- ---- the sum
-
-cancelled : (v a b : ℤ) → (v +ℤ a) +ℤ (negℤ v +ℤ b) ≡ a +ℤ b
-cancelled v a b =
-    omega (linear, parts-add v a, parts-neg v, parts-add (negℤ v) b, parts-add (v +ℤ a) (negℤ v +ℤ b), parts-add a b)
 
 -- both terms together are what both leave
 pub sum-term : (σ : Assignment) (z : ℕ) (r s : Rule) → Present (partnerOf z r) → Present (partnerOf (negated z) s)

@@ -1,7 +1,7 @@
 -- A quantity's places are all those of its own block and four together in each block after it, so clearing them fills one run of words in each
 -- block. Assumes nothing.
 use mathlib.Core.Path.{_≡_, refl, sym, _∙_, ap}
-use mathlib.Core.Bool.{Bool, true, false, cond}
+use mathlib.Core.Bool.{Bool, true, false}
 use mathlib.Core.List.{List}
 use mathlib.Core.Logic.{_⊎_, inl, inr}
 use Prim.Native.Nat.{ℕ, suc, _+_, _*_, _≤_, _<_}
@@ -15,8 +15,7 @@ use Rattle.words.proofs.Change.{change-is, change-length, change-below, change-
 use Rattle.places.specs.Numbering.{blockStart, offsetOf}
 use Rattle.places.proofs.Numbering.{blockStart-suc, block-unique, block-below, offset-below, offset-place}
 use Rattle.rules.specs.Limits.{noRule}
-use Rattle.rules.specs.Meaning.{names}
-use Rattle.tables.specs.Places.{ruleAt}
+use Rattle.tables.specs.Tables.{clearing}
 use Rattle.tables.proofs.Places.{own-named, four-named, not-named}
 
 -- ---- a run of words filled
@@ -61,21 +60,17 @@ run-more s a e m f w t p q r around inside = change-is m f t u (change-length e 
 
 -- ---- block by block
 
--- what clearing quantity j + 1 makes of the word at a place
-abbrev pub clearing : ℕ → ℕ → ℤ → ℤ
-clearing j k w = cond (names (suc j) (ruleAt k w)) noRule w
-
 -- up to a quantity's own block nothing is cleared
-none-before : (j : ℕ) (t : List ℤ) → change (blockStart j) (clearing j) t ≡ t
-none-before j t = change-nothing (blockStart j) (clearing j) t (λ k h.
+none-before : (j : ℕ) (t : List ℤ) → change (blockStart j) (clearing (suc j)) t ≡ t
+none-before j t = change-nothing (blockStart j) (clearing (suc j)) t (λ k h.
     rw (not-named j k (wordAt t k) (λ e. omega (arith, block-below j k h)) (inl (omega (arith, block-below j k h, offset-below k)))))
 
 -- that block is filled
 pub clear-own : (j : ℕ) (t : List ℤ)
-    → change (blockStart j + 4 * j + 2) (fillFrom (blockStart j) noRule) t ≡ change (blockStart (suc j)) (clearing j) t
+    → change (blockStart j + 4 * j + 2) (fillFrom (blockStart j) noRule) t ≡ change (blockStart (suc j)) (clearing (suc j)) t
 clear-own j t =
     ap (change (blockStart j + 4 * j + 2) (fillFrom (blockStart j) noRule)) (sym (none-before j t))
-    ∙ run-more (blockStart j) (blockStart j) (blockStart j + 4 * j + 2) (blockStart (suc j)) (clearing j) noRule t
+    ∙ run-more (blockStart j) (blockStart j) (blockStart j + 4 * j + 2) (blockStart (suc j)) (clearing (suc j)) noRule t
     (omega arith) (omega arith) (omega (arith, blockStart-suc j))
     (λ k l h o. absurd (nowhere k l h o))
     (λ k l h. rw (own-named j k (wordAt t k) (block-unique j k l (omega (arith, blockStart-suc j)))))
@@ -86,10 +81,10 @@ clear-own j t =
 
 -- and four words of each block after it
 pub clear-more : (j b : ℕ) (t : List ℤ) → j < b
-    → change (blockStart b + 4 * j + 6) (fillFrom (blockStart b + 4 * j + 2) noRule) (change (blockStart b) (clearing j) t)
-    ≡ change (blockStart (suc b)) (clearing j) t
+    → change (blockStart b + 4 * j + 6) (fillFrom (blockStart b + 4 * j + 2) noRule) (change (blockStart b) (clearing (suc j)) t)
+    ≡ change (blockStart (suc b)) (clearing (suc j)) t
 clear-more j b t l =
-    run-more (blockStart b) (blockStart b + 4 * j + 2) (blockStart b + 4 * j + 6) (blockStart (suc b)) (clearing j) noRule t
+    run-more (blockStart b) (blockStart b + 4 * j + 2) (blockStart b + 4 * j + 6) (blockStart (suc b)) (clearing (suc j)) noRule t
     (omega arith) (omega arith) (omega (arith, blockStart-suc b)) around inside
   where
     offset : (k : ℕ) → blockStart b ≤ k → k < blockStart (suc b) → blockStart b + offsetOf k ≡ k
@@ -101,10 +96,10 @@ clear-more j b t l =
     outer k g h (inr o) = inr (omega (arith, offset k g h))
 
     around : (k : ℕ) → blockStart b ≤ k → k < blockStart (suc b) → (k < blockStart b + 4 * j + 2) ⊎ (blockStart b + 4 * j + 6 ≤ k)
-        → clearing j k (wordAt t k) ≡ wordAt t k
+        → clearing (suc j) k (wordAt t k) ≡ wordAt t k
     around k g h o = rw (not-named j k (wordAt t k) (λ e. omega (arith, block-unique b k g h)) (outer k g h o))
 
-    inside : (k : ℕ) → blockStart b + 4 * j + 2 ≤ k → k < blockStart b + 4 * j + 6 → clearing j k (wordAt t k) ≡ noRule
+    inside : (k : ℕ) → blockStart b + 4 * j + 2 ≤ k → k < blockStart b + 4 * j + 6 → clearing (suc j) k (wordAt t k) ≡ noRule
     inside k g h =
         let e = offset k (omega arith) (omega (arith, blockStart-suc b)) in
         rw (four-named j k (wordAt t k) (omega arith) (omega arith))

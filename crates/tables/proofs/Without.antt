@@ -14,14 +14,10 @@ use Rattle.places.specs.Numbering.{blockStart}
 use Rattle.rules.specs.Limits.{noRule}
 use Rattle.rules.specs.Meaning.{Assignment, Meets, names}
 use Rattle.tables.specs.Places.{ruleAt}
-use Rattle.tables.specs.Tables.{hasRule, cleared}
+use Rattle.tables.specs.Tables.{hasRule, clearing, cleared}
 use Rattle.tables.specs.Meaning.{ruleIn, Satisfies, SatisfiesWithout}
 use Rattle.tables.proofs.Tests.{clash}
 use Rattle.tables.proofs.Values.{meets-named}
-
--- what a cleared place holds
-abbrev clearing : ℕ → ℕ → ℤ → ℤ
-clearing q k w = cond (names q (ruleAt k w)) noRule w
 
 cleared-word : (n q : ℕ) (t : List ℤ) (k : ℕ) → blockStart n ≤ length t → k < blockStart n → wordAt (cleared n q t) k ≡ clearing q k (wordAt t k)
 unfolding cleared

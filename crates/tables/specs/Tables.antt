@@ -84,9 +84,13 @@ AllAccepted n (r ∷ rs) = (ruleReply n (halvedOf r) ≡ Done) × AllAccepted n 
 abbrev pub tableOf : ℕ → List Rule → List ℤ
 tableOf n rs = putAll (emptyTable n) rs
 
+-- as a change: the no-rule word at each place that names quantity q
+abbrev pub clearing : ℕ → ℕ → ℤ → ℤ
+clearing q k w = cond (names q (ruleAt k w)) noRule w
+
 -- the table with every place that names quantity q cleared
 unfoldable pub cleared : ℕ → ℕ → List ℤ → List ℤ
-cleared n q t = change (blockStart n) (λ k w. cond (names q (ruleAt k w)) noRule w) t
+cleared n q t = change (blockStart n) (clearing q) t
 
 -- the reply to clearing quantity q. 3: it is none of 1 to n
 unfoldable pub clearReply : ℕ → ℕ → ℕ → Reply

@@ -13,16 +13,16 @@ use Rattle.words.specs.Change.{change}
 use Rattle.places.specs.Numbering.{blockStart}
 use Rattle.places.proofs.Numbering.{blockStart-suc}
 use Rattle.rules.specs.Limits.{maxQuantities}
-use Rattle.tables.specs.Tables.{cleared}
+use Rattle.tables.specs.Tables.{clearing, cleared}
 use Rattle.tables.proofs.Sizes.{small-square, small-start}
-use Rattle.tables.proofs.Clearing.{clearing, clear-own, clear-more}
+use Rattle.tables.proofs.Clearing.{clear-own, clear-more}
 use Rattle.tables.proofs.table.clear_places.Statement.{statement}
 use Rattle.tables.proofs.table.clear_places.Tie as tie
 
 abbrev Inv-loop : tie.InvT-loop
 Inv-loop n table₀ j start next₀ b₀ table next b =
     (j < b) × (b ≤ n) × (next ≡ blockStart b) × (next ≤ 2 * (maxQuantities * maxQuantities)) × (length table ≡ length table₀)
-    × ((t : List ℤ) → table₀ ≡ change (blockStart (suc j)) (clearing j) t → table ≡ change (blockStart b) (clearing j) t)
+    × ((t : List ℤ) → table₀ ≡ change (blockStart (suc j)) (clearing (suc j)) t → table ≡ change (blockStart b) (clearing (suc j)) t)
 
 abbrev μ-loop : tie.MeasureT-loop
 μ-loop n table₀ j start next₀ b₀ table next b = n - b

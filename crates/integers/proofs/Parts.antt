@@ -13,6 +13,7 @@ use mir.Syntax.{w64}
 use mir.Val.{SFits, toZ, ofZ}
 use mir.ValLaws.{toZ-ofZ, sfits-le}
 use borrow.Author.Tests.{ltb-true, ltb-false, lt-ltb, le-ltb}
+use Rattle.integers.specs.declared.Total.{Total}
 use Rattle.integers.specs.declared.Total.the-variants.{Sum, Overflow}
 use Rattle.integers.specs.Bound.{half, oppositeBound, smaller, inWord, leastWord, greatestWord, saturated, totalOf}
 
@@ -208,6 +209,10 @@ overflow-total a b = go (inWord (a +ℤ b))
     go : (t : Bool) → cond t (Sum (a +ℤ b)) Overflow ≡ Overflow → t ≡ false
     go true e = cc
     go false e = refl
+
+-- the total of two words read back from their bits is that of the words
+pub total-value : {a b : ℤ} {r : Total} → SFits w64 a → SFits w64 b → r ≡ totalOf (toZ w64 (ofZ w64 a)) (toZ w64 (ofZ w64 b)) → totalOf a b ≡ r
+total-value f g e = sym (rw (word-value f, word-value g) at e)
 
 -- ---- the nearest word
 

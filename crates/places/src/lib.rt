@@ -37,7 +37,7 @@ pub fn of_two(x: u32, y: u32) -> Place
     Place::At(of_pair(y, x))
 }
 
-// The block in which a place lies, by its quantity less 1. A place of 32 bits lies in a block of 16.
+// The block in which a place lies, by its quantity less 1. A place has 32 bits here, so that the squares tried fit 64.
 pub fn block(place: u32) -> u32
     ensures { λ r. ⌜ r ≡ blockOf place ⌝ }
 {

@@ -1,4 +1,4 @@
--- The limits of a sheet, each named once. `rules::sheet::constants` ties them to the constants of `rules::Sheet`.
+-- The limits of a sheet, each named once. `rules::sheet::constants` ties them to the constants of `rules::sheet::Sheet`.
 use Prim.Native.Nat.{ℕ}
 use lib.IntN.{ℤ, pos}
 

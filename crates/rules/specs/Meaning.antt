@@ -1,5 +1,5 @@
 -- What a rule means, over unbounded integers and apart from any algorithm.
-use mathlib.Core.Bool.{Bool, true, false, cond}
+use mathlib.Core.Bool.{Bool, false, cond, _||_}
 use Prim.Native.Nat.{ℕ, zero, suc, _%_}
 use lib.Dec.{eqb}
 use lib.IntN.{ℤ, pos, negsuc, negℤ, _+ℤ_}
@@ -28,6 +28,7 @@ termValue σ (One x c) = literalValue σ x
 termValue σ (Two x y c) = literalValue σ x +ℤ literalValue σ y
 termValue σ (Nothing c) = pos 0
 
+-- the bound of a rule
 abbrev pub boundOf : Rule → ℤ
 boundOf (One x c) = c
 boundOf (Two x y c) = c
@@ -40,5 +41,5 @@ pub record Meets (σ : Assignment) (r : Rule) : Type 0 where
 -- does a rule's term name quantity q?
 unfoldable pub names : ℕ → Rule → Bool
 names q (One x c) = eqb (quantityOf x) q
-names q (Two x y c) = cond (eqb (quantityOf x) q) true (eqb (quantityOf y) q)
+names q (Two x y c) = eqb (quantityOf x) q || eqb (quantityOf y) q
 names q (Nothing c) = false

@@ -5,6 +5,7 @@ pub mod Places
 pub mod Values
 pub mod Meanings
 pub mod Limits
+pub mod Replies
 pub mod Putting
 pub mod Without
 pub mod Clearing

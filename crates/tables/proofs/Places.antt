@@ -1,7 +1,7 @@
 -- Places and terms go together one by one: each term of one or two different quantities of 1 to n has a place below 2n², and each such place is that of
 -- exactly one, which is `ruleAt`. Assumes nothing.
 use mathlib.Core.Path.{_≡_, refl, sym, _∙_, ap}
-use mathlib.Core.Bool.{Bool, true, false, cond}
+use mathlib.Core.Bool.{Bool, true, false, cond, _||_, or-true}
 use mathlib.Core.Logic.{_⊎_, inl, inr}
 use Prim.Native.Nat.{ℕ, suc, _+_, _*_, _/_, _<_, _≤_}
 use native.Mathlib.Omega.{arith}
@@ -100,7 +100,7 @@ names-one : (q k : ℕ) (c : ℤ) → isOne k ≡ true → names q (ruleAt k c) 
 unfolding names ruleAt
 names-one q k c e = rw e
 
-names-two : (q k : ℕ) (c : ℤ) → isOne k ≡ false → names q (ruleAt k c) ≡ cond (eqb (quantityOf (lowerAt k)) q) true (eqb (quantityOf (higherAt k)) q)
+names-two : (q k : ℕ) (c : ℤ) → isOne k ≡ false → names q (ruleAt k c) ≡ (eqb (quantityOf (lowerAt k)) q || eqb (quantityOf (higherAt k)) q)
 unfolding names ruleAt
 names-two q k c e = rw e
 
@@ -111,13 +111,9 @@ own-named j k c h = go (isOne k) refl
     own : eqb (quantityOf (higherAt k)) (suc j) ≡ true
     own = eq-eqb (quantityOf (higherAt k)) (suc j) (omega (arith, higher-half k))
 
-    either : (b : Bool) → cond b true true ≡ true
-    either true = refl
-    either false = refl
-
     go : (b : Bool) → isOne k ≡ b → names (suc j) (ruleAt k c) ≡ true
     go true e = names-one (suc j) k c e ∙ own
-    go false e = names-two (suc j) k c e ∙ rw own (either (eqb (quantityOf (lowerAt k)) (suc j)))
+    go false e = names-two (suc j) k c e ∙ rw own (or-true (eqb (quantityOf (lowerAt k)) (suc j)))
 
 -- by four places of each block after it,
 pub four-named : (j k : ℕ) (c : ℤ) → 4 * j + 2 ≤ offsetOf k → offsetOf k < 4 * j + 6 → names (suc j) (ruleAt k c) ≡ true
@@ -145,7 +141,7 @@ unfolding names
 hasPlace-names n q (One x c) u e = let h = eqb-true (quantityOf x) q e in omega arith
 hasPlace-names n q (Two x y c) u e = go (eqb (quantityOf x) q) refl e
   where
-    go : (b : Bool) → eqb (quantityOf x) q ≡ b → cond b true (eqb (quantityOf y) q) ≡ true → (1 ≤ q) × (q ≤ n)
+    go : (b : Bool) → eqb (quantityOf x) q ≡ b → (b || eqb (quantityOf y) q) ≡ true → (1 ≤ q) × (q ≤ n)
     go true d e = let h = eqb-true (quantityOf x) q d in let l = u .0 in omega arith
     go false d e = let h = eqb-true (quantityOf y) q e in let l = u .1 in omega arith
 hasPlace-names n q (Nothing c) u e = absurd u

@@ -1,7 +1,7 @@
 -- What the term of a place is worth, and on what a term's worth depends: not on its bound, and only on the quantities that it names.
 -- Assumes nothing.
 use mathlib.Core.Path.{_≡_, refl, _∙_, ap, ap₂}
-use mathlib.Core.Bool.{Bool, true, false, cond}
+use mathlib.Core.Bool.{Bool, true, false, cond, _||_, or-true}
 use Prim.Native.Nat.{ℕ, _%_}
 use lib.Dec.{eqb}
 use lib.IntN.{ℤ, pos, negℤ, _+ℤ_}
@@ -47,15 +47,11 @@ unfolding names
 term-named σ τ (One x c) e = literal-named σ τ x (e (quantityOf x) (eq-eqb (quantityOf x) (quantityOf x) refl))
 term-named σ τ (Two x y c) e = ap₂ _+ℤ_ (literal-named σ τ x (e (quantityOf x) first)) (literal-named σ τ y (e (quantityOf y) second))
   where
-    first : cond (eqb (quantityOf x) (quantityOf x)) true (eqb (quantityOf y) (quantityOf x)) ≡ true
+    first : (eqb (quantityOf x) (quantityOf x) || eqb (quantityOf y) (quantityOf x)) ≡ true
     first = rw (eq-eqb (quantityOf x) (quantityOf x) refl)
 
-    either : (b : Bool) → cond b true true ≡ true
-    either true = refl
-    either false = refl
-
-    second : cond (eqb (quantityOf x) (quantityOf y)) true (eqb (quantityOf y) (quantityOf y)) ≡ true
-    second = rw (eq-eqb (quantityOf y) (quantityOf y) refl) (either (eqb (quantityOf x) (quantityOf y)))
+    second : (eqb (quantityOf x) (quantityOf y) || eqb (quantityOf y) (quantityOf y)) ≡ true
+    second = rw (eq-eqb (quantityOf y) (quantityOf y) refl) (or-true (eqb (quantityOf x) (quantityOf y)))
 term-named σ τ (Nothing c) e = refl
 
 pub meets-named : (σ τ : Assignment) (r : Rule) → ((q : ℕ) → names q r ≡ true → σ q ≡ τ q) → Meets σ r → Meets τ r

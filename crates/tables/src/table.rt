@@ -8,6 +8,7 @@ use rules::rule::Rule;
 use rules::sheet::Sheet;
 ghost use mathlib.Core.Path.{_≡_};
 ghost use Prim.Native.Nat.{suc, _<_, _≤_};
+ghost use Rattle.rules.specs.declared.rule.Rule.the-variants.{Two};
 ghost use Rattle.rules.specs.Limits.{maxQuantities};
 ghost use Rattle.tables.specs.Tables.{tableSize, ruleReply, putHalved, cleared};
 ghost use Rattle.tables.specs.Tables.{serves as Tables·serves};
@@ -50,6 +51,25 @@ pub fn empty(n: usize, table: &mut [i64]) -> Reply
     Reply::Done
 }
 
+// The reply to a rule of two literals for a table over `n` quantities.
+fn accepts_two(n: usize, first: u32, second: u32, bound: i64) -> Reply
+    ensures { λ r. ⌜ r ≡ ruleReply n (Two first second bound) ⌝ }
+{
+    if n <= first as usize / 2 {
+        return Reply::Refused(Refusal::OutOfLimit { line: 0 });
+    }
+    if n <= second as usize / 2 {
+        return Reply::Refused(Refusal::OutOfLimit { line: 0 });
+    }
+    if bound < Sheet::NO_RULE {
+        if second == rules::literal::negate(first) {
+            return Reply::Refused(Refusal::Cancelling { line: 0 });
+        }
+        return Reply::Done;
+    }
+    Reply::Refused(Refusal::OutOfLimit { line: 0 })
+}
+
 // The reply to a halved rule for a table over `n` quantities.
 fn accepts(n: usize, rule: Rule) -> Reply
     ensures { λ r. ⌜ r ≡ ruleReply n rule ⌝ }
@@ -68,21 +88,7 @@ fn accepts(n: usize, rule: Rule) -> Reply
             first,
             second,
             bound,
-        } => {
-            if n <= first as usize / 2 {
-                return Reply::Refused(Refusal::OutOfLimit { line: 0 });
-            }
-            if n <= second as usize / 2 {
-                return Reply::Refused(Refusal::OutOfLimit { line: 0 });
-            }
-            if bound < Sheet::NO_RULE {
-                if second == rules::literal::negate(first) {
-                    return Reply::Refused(Refusal::Cancelling { line: 0 });
-                }
-                return Reply::Done;
-            }
-            Reply::Refused(Refusal::OutOfLimit { line: 0 })
-        }
+        } => accepts_two(n, first, second, bound),
         Rule::Nothing { bound } => {
             if bound < Sheet::NO_RULE {
                 if bound < 0 {

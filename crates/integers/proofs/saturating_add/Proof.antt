@@ -9,7 +9,7 @@ use mir.Val.{SFits}
 use borrow.Author.Needs.{needs}
 use Rattle.integers.specs.declared.Total.the-variants.{Sum, Overflow}
 use Rattle.integers.specs.Bound.{totalOf, saturated, leastWord, greatestWord}
-use Rattle.integers.proofs.Parts.{linear, positivePart, negativePart, parts-add, word-to, word-value, held-value, ltZ-true, ltZ-false, sum-total, overflow-total, word-cases, saturated-word, saturated-below, saturated-above}
+use Rattle.integers.proofs.Parts.{total-value, linear, positivePart, negativePart, parts-add, word-to, word-value, held-value, ltZ-true, ltZ-false, sum-total, overflow-total, word-cases, saturated-word, saturated-below, saturated-above}
 use Rattle.integers.proofs.saturating_add.Statement.{statement}
 use Rattle.integers.proofs.saturating_add.Tie as tie
 
@@ -36,7 +36,7 @@ module _ (a b : ℤ) (fa : SFits w64 a) (fb : SFits w64 b) where
 
 -- the total is that of the two words
 total : (c : tie.After-add) → totalOf (c .before .args .a) (c .before .args .b) ≡ c .add .result
-total c = sym (rw (word-value (c .before .fits .a), word-value (c .before .fits .b)) at (c .add .ensures))
+total c = total-value (c .before .fits .a) (c .before .fits .b) (c .add .ensures)
 
 add-requires : tie.Need-add-requires
 add-requires c κs = search needs

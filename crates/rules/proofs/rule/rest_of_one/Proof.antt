@@ -1,11 +1,11 @@
 -- `rule::rest_of_one` meets its contract: the total is a sum exactly where the sum of the bounds is a word. Assumes nothing.
-use mathlib.Core.Path.{_≡_, _∙_, sym}
+use mathlib.Core.Path.{_≡_, _∙_}
 use Prim.Native.Nat.{ℕ}
 use lib.IntN.{ℤ, _+ℤ_}
 use borrow.Author.Needs.{needs}
 use Rattle.integers.specs.declared.Total.the-variants.{Sum, Overflow}
 use Rattle.integers.specs.Bound.{totalOf}
-use Rattle.integers.proofs.Parts.{word-value, held-value, sum-total, overflow-total}
+use Rattle.integers.proofs.Parts.{total-value, held-value, sum-total, overflow-total}
 use Rattle.rules.specs.declared.rule.Rule.the-variants.{One}
 use Rattle.rules.specs.Steps.{trivialRule, fitted}
 use Rattle.rules.proofs.rule.rest_of_one.Statement.{statement}
@@ -20,7 +20,7 @@ unfolding fitted
 too-large x a b e = rw (overflow-total a b e)
 
 total : (c : tie.After-add) → totalOf (c .before .args .a) (c .before .args .b) ≡ c .add .result
-total c = sym (rw (word-value (c .before .fits .a), word-value (c .before .fits .b)) at (c .add .ensures))
+total c = total-value (c .before .fits .a) (c .before .fits .b) (c .add .ensures)
 
 add-requires : tie.Need-add-requires
 add-requires c κs = search needs

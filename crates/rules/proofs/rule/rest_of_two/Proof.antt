@@ -1,6 +1,6 @@
 -- `rule::rest_of_two` meets its contract: the tests are the definition's, in its order, and the midpoint is a word also where the sum is
 -- none. Assumes nothing.
-use mathlib.Core.Path.{_≡_, _∙_, sym}
+use mathlib.Core.Path.{_≡_, _∙_}
 use mathlib.Core.Bool.{Bool, true, false, cond}
 use Prim.Native.Nat.{ℕ, _<_, _^_}
 use lib.Dec.{ltb}
@@ -10,7 +10,7 @@ use borrow.Author.Needs.{needs}
 use borrow.Author.Tests.{eq-eqb, ne-eqb, lt-ltb, le-ltb}
 use Rattle.integers.specs.declared.Total.the-variants.{Sum, Overflow}
 use Rattle.integers.specs.Bound.{half, saturated, totalOf}
-use Rattle.integers.proofs.Parts.{word-value, word-inWord, held-value, sum-total, overflow-total}
+use Rattle.integers.proofs.Parts.{total-value, word-value, word-inWord, held-value, sum-total, overflow-total}
 use Rattle.rules.specs.declared.rule.Rule.the-variants.{One, Two, Nothing}
 use Rattle.rules.specs.declared.rule.Partner.the-variants.{With}
 use Rattle.rules.specs.Literal.{negated}
@@ -50,8 +50,7 @@ unlike-at : (c : tie.Else2) → let s = c .before .before .before .args in
 unlike-at c = unlike _ _ _ (apart (c .before)) (c .if2 .left)
 
 total : (c : tie.After-add) → let s = c .before .before .before .before .args in totalOf (s .a) (s .b) ≡ c .add .result
-total c = let s = c .before .before .before .before in
-    sym (rw (word-value (s .fits .a), word-value (s .fits .b)) at (c .add .ensures))
+total c = let s = c .before .before .before .before in total-value (s .fits .a) (s .fits .b) (c .add .ensures)
 
 negate-requires : tie.Need-negate-requires
 negate-requires c κs = search needs

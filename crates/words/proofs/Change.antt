@@ -12,7 +12,7 @@ use lib.ListN.{length, set, drop, replicate, length-set}
 use lib.Seq.{getD-set-same, getD-set-other, set-out, ext-getD}
 use borrow.Author.Tests.{eqb-true, eqb-false, ltb-true, ltb-false, lt-ltb, le-ltb}
 use Rattle.integers.specs.Bound.{smaller}
-use Rattle.words.specs.Change.{wordAt, changeFrom, change, fillFrom, lowered}
+use Rattle.words.specs.Change.{wordAt, changeFrom, change, startingAt, fillFrom, lowered}
 
 -- ---- the first words changed
 
@@ -83,6 +83,47 @@ change-more m f t l = change-is (suc m) f t (set (change m f t) m (f m (wordAt t
 -- where a change leaves every word as it is, so does it the list
 pub change-nothing : (m : ℕ) (f : ℕ → ℤ → ℤ) (t : List ℤ) → ((k : ℕ) → k < m → f k (wordAt t k) ≡ wordAt t k) → change m f t ≡ t
 change-nothing m f t h = sym (change-is m f t t refl (λ k p l. sym (h k p)) (λ k p l. refl))
+
+-- words that a change leaves as they are may be passed over
+pub change-skip : (a b : ℕ) (f : ℕ → ℤ → ℤ) (t : List ℤ) → a ≤ b → ((k : ℕ) → a ≤ k → k < b → f k (wordAt t k) ≡ wordAt t k) → change a f t ≡ change b f t
+change-skip a b f t h same = change-is b f t (change a f t) (change-length a f t) below (λ k p l. change-past a f t k (omega arith))
+  where
+    go : (k : ℕ) → k < b → k < length t → (c : Bool) → ltb k a ≡ c → wordAt (change a f t) k ≡ f k (wordAt t k)
+    go k p l true e = change-below a f t k (ltb-true k a e) l
+    go k p l false e = change-past a f t k (ltb-false k a e) ∙ sym (same k (ltb-false k a e) p)
+
+    below : (k : ℕ) → k < b → k < length t → wordAt (change a f t) k ≡ f k (wordAt t k)
+    below k p l = go k p l (ltb k a) refl
+
+-- two changes that do the same to every word are the same
+pub change-same : (m : ℕ) (f g : ℕ → ℤ → ℤ) (t : List ℤ) → ((k : ℕ) → k < m → f k (wordAt t k) ≡ g k (wordAt t k)) → change m f t ≡ change m g t
+change-same m f g t same = change-is m g t (change m f t) (change-length m f t)
+    (λ k p l. change-below m f t k p l ∙ same k p)
+    (λ k p l. change-past m f t k p)
+
+-- a change of the first i words and then of those after them is one change
+pub change-on : (i m : ℕ) (f : ℕ → ℤ → ℤ) (t : List ℤ) → i ≤ m → change m (startingAt i f) (change i f t) ≡ change m f t
+change-on i m f t h = change-is m f t u (change-length m g v ∙ change-length i f t) below past
+  where
+    g : ℕ → ℤ → ℤ
+    g = startingAt i f
+
+    v : List ℤ
+    v = change i f t
+
+    u : List ℤ
+    u = change m g v
+
+    go : (k : ℕ) → k < m → k < length t → (c : Bool) → ltb k i ≡ c → wordAt u k ≡ f k (wordAt t k)
+    go k p l true e = change-below m g v k p (rw (change-length i f t) l) ∙ rw e (change-below i f t k (ltb-true k i e) l)
+    go k p l false e =
+        change-below m g v k p (rw (change-length i f t) l) ∙ rw e (ap (f k) (change-past i f t k (ltb-false k i e)))
+
+    below : (k : ℕ) → k < m → k < length t → wordAt u k ≡ f k (wordAt t k)
+    below k p l = go k p l (ltb k i) refl
+
+    past : (k : ℕ) → m ≤ k → k < length t → wordAt u k ≡ wordAt t k
+    past k p l = change-past m g v k p ∙ change-past i f t k (omega arith)
 
 -- past the end it does not matter how many words are to be changed
 pub change-end : (a b : ℕ) (f : ℕ → ℤ → ℤ) (t : List ℤ) → length t ≤ a → length t ≤ b → change a f t ≡ change b f t

@@ -3,7 +3,7 @@ use mathlib.Core.Bool.{cond}
 use mathlib.Core.List.{List, [], _∷_}
 use Prim.Native.Nat.{ℕ, zero, suc}
 use lib.Dec.{ltb}
-use lib.ListN.{getD, set}
+use lib.ListN.{length, getD, set}
 use lib.IntN.{ℤ, pos}
 use Rattle.integers.specs.Bound.{smaller}
 
@@ -20,6 +20,14 @@ changeFrom i (suc m) f (w ∷ t) = f i w ∷ changeFrom (suc i) m f t
 -- the list with its first m words changed
 unfoldable pub change : ℕ → (ℕ → ℤ → ℤ) → List ℤ → List ℤ
 change m f t = changeFrom 0 m f t
+
+-- as a change: another change at each place from the place i on
+abbrev pub startingAt : ℕ → (ℕ → ℤ → ℤ) → ℕ → ℤ → ℤ
+startingAt i f k w = cond (ltb k i) w (f k w)
+
+-- as a change: the word of another list, where it has one
+abbrev pub copying : List ℤ → ℕ → ℤ → ℤ
+copying s k w = cond (ltb k (length s)) (wordAt s k) w
 
 -- as a change: the word w at each place from the place i on
 abbrev pub fillFrom : ℕ → ℤ → ℕ → ℤ → ℤ

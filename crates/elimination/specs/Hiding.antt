@@ -1,0 +1,89 @@
+-- Hiding one quantity (document 01, 'Hiding'), in the field's terms eliminating it: each place by itself, with no order of work. Sums are read
+-- from places that name the quantity and go to places that do not, so every sum is one of rules as they stood before. Quantity j + 1 has the
+-- literals 2j with + and 2j + 1 with -.
+use mathlib.Core.Bool.{Bool, false, cond, _&&_, _||_}
+use mathlib.Core.List.{List}
+use Prim.Native.Nat.{ℕ, zero, suc, _+_, _*_, _/_}
+use lib.Dec.{leb, ltb, eqb}
+use lib.IntN.{ℤ, pos, _+ℤ_}
+use lib.Signed.{ltZ}
+use Rattle.integers.specs.Bound.{half, smaller}
+use Rattle.words.specs.Change.{wordAt, change}
+use Rattle.places.specs.Numbering.{blockStart, placeOfOne, placeOfTwo, isOne, higherAt, lowerAt}
+use Rattle.rules.specs.Limits.{noRule}
+use Rattle.rules.specs.Literal.{negated}
+use Rattle.tables.specs.Tables.{hasRule, cleared}
+
+-- ---- words
+
+-- a word with the sum of two bounds put in by minimum; it stays where either is no rule
+unfoldable pub withSum : ℤ → ℤ → ℤ → ℤ
+withSum a b w = cond (hasRule a && hasRule b) (smaller w (a +ℤ b)) w
+
+-- the same of the sum halved
+unfoldable pub withHalf : ℤ → ℤ → ℤ → ℤ
+withHalf a b w = cond (hasRule a && hasRule b) (smaller w (half (a +ℤ b))) w
+
+-- the bare sum 0 ≤ a + b of two bounds is a contradiction
+unfoldable pub bareBelow : ℤ → ℤ → Bool
+bareBelow a b = (hasRule a && hasRule b) && ltZ (a +ℤ b) (pos 0)
+
+-- two bounds of at most this magnitude, 2 ^ 62 - 1, have a sum that is a bound too, and below the no-rule word
+abbrev pub addable : ℤ
+addable = pos 4611686018427387903
+
+-- ---- the rules of one quantity
+
+-- the bound of the term of literals z and x; two of one quantity have no term together
+unfoldable pub pairWord : List ℤ → ℕ → ℕ → ℤ
+pairWord t z x = cond (eqb (x / 2) (z / 2)) noRule (wordAt t (placeOfTwo x z))
+
+-- as a change: the bounds of z with each literal
+abbrev pub gathering : List ℤ → ℕ → ℕ → ℤ → ℤ
+gathering t z x w = pairWord t z x
+
+-- the bound of the term of a literal alone
+abbrev pub loneWord : List ℤ → ℕ → ℤ
+loneWord t z = wordAt t (placeOfOne z)
+
+-- ---- sums of a rule with +q and a rule with -q. Here `plus x` and `minus x` are the bounds of x with +q and of x with -q, p and m those of +q
+-- and of -q alone
+
+-- what the term of one literal x gets: x with +q and -q alone; x with -q and +q alone; x with +q and x with -q, halved
+unfoldable pub onOne : (ℕ → ℤ) → (ℕ → ℤ) → ℤ → ℤ → ℕ → ℤ → ℤ
+onOne plus minus p m x w = withHalf (plus x) (minus x) (withSum (plus x) m (withSum (minus x) p w))
+
+-- what the term of two literals x and y gets: x with +q and y with -q; x with -q and y with +q
+unfoldable pub onTwo : (ℕ → ℤ) → (ℕ → ℤ) → ℕ → ℕ → ℤ → ℤ
+onTwo plus minus x y w = withSum (plus x) (minus y) (withSum (minus x) (plus y) w)
+
+-- the literal of the lowest quantity at a place
+unfoldable pub lowestAt : ℕ → ℕ
+lowestAt k = cond (isOne k) (higherAt k) (lowerAt k)
+
+-- as a change: at the places whose quantities are all past the first `from`, every sum that goes there, by minimum
+unfoldable pub pairing : ℕ → (ℕ → ℤ) → (ℕ → ℤ) → ℤ → ℤ → ℕ → ℤ → ℤ
+pairing from plus minus p m k w =
+    cond (ltb (lowestAt k) (2 * from)) w
+    (cond (isOne k) (onOne plus minus p m (higherAt k) w) (onTwo plus minus (lowerAt k) (higherAt k) w))
+
+-- is a bare sum of x with +q and -x with -q, for a literal x below the number given and past the first `from` quantities, a contradiction?
+unfoldable pub anyBare : ℕ → (ℕ → ℤ) → (ℕ → ℤ) → ℕ → Bool
+anyBare from plus minus zero = false
+anyBare from plus minus (suc x) = (leb (2 * from) x && bareBelow (plus x) (minus (negated x))) || anyBare from plus minus x
+
+-- ---- the step, on a table over n quantities
+
+-- every rule with the quantity j + 1 and + is added to every rule with it and -, of the other quantities only those past the first `from`
+unfoldable pub paired : ℕ → ℕ → ℕ → List ℤ → List ℤ
+paired from n j t =
+    change (blockStart n) (pairing from (pairWord t (2 * j)) (pairWord t (2 * j + 1)) (loneWord t (2 * j)) (loneWord t (2 * j + 1))) t
+
+-- and one of the sums is bare and below 0
+unfoldable pub contradicts : ℕ → ℕ → ℕ → List ℤ → Bool
+contradicts from n j t =
+    bareBelow (loneWord t (2 * j)) (loneWord t (2 * j + 1)) || anyBare from (pairWord t (2 * j)) (pairWord t (2 * j + 1)) (2 * n)
+
+-- the table with the quantity j + 1 hidden: all sums put in, then all places that name the quantity no rule
+unfoldable pub eliminated : ℕ → ℕ → List ℤ → List ℤ
+eliminated n j t = cleared n (suc j) (paired 0 n j t)

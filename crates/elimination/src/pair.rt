@@ -1,0 +1,95 @@
+// Pairing: every rule with a quantity and + is added to every rule with it and -, and the sums go in by minimum. The table is walked once in place
+// order, each word written once.
+use crate::bare;
+use crate::row;
+use crate::word;
+use rules::sheet::Sheet;
+ghost use mathlib.Core.Path.{_≡_};
+ghost use Prim.Native.Nat.{suc, _+_, _*_, _<_, _≤_};
+ghost use lib.IntN.{ℤ};
+ghost use lib.ListN.{length, set};
+ghost use Rattle.words.specs.Change.{wordAt, change, startingAt};
+ghost use Rattle.places.specs.Numbering.{blockStart};
+ghost use Rattle.rules.specs.Limits.{maxQuantities};
+ghost use Rattle.elimination.specs.Hiding.{withSum, withHalf, pairing};
+ghost use Rattle.elimination.specs.Promises.{Addable, Ready, Row, Paired};
+
+// The words of a row: one for each literal.
+const ROW: usize = 2 * Sheet::MAX_QUANTITIES;
+
+// Puts the sums in at the terms of quantity `b + 1` with each lower quantity past the first `from`.
+fn pair_twos(table: &mut [i64], b: usize, from: usize, plus: &[i64], minus: &[i64])
+    requires { ⌜ (b < maxQuantities) × (from ≤ b) × (blockStart (suc b) ≤ length (now (table .entry))) × Row (suc b) (now (plus .entry)) × Row (suc b) (now (minus .entry)) ⌝ }
+    ensures { λ _. ⌜ (p m : ℤ) → now (table .exit) ≡ change (blockStart (suc b)) (startingAt (blockStart b + 2) (pairing from (wordAt (now (plus .entry))) (wordAt (now (minus .entry))) p m)) (now (table .entry)) ⌝ }
+{
+    let y = 2 * b;
+    let plus_y = plus[y];
+    let minus_y = minus[y];
+    let plus_not_y = plus[y + 1];
+    let minus_not_y = minus[y + 1];
+    let mut x = 2 * from;
+    let mut at = 2 * (b * b) + 2 + 4 * from;
+    while x < y {
+        let plus_x = plus[x];
+        let minus_x = minus[x];
+        let v = table[at];
+        table[at] = word::with_sum(plus_x, minus_y, word::with_sum(minus_x, plus_y, v));
+        let w = table[at + 1];
+        table[at + 1] = word::with_sum(plus_x, minus_not_y, word::with_sum(minus_x, plus_not_y, w));
+        at = at + 2;
+        x = x + 1;
+    }
+}
+
+// Puts the sums in at the term of the literal `x` alone, whose place is `at`.
+fn pair_one(table: &mut [i64], at: usize, plus_x: i64, minus_x: i64, p: i64, m: i64)
+    requires { ⌜ (at < length (now (table .entry))) × Addable plus_x × Addable minus_x × Addable p × Addable m ⌝ }
+    ensures { λ _. ⌜ now (table .exit) ≡ set (now (table .entry)) at (withHalf plus_x minus_x (withSum plus_x m (withSum minus_x p (wordAt (now (table .entry)) at)))) ⌝ }
+{
+    let w = table[at];
+    table[at] = word::with_half(plus_x, minus_x, word::with_sum(plus_x, m, word::with_sum(minus_x, p, w)));
+}
+
+// Puts the sums in at the terms of the block of quantity `b + 1`.
+fn pair_block(table: &mut [i64], b: usize, from: usize, plus: &[i64], minus: &[i64], p: i64, m: i64)
+    requires { ⌜ (b < maxQuantities) × (from ≤ b) × (blockStart (suc b) ≤ length (now (table .entry))) × Row (suc b) (now (plus .entry)) × Row (suc b) (now (minus .entry)) × Addable p × Addable m ⌝ }
+    ensures { λ _. ⌜ now (table .exit) ≡ change (blockStart (suc b)) (startingAt (blockStart b) (pairing from (wordAt (now (plus .entry))) (wordAt (now (minus .entry))) p m)) (now (table .entry)) ⌝ }
+{
+    let y = 2 * b;
+    let start = 2 * (b * b);
+    pair_one(table, start, plus[y], minus[y], p, m);
+    pair_one(table, start + 1, plus[y + 1], minus[y + 1], p, m);
+    pair_twos(table, b, from, plus, minus);
+}
+
+// Puts the sums in, block after block.
+fn pair_blocks(n: usize, table: &mut [i64], from: usize, plus: &[i64], minus: &[i64], p: i64, m: i64)
+    requires { ⌜ (from ≤ n) × (blockStart n ≤ length (now (table .entry))) × Row n (now (plus .entry)) × Row n (now (minus .entry)) × Addable p × Addable m ⌝ }
+    ensures { λ _. ⌜ now (table .exit) ≡ change (blockStart n) (pairing from (wordAt (now (plus .entry))) (wordAt (now (minus .entry))) p m) (now (table .entry)) ⌝ }
+{
+    let mut b = from;
+    while b < n {
+        pair_block(table, b, from, plus, minus, p, m);
+        b = b + 1;
+    }
+}
+
+// Puts in every sum of a rule with +(j + 1) and a rule with -(j + 1) whose other quantities are past the first `from`, and answers whether a
+// bare sum is a contradiction.
+pub fn pair(n: usize, table: &mut [i64], j: usize, from: usize) -> bool
+    requires { ⌜ Ready n j (now (table .entry)) × (from ≤ n) ⌝ }
+    ensures { λ r. ⌜ Paired from n j (now (table .entry)) r (now (table .exit)) ⌝ }
+{
+    let mut plus = [Sheet::NO_RULE; ROW];
+    let mut minus = [Sheet::NO_RULE; ROW];
+    row::gather(n, table, 2 * j, from, &mut plus);
+    row::gather(n, table, 2 * j + 1, from, &mut minus);
+    let start = 2 * (j * j);
+    let p = table[start];
+    let m = table[start + 1];
+    pair_blocks(n, table, from, &plus, &minus, p, m);
+    if word::is_bare_below(p, m) {
+        return true;
+    }
+    bare::is_any_bare_below(n, from, &plus, &minus)
+}

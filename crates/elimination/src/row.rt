@@ -1,0 +1,39 @@
+// The rules of one quantity, gathered by literal: a step reads each of them many times, and in the table most of them stand far apart.
+use rules::sheet::Sheet;
+ghost use mathlib.Core.Path.{_≡_};
+ghost use Prim.Native.Nat.{_*_, _<_, _≤_};
+ghost use lib.ListN.{length};
+ghost use Rattle.words.specs.Change.{change, startingAt};
+ghost use Rattle.places.specs.Numbering.{blockStart};
+ghost use Rattle.rules.specs.Limits.{maxQuantities};
+ghost use Rattle.elimination.specs.Hiding.{gathering};
+ghost use Rattle.elimination.specs.Hiding.{pairWord as Hiding·pairWord};
+
+// The bound of the term of literals `z` and `x`; two of one quantity have no term together.
+pub fn pair_word(n: usize, table: &[i64], z: usize, x: usize) -> i64
+    requires { ⌜ (n ≤ maxQuantities) × (z < 2 * n) × (x < 2 * n) × (blockStart n ≤ length (now (table .entry))) ⌝ }
+    ensures { λ r. ⌜ r ≡ Hiding·pairWord (now (table .entry)) z x ⌝ }
+{
+    let a = x / 2;
+    let b = z / 2;
+    if a == b {
+        return Sheet::NO_RULE;
+    }
+    if x < z {
+        return table[2 * (b * b) + 2 + 2 * x + z % 2];
+    }
+    table[2 * (a * a) + 2 + 2 * z + x % 2]
+}
+
+// Gathers the bounds of `z` with each literal of `n` quantities past the first `from`.
+pub fn gather(n: usize, table: &[i64], z: usize, from: usize, row: &mut [i64])
+    requires { ⌜ (n ≤ maxQuantities) × (z < 2 * n) × (from ≤ n) × (blockStart n ≤ length (now (table .entry))) × (2 * n ≤ length (now (row .entry))) ⌝ }
+    ensures { λ _. ⌜ now (row .exit) ≡ change (2 * n) (startingAt (2 * from) (gathering (now (table .entry)) z)) (now (row .entry)) ⌝ }
+{
+    let mut x = 2 * from;
+    while x < 2 * n {
+        let w = pair_word(n, table, z, x);
+        row[x] = w;
+        x = x + 1;
+    }
+}

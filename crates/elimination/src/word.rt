@@ -1,0 +1,44 @@
+// The operations on the words of a step: a sum put in by minimum, the same halved, and the test of a bare sum.
+use rules::sheet::Sheet;
+ghost use mathlib.Core.Path.{_≡_};
+ghost use Rattle.elimination.specs.Hiding.{withSum, withHalf, bareBelow};
+ghost use Rattle.elimination.specs.Promises.{Addable};
+
+// `w` with the sum of two bounds put in by minimum; `w` where either is no rule.
+pub fn with_sum(a: i64, b: i64, w: i64) -> i64
+    requires { ⌜ Addable a × Addable b ⌝ }
+    ensures { λ r. ⌜ r ≡ withSum a b w ⌝ }
+{
+    if a < Sheet::NO_RULE {
+        if b < Sheet::NO_RULE {
+            return integers::minimum(w, a + b);
+        }
+    }
+    w
+}
+
+// `w` with the sum of two bounds, halved, put in by minimum; `w` where either is no rule.
+pub fn with_half(a: i64, b: i64, w: i64) -> i64
+    requires { ⌜ Addable a × Addable b ⌝ }
+    ensures { λ r. ⌜ r ≡ withHalf a b w ⌝ }
+{
+    if a < Sheet::NO_RULE {
+        if b < Sheet::NO_RULE {
+            return integers::minimum(w, integers::halved(a + b));
+        }
+    }
+    w
+}
+
+// Whether the bare sum of two bounds is a contradiction.
+pub fn is_bare_below(a: i64, b: i64) -> bool
+    requires { ⌜ Addable a × Addable b ⌝ }
+    ensures { λ r. ⌜ r ≡ bareBelow a b ⌝ }
+{
+    if a < Sheet::NO_RULE {
+        if b < Sheet::NO_RULE {
+            return a + b < 0;
+        }
+    }
+    false
+}

@@ -1,20 +1,33 @@
 -- What the functions ask and promise.
-use mathlib.Core.Bool.{Bool, true}
+use mathlib.Core.Bool.{Bool, true, false}
 use mathlib.Core.Path.{_≡_}
+use mathlib.Core.Logic.{_↔_}
 use mathlib.Core.List.{List}
-use Prim.Native.Nat.{ℕ, _*_, _≤_, _<_}
-use lib.IntN.{ℤ}
+use lib.Dec.{eqb}
+use Prim.Native.Nat.{ℕ, suc, _+_, _*_, _≤_, _<_}
+use lib.IntN.{ℤ, pos}
 use lib.ListN.{length}
 use Rattle.integers.specs.Bound.{Within}
+use Rattle.words.specs.Change.{wordAt, change, startingAt}
 use Rattle.places.specs.Numbering.{blockStart}
 use Rattle.rules.specs.Limits.{maxQuantities}
+use Rattle.rules.specs.Meaning.{Assignment}
 use Rattle.tables.specs.Tables.{hasRule}
-use Rattle.tables.specs.Meaning.{WordsWithin}
-use Rattle.elimination.specs.Hiding.{addable, paired, contradicts, eliminated}
+use Rattle.tables.specs.Meaning.{Satisfies, SheetAllows, WordsWithin}
+use Rattle.elimination.specs.Hiding.{addable, pairing, paired, contradicts, eliminated}
 
 -- a word is no rule, or a bound small enough to be added to another
 abbrev pub Addable : ℤ → Type 0
 Addable w = hasRule w ≡ true → Within addable w
+
+-- an integer from -2 ^ 62 to 2 ^ 62, as the values of an assignment are
+abbrev pub Choosable : ℤ → Type 0
+Choosable v = Within (pos 4611686018427387904) v
+
+-- the values of the quantities of n past j + 1
+pub record Valued (n j : ℕ) (values : List ℤ) : Type 0 where
+  pub room : n ≤ length values
+  pub later : (i : ℕ) → j < i → i < n → Choosable (wordAt values i)
 
 -- a table over n quantities whose words add, and the quantity j + 1 of it
 pub record Ready (n j : ℕ) (t : List ℤ) : Type 0 where
@@ -29,12 +42,19 @@ pub record Row (n : ℕ) (row : List ℤ) : Type 0 where
   pub room : 2 * n ≤ length row
   pub words : WordsWithin (2 * n) addable row
 
+-- the sums put in at the terms of quantity b + 1 and a lower one, for which the bounds p and m of a literal alone do not matter
+pub record TwosPaired (b from : ℕ) (plus minus before after : List ℤ) : Type 0 where
+  pub table : (p m : ℤ) → after ≡ change (blockStart (suc b)) (startingAt (blockStart b + 2) (pairing from (wordAt plus) (wordAt minus) p m)) before
+
 -- the sums of quantity j + 1 put in, and whether one is a contradiction
 pub record Paired (from n j : ℕ) (before : List ℤ) (r : Bool) (after : List ℤ) : Type 0 where
   pub reply : r ≡ contradicts from n j before
   pub table : after ≡ paired from n j before
 
--- quantity j + 1 hidden, and whether a sum is a contradiction
+-- quantity j + 1 hidden, and whether a sum is a contradiction. Where none is, the table allows just what some integer for the quantity
+-- completes; where one is, nothing satisfied the table
 pub record Hidden (n j : ℕ) (before : List ℤ) (r : Bool) (after : List ℤ) : Type 0 where
   pub reply : r ≡ contradicts 0 n j before
   pub table : after ≡ eliminated n j before
+  pub meaning : r ≡ false → (σ : Assignment) → Satisfies n after σ ↔ SheetAllows (eqb (suc j)) (Satisfies n before) σ
+  pub none : r ≡ true → (σ : Assignment) → Satisfies n before σ → ⊥

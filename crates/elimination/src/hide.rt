@@ -4,7 +4,7 @@ ghost use Rattle.elimination.specs.Promises.{Ready, Hidden};
 
 // Hides quantity `j + 1` and answers whether a bare sum is a contradiction.
 pub fn hide(n: usize, table: &mut [i64], j: usize) -> bool
-    requires { ⌜ Ready n j (now (table .entry)) ⌝ }
+    requires { ⌜ Ready n j (now table) ⌝ }
     ensures { λ r. ⌜ Hidden n j (now (table .entry)) r (now (table .exit)) ⌝ }
 {
     let contradiction = pair::pair(n, table, j, 0);

@@ -12,15 +12,15 @@ ghost use Rattle.words.specs.Change.{wordAt, change, startingAt};
 ghost use Rattle.places.specs.Numbering.{blockStart};
 ghost use Rattle.rules.specs.Limits.{maxQuantities};
 ghost use Rattle.elimination.specs.Hiding.{withSum, withHalf, pairing};
-ghost use Rattle.elimination.specs.Promises.{Addable, Ready, Row, Paired};
+ghost use Rattle.elimination.specs.Promises.{Addable, Ready, Row, TwosPaired, Paired};
 
 // The words of a row: one for each literal.
 const ROW: usize = 2 * Sheet::MAX_QUANTITIES;
 
 // Puts the sums in at the terms of quantity `b + 1` with each lower quantity past the first `from`.
 fn pair_twos(table: &mut [i64], b: usize, from: usize, plus: &[i64], minus: &[i64])
-    requires { ⌜ (b < maxQuantities) × (from ≤ b) × (blockStart (suc b) ≤ length (now (table .entry))) × Row (suc b) (now (plus .entry)) × Row (suc b) (now (minus .entry)) ⌝ }
-    ensures { λ _. ⌜ (p m : ℤ) → now (table .exit) ≡ change (blockStart (suc b)) (startingAt (blockStart b + 2) (pairing from (wordAt (now (plus .entry))) (wordAt (now (minus .entry))) p m)) (now (table .entry)) ⌝ }
+    requires { ⌜ (b < maxQuantities) × (from ≤ b) × (blockStart (suc b) ≤ length (now table)) × Row (suc b) (now plus) × Row (suc b) (now minus) ⌝ }
+    ensures { λ _. ⌜ TwosPaired b from (now (plus .entry)) (now (minus .entry)) (now (table .entry)) (now (table .exit)) ⌝ }
 {
     let y = 2 * b;
     let plus_y = plus[y];
@@ -41,18 +41,18 @@ fn pair_twos(table: &mut [i64], b: usize, from: usize, plus: &[i64], minus: &[i6
     }
 }
 
-// Puts the sums in at the term of the literal `x` alone, whose place is `at`.
-fn pair_one(table: &mut [i64], at: usize, plus_x: i64, minus_x: i64, p: i64, m: i64)
-    requires { ⌜ (at < length (now (table .entry))) × Addable plus_x × Addable minus_x × Addable p × Addable m ⌝ }
-    ensures { λ _. ⌜ now (table .exit) ≡ set (now (table .entry)) at (withHalf plus_x minus_x (withSum plus_x m (withSum minus_x p (wordAt (now (table .entry)) at)))) ⌝ }
+// Puts the sums in at the place `at` of a literal alone, whose bounds with the quantity and + and with it and - are `a` and `b`.
+fn pair_one(table: &mut [i64], at: usize, a: i64, b: i64, p: i64, m: i64)
+    requires { ⌜ (at < length (now table)) × Addable a × Addable b × Addable p × Addable m ⌝ }
+    ensures { λ _. ⌜ now (table .exit) ≡ set (now (table .entry)) at (withHalf a b (withSum a m (withSum b p (wordAt (now (table .entry)) at)))) ⌝ }
 {
     let w = table[at];
-    table[at] = word::with_half(plus_x, minus_x, word::with_sum(plus_x, m, word::with_sum(minus_x, p, w)));
+    table[at] = word::with_half(a, b, word::with_sum(a, m, word::with_sum(b, p, w)));
 }
 
 // Puts the sums in at the terms of the block of quantity `b + 1`.
 fn pair_block(table: &mut [i64], b: usize, from: usize, plus: &[i64], minus: &[i64], p: i64, m: i64)
-    requires { ⌜ (b < maxQuantities) × (from ≤ b) × (blockStart (suc b) ≤ length (now (table .entry))) × Row (suc b) (now (plus .entry)) × Row (suc b) (now (minus .entry)) × Addable p × Addable m ⌝ }
+    requires { ⌜ (b < maxQuantities) × (from ≤ b) × (blockStart (suc b) ≤ length (now table)) × Row (suc b) (now plus) × Row (suc b) (now minus) × Addable p × Addable m ⌝ }
     ensures { λ _. ⌜ now (table .exit) ≡ change (blockStart (suc b)) (startingAt (blockStart b) (pairing from (wordAt (now (plus .entry))) (wordAt (now (minus .entry))) p m)) (now (table .entry)) ⌝ }
 {
     let y = 2 * b;
@@ -63,8 +63,16 @@ fn pair_block(table: &mut [i64], b: usize, from: usize, plus: &[i64], minus: &[i
 }
 
 // Puts the sums in, block after block.
-fn pair_blocks(n: usize, table: &mut [i64], from: usize, plus: &[i64], minus: &[i64], p: i64, m: i64)
-    requires { ⌜ (from ≤ n) × (blockStart n ≤ length (now (table .entry))) × Row n (now (plus .entry)) × Row n (now (minus .entry)) × Addable p × Addable m ⌝ }
+fn pair_blocks(
+    n: usize,
+    table: &mut [i64],
+    from: usize,
+    plus: &[i64],
+    minus: &[i64],
+    p: i64,
+    m: i64,
+)
+    requires { ⌜ (from ≤ n) × (blockStart n ≤ length (now table)) × Row n (now plus) × Row n (now minus) × Addable p × Addable m ⌝ }
     ensures { λ _. ⌜ now (table .exit) ≡ change (blockStart n) (pairing from (wordAt (now (plus .entry))) (wordAt (now (minus .entry))) p m) (now (table .entry)) ⌝ }
 {
     let mut b = from;
@@ -77,7 +85,7 @@ fn pair_blocks(n: usize, table: &mut [i64], from: usize, plus: &[i64], minus: &[
 // Puts in every sum of a rule with +(j + 1) and a rule with -(j + 1) whose other quantities are past the first `from`, and answers whether a
 // bare sum is a contradiction.
 pub fn pair(n: usize, table: &mut [i64], j: usize, from: usize) -> bool
-    requires { ⌜ Ready n j (now (table .entry)) × (from ≤ n) ⌝ }
+    requires { ⌜ Ready n j (now table) × (from ≤ n) ⌝ }
     ensures { λ r. ⌜ Paired from n j (now (table .entry)) r (now (table .exit)) ⌝ }
 {
     let mut plus = [Sheet::NO_RULE; ROW];

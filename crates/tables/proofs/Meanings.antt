@@ -34,7 +34,7 @@ satisfies-terms n t σ = (to, of)
     }
 
 -- the rules of a table name quantities of 1 to n alone
-in-range : (n : ℕ) (t : List ℤ) (k : ℕ) → HoldsRule n t k → (q : ℕ) → names q (ruleIn t k) ≡ true → (1 ≤ q) × (q ≤ n)
+pub in-range : (n : ℕ) (t : List ℤ) (k : ℕ) → HoldsRule n t k → (q : ℕ) → names q (ruleIn t k) ≡ true → (1 ≤ q) × (q ≤ n)
 in-range n t k p q e = hasPlace-names n q (ruleIn t k) (ruleAt-hasPlace n k (wordAt t k) (p .inside)) e
 
 -- two assignments give the quantities 1 to n the same integers

@@ -3,8 +3,8 @@
 use mathlib.Core.Path.{_≡_}
 use mathlib.Core.Bool.{Bool, true, false, cond}
 use mathlib.Core.List.{List, [], _∷_}
-use Prim.Native.Nat.{ℕ, _≤_, _<_}
-use lib.IntN.{ℤ}
+use Prim.Native.Nat.{ℕ, zero, suc, _≤_, _<_}
+use lib.IntN.{ℤ, pos}
 use lib.ListN.{length}
 use Rattle.integers.specs.Bound.{Within}
 use Rattle.words.specs.Change.{wordAt}
@@ -31,6 +31,11 @@ pub record Satisfies (n : ℕ) (t : List ℤ) (σ : Assignment) : Type 0 where
 -- the same of the rules alone that do not name quantity q
 pub record SatisfiesWithout (q n : ℕ) (t : List ℤ) (σ : Assignment) : Type 0 where
   pub each : (k : ℕ) → HoldsRule n t k → names q (ruleIn t k) ≡ false → Meets σ (ruleIn t k)
+
+-- the assignment that a list of words writes: the word at place q - 1 for quantity q
+abbrev pub assignmentOf : List ℤ → Assignment
+assignmentOf values zero = pos 0
+assignmentOf values (suc j) = wordAt values j
 
 -- an assignment meets every rule of a list
 abbrev pub MeetsAll : Assignment → List Rule → Type 0

@@ -48,6 +48,17 @@ pub change-past : (m : ℕ) (f : ℕ → ℤ → ℤ) (t : List ℤ) (k : ℕ) �
 unfolding change
 change-past m f t k h = from-past 0 m f t k h
 
+-- the words past the first m stay as they are, as a list
+from-drop : (i m : ℕ) (f : ℕ → ℤ → ℤ) (t : List ℤ) → drop m (changeFrom i m f t) ≡ drop m t
+unfolding changeFrom
+from-drop i zero f t = refl
+from-drop i (suc m) f [] = refl
+from-drop i (suc m) f (w ∷ t) = from-drop (suc i) m f t
+
+pub change-drop : (m : ℕ) (f : ℕ → ℤ → ℤ) (t : List ℤ) → drop m (change m f t) ≡ drop m t
+unfolding change
+change-drop m f t = from-drop 0 m f t
+
 pub change-none : (f : ℕ → ℤ → ℤ) (t : List ℤ) → change 0 f t ≡ t
 unfolding change changeFrom
 change-none f t = refl

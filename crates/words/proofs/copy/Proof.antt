@@ -43,7 +43,7 @@ returns-2 c =
     let l = c .before .before .before .loop in
     l .inv .2
     ∙ change-skip (l .i) (s .args .m) (copying (now (s .args .from))) (now (s .args .t)) (l .inv .0)
-        (λ k h g. rw (le-ltb k (length (now (s .args .from))) (omega arith)))
+    (λ k h g. rw (le-ltb k (length (now (s .args .from))) (omega arith)))
 
 mul-t : tie.Need-mul-t Inv-loop μ-loop
 mul-t c = search needs

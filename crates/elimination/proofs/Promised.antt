@@ -1,0 +1,54 @@
+-- The contract of hiding one quantity, from plain facts. Assumes nothing.
+use mathlib.Core.Path.{_≡_, refl, sym, _∙_}
+use mathlib.Core.Bool.{Bool, true, false, cond, _&&_}
+use mathlib.Core.List.{List}
+use Prim.Native.Nat.{ℕ, suc, _+_, _≤_, _<_}
+use native.Mathlib.Numerals.{add-one}
+use native.Mathlib.Omega.{arith}
+use lib.Dec.{leb, ltb}
+use lib.IntN.{ℤ}
+use lib.ListN.{length}
+use borrow.Author.Tests.{lt-ltb, le-leb}
+use Rattle.places.specs.Numbering.{blockStart}
+use Rattle.places.proofs.Numbering.{blockStart-above}
+use Rattle.rules.specs.Limits.{maxQuantities}
+use Rattle.tables.specs.declared.reply.Reply.{Reply}
+use Rattle.tables.specs.declared.reply.Reply.the-variants.{Done}
+use Rattle.tables.specs.Tables.{tableSize, serves, isDone, cleared, clearReply}
+use Rattle.tables.specs.Promises.{Cleared}
+use Rattle.elimination.specs.Hiding.{contradicts, paired, eliminated}
+use Rattle.elimination.specs.Promises.{Ready, Paired, Hidden}
+use Rattle.elimination.proofs.Step.{Adds, paired-length}
+use Rattle.elimination.proofs.Exact.{eliminate-exact, eliminate-none}
+
+-- a table of a ready n is served
+served : (n words : ℕ) → 1 ≤ n → n ≤ maxQuantities → blockStart n ≤ words → serves n words ≡ true
+unfolding serves tableSize
+served n words h g l =
+    rw (le-leb 1 n h, le-leb n maxQuantities g, lt-ltb 0 (blockStart n) (omega (arith, blockStart-above n)), le-leb (blockStart n) words l)
+
+clear-done : (n j words : ℕ) → j < n → n ≤ maxQuantities → blockStart n ≤ words → clearReply n words (suc j) ≡ Done
+unfolding clearReply
+clear-done n j words h g l = rw (served n words (omega arith) g l, le-leb 1 (suc j) (omega arith), le-leb (suc j) n (omega arith))
+
+-- the sums put in, then the quantity's places cleared
+pub hidden-done : (n j : ℕ) (t u v : List ℤ) (r : Bool) (reply : Reply) → Ready n j t → Paired 0 n j t r u → Cleared n (j + 1) u reply v → Hidden n j t r v
+unfolding eliminated
+hidden-done n j t u v r reply s p c = record {
+  reply = p .reply;
+  table = table;
+  meaning = λ e σ. rw table (eliminate-exact n j 4611686018427387903 t σ adds (s .one) (sym (p .reply) ∙ e));
+  none = λ e σ. eliminate-none n j t σ (s .room) (s .one) (sym (p .reply) ∙ e);
+}
+  where
+    adds : Adds n 4611686018427387903 t
+    adds = record { room = s .room; words = s .words; fits = omega arith }
+
+    room : blockStart n ≤ length u
+    room = rw (p .table, paired-length 0 n j t) (s .room)
+
+    done : reply ≡ Done
+    done = c .reply ∙ rw (add-one j) (clear-done n j (length u) (s .one) (s .most) room)
+
+    table : v ≡ cleared n (suc j) (paired 0 n j t)
+    table = c .table ∙ rw (done, add-one j, p .table)

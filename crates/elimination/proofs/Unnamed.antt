@@ -1,0 +1,107 @@
+-- A quantity that no rule names stays so through every step, and one that is hidden is named by no rule. Assumes nothing.
+use mathlib.Core.Path.{_≡_, refl}
+use mathlib.Core.Bool.{Bool, true, false, cond}
+use mathlib.Core.List.{List}
+use Prim.Native.Nat.{ℕ, suc, _+_, _*_, _/_, _≤_, _<_}
+use native.Mathlib.Omega.{arith}
+use lib.IntN.{ℤ}
+use lib.ListN.{length}
+use borrow.Author.Tests.{ne-eqb}
+use Rattle.words.specs.Change.{wordAt}
+use Rattle.places.specs.Numbering.{blockStart, isOne, higherAt, lowerAt}
+use Rattle.places.proofs.Numbering.{at-one, at-lower, at-pair, at-below}
+use Rattle.rules.specs.declared.rule.Rule.the-variants.{One, Two}
+use Rattle.rules.specs.Limits.{noRule}
+use Rattle.rules.specs.Literal.{quantityOf}
+use Rattle.rules.specs.Meaning.{names}
+use Rattle.tables.specs.Places.{ruleAt}
+use Rattle.tables.specs.Tables.{hasRule, cleared}
+use Rattle.tables.specs.Meaning.{ruleIn}
+use Rattle.tables.proofs.Tests.{clash}
+use Rattle.elimination.specs.Hiding.{pairWord, loneWord, paired, eliminated}
+use Rattle.elimination.specs.Magnitude.{Unnamed}
+use Rattle.elimination.proofs.Terms.{pair-sym}
+use Rattle.elimination.proofs.PairedWords.{pair-first, pair-second, lone-elim, pair-elim}
+use Rattle.elimination.proofs.Step.{paired-length}
+use Rattle.elimination.proofs.Growth.{cleared-word, unnamed-lone, unnamed-pair}
+
+-- ---- by terms
+
+-- a quantity whose literals have no rule, alone or with another, is named by none
+pub terms-unnamed : (n i : ℕ) (t : List ℤ) → blockStart n ≤ length t
+    → ((z : ℕ) → z < 2 * n → z / 2 ≡ i → hasRule (loneWord t z) ≡ false)
+    → ((z x : ℕ) → z < 2 * n → x < 2 * n → z / 2 ≡ i → hasRule (pairWord t z x) ≡ false)
+    → Unnamed n i t
+unfolding names ruleAt
+terms-unnamed n i t l lone pair = record { each = λ k p. go k (p .inside) (p .rule) (isOne k) refl }
+  where
+    go : (k : ℕ) → k < blockStart n → hasRule (wordAt t k) ≡ true → (b : Bool) → isOne k ≡ b
+        → names (suc i) (cond b (One (higherAt k) (wordAt t k)) (Two (lowerAt k) (higherAt k) (wordAt t k))) ≡ false
+    go k h r true e =
+        ne-eqb (quantityOf (higherAt k)) (suc i)
+        (λ q. clash r (rw (at-one k e) at (lone (higherAt k) (at-below n k h) (omega arith))))
+    go k h r false e =
+        let o = at-lower k e in
+        let g = at-below n k h in
+        rw (
+          ne-eqb (quantityOf (lowerAt k)) (suc i)
+              (λ q. clash r (rw (pair-first t (lowerAt k) (higherAt k) o, at-pair k e) at (pair (lowerAt k) (higherAt k) (omega arith) g (omega arith)))),
+          ne-eqb (quantityOf (higherAt k)) (suc i)
+              (λ q. clash r (rw (pair-second t (lowerAt k) (higherAt k) o, at-pair k e) at (pair (higherAt k) (lowerAt k) g (omega arith) (omega arith)))),
+        )
+
+-- ---- pairing
+
+-- a step on any quantity leaves it so: every sum for a term that names it is of a rule that names it
+pub unnamed-paired : (from n j i : ℕ) (t : List ℤ) → blockStart n ≤ length t → j < n → Unnamed n i t → Unnamed n i (paired from n j t)
+unnamed-paired from n j i t l h u =
+    terms-unnamed n i (paired from n j t) (omega (arith, paired-length from n j t))
+    (λ z b e. lone-elim from n j t l (λ (w : ℤ). hasRule w ≡ false) z b (unnamed-lone n i t l u z b e)
+    (λ f p q. clash p (with-own z b e (2 * j) (omega arith)))
+    (λ f p q. clash p (with-own z b e (2 * j + 1) (omega arith)))
+    (λ f p q. clash p (with-own z b e (2 * j) (omega arith))))
+    (λ z x b c e. pair-elim from n j t l (λ (w : ℤ). hasRule w ≡ false) z x b c (unnamed-pair n i t l u z x b c e)
+    (λ f g p q. clash p (with-own z b e (2 * j) (omega arith)))
+    (λ f g p q. clash q (with-own z b e (2 * j + 1) (omega arith))))
+  where
+    with-own : (z : ℕ) → z < 2 * n → z / 2 ≡ i → (y : ℕ) → y < 2 * n → hasRule (pairWord t y z) ≡ false
+    with-own z b e y c = rw (pair-sym t y z) (unnamed-pair n i t l u z y b c e)
+
+-- ---- clearing
+
+-- clearing the places of any quantity leaves it so
+pub unnamed-cleared : (n q i : ℕ) (t : List ℤ) → blockStart n ≤ length t → Unnamed n i t → Unnamed n i (cleared n q t)
+unnamed-cleared n q i t l u = record {
+  each = λ k p. rw (cleared-word n q t k l (p .inside))
+      (go k (p .inside) (names q (ruleIn t k)) (rw (cleared-word n q t k l (p .inside)) at (p .rule)));
+}
+  where
+    go : (k : ℕ) → k < blockStart n → (b : Bool) → hasRule (cond b noRule (wordAt t k)) ≡ true
+        → names (suc i) (ruleAt k (cond b noRule (wordAt t k))) ≡ false
+    go k h true r = clash r refl
+    go k h false r = u .each k (record { inside = h; there = omega arith; rule = r })
+
+-- and the quantity whose places are cleared is named by no rule
+pub cleared-unnamed : (n j : ℕ) (t : List ℤ) → blockStart n ≤ length t → Unnamed n j (cleared n (suc j) t)
+cleared-unnamed n j t l = record {
+  each = λ k p. rw (cleared-word n (suc j) t k l (p .inside))
+      (go k (names (suc j) (ruleIn t k)) refl (rw (cleared-word n (suc j) t k l (p .inside)) at (p .rule)));
+}
+  where
+    go : (k : ℕ) (b : Bool) → names (suc j) (ruleIn t k) ≡ b → hasRule (cond b noRule (wordAt t k)) ≡ true
+        → names (suc j) (ruleAt k (cond b noRule (wordAt t k))) ≡ false
+    go k true e r = clash r refl
+    go k false e r = e
+
+-- ---- hiding
+
+-- a hidden quantity is named by no rule
+pub eliminated-unnamed : (n j : ℕ) (t : List ℤ) → blockStart n ≤ length t → j < n → Unnamed n j (eliminated n j t)
+unfolding eliminated
+eliminated-unnamed n j t l h = cleared-unnamed n j (paired 0 n j t) (omega (arith, paired-length 0 n j t))
+
+-- and hiding any other leaves it so
+pub unnamed-eliminated : (n j i : ℕ) (t : List ℤ) → blockStart n ≤ length t → j < n → Unnamed n i t → Unnamed n i (eliminated n j t)
+unfolding eliminated
+unnamed-eliminated n j i t l h u =
+    unnamed-cleared n (suc j) i (paired 0 n j t) (omega (arith, paired-length 0 n j t)) (unnamed-paired 0 n j i t l h u)

@@ -1,0 +1,26 @@
+-- Magnitudes of bounds, by which sums are shown to fit.
+use mathlib.Core.Bool.{true, false}
+use mathlib.Core.List.{List}
+use mathlib.Core.Path.{_≡_}
+use Prim.Native.Nat.{ℕ, suc, _+_, _*_, _≤_, _<_}
+use lib.IntN.{ℤ, pos}
+use Rattle.integers.specs.Bound.{Within}
+use Rattle.rules.specs.Meaning.{names}
+use Rattle.tables.specs.Tables.{hasRule}
+use Rattle.tables.specs.Meaning.{HoldsRule, ruleIn}
+use Rattle.elimination.specs.Hiding.{pairWord, loneWord}
+
+-- the literals of n quantities past the first `from`
+abbrev pub Past : ℕ → ℕ → ℕ → Type 0
+Past from n x = (2 * from ≤ x) × (x < 2 * n)
+
+-- every bound of quantity j + 1, alone or with a literal In, is at most B in magnitude
+pub record OwnWithin (In : ℕ → Type 0) (j B : ℕ) (t : List ℤ) : Type 0 where
+  pub plus : (x : ℕ) → In x → hasRule (pairWord t (2 * j) x) ≡ true → Within (pos B) (pairWord t (2 * j) x)
+  pub minus : (x : ℕ) → In x → hasRule (pairWord t (2 * j + 1) x) ≡ true → Within (pos B) (pairWord t (2 * j + 1) x)
+  pub plus-alone : hasRule (loneWord t (2 * j)) ≡ true → Within (pos B) (loneWord t (2 * j))
+  pub minus-alone : hasRule (loneWord t (2 * j + 1)) ≡ true → Within (pos B) (loneWord t (2 * j + 1))
+
+-- no rule of a table over n quantities names quantity j + 1
+pub record Unnamed (n j : ℕ) (t : List ℤ) : Type 0 where
+  pub each : (k : ℕ) → HoldsRule n t k → names (suc j) (ruleIn t k) ≡ false

@@ -1,0 +1,85 @@
+-- The key of a sheet, 'no assignment', and the replies of the two calls (document 01, 'Hiding', 'Finding an assignment', 'Returned to the
+-- caller').
+use mathlib.Core.Bool.{Bool, true, false, cond, _&&_, _||_}
+use mathlib.Core.List.{List}
+use Prim.Native.Nat.{ℕ, zero, suc}
+use lib.Dec.{ltb}
+use lib.IntN.{ℤ, pos}
+use lib.ListN.{length}
+use Rattle.places.specs.Numbering.{blockStart}
+use Rattle.rules.specs.declared.refusal.Refusal.{Refusal}
+use Rattle.rules.specs.declared.refusal.Refusal.the-variants.{Size, Malformed, OutOfLimit, Cancelling, NoAssignment, TooShort, Mismatch}
+use Rattle.rules.specs.Limits.{maxBound}
+use Rattle.rules.specs.Hidden.{setWithin}
+use Rattle.tables.specs.declared.reply.Reply.{Reply}
+use Rattle.tables.specs.declared.reply.Reply.the-variants.{Done, Refused}
+use Rattle.tables.specs.Tables.{serves, wordsInLimit}
+use Rattle.elimination.specs.Hiding.{contradicts, eliminated}
+
+-- of the first m quantities those that are hidden, hidden in increasing number, in a table over n quantities
+unfoldable pub hideUpTo : (ℕ → Bool) → ℕ → ℕ → List ℤ → List ℤ
+hideUpTo hidden n zero t = t
+hideUpTo hidden n (suc j) t = cond (hidden (suc j)) (eliminated n j (hideUpTo hidden n j t)) (hideUpTo hidden n j t)
+
+-- the key: every hidden quantity is
+unfoldable pub keyOf : (ℕ → Bool) → ℕ → List ℤ → List ℤ
+keyOf hidden n t = hideUpTo hidden n n t
+
+-- all quantities, hidden and visible
+abbrev pub every : ℕ → Bool
+every q = true
+
+-- hiding the first m quantities of all, one after the other, meets a contradiction
+unfoldable pub refutedUpTo : ℕ → ℕ → List ℤ → Bool
+refutedUpTo n zero t = false
+refutedUpTo n (suc j) t = refutedUpTo n j t || contradicts 0 n j (hideUpTo every n j t)
+
+-- 'no assignment' is decided for all quantities
+unfoldable pub refuted : ℕ → List ℤ → Bool
+refuted n t = refutedUpTo n n t
+
+-- ---- replies
+
+-- a table's words are in the sheet's limit
+abbrev pub sheetWords : ℕ → List ℤ → Bool
+sheetWords n t = wordsInLimit (blockStart n) (pos maxBound) t
+
+-- a lent slice of so many words is long enough, or 6 with the length needed
+abbrev pub longEnough : ℕ → ℕ → Reply → Reply
+longEnough words needed next = cond (ltb words needed) (Refused (TooShort needed)) next
+
+-- a number is in its limit, or 3
+abbrev pub withinLimit : Bool → Reply
+withinLimit b = cond b Done (Refused (OutOfLimit 0))
+
+-- the key call's checks before 5: 1, 6, 3
+unfoldable pub keyChecks : ℕ → ℕ → List ℤ → ℕ → Reply
+keyChecks n set t workspace =
+    cond (serves n (length t)) (longEnough workspace (blockStart n) (withinLimit (setWithin n set && sheetWords n t))) (Refused Size)
+
+-- the assignment call's: 1, 6 for the workspace, 6 for the assignment, 3
+unfoldable pub assignmentChecks : ℕ → List ℤ → ℕ → ℕ → Reply
+assignmentChecks n t workspace values =
+    cond (serves n (length t)) (longEnough workspace (blockStart n) (longEnough values n (withinLimit (sheetWords n t)))) (Refused Size)
+
+-- then 5
+unfoldable pub decided : Reply → Bool → Reply
+decided Done none = cond none (Refused NoAssignment) Done
+decided (Refused r) none = Refused r
+
+unfoldable pub keyReply : ℕ → ℕ → List ℤ → ℕ → Reply
+keyReply n set t workspace = decided (keyChecks n set t workspace) (refuted n t)
+
+unfoldable pub assignmentReply : ℕ → List ℤ → ℕ → ℕ → Reply
+assignmentReply n t workspace values = decided (assignmentChecks n t workspace values) (refuted n t)
+
+-- the replies after which the workspace is free: success and 5
+abbrev pub freesWorkspace : Reply → Bool
+freesWorkspace Done = true
+freesWorkspace (Refused Size) = false
+freesWorkspace (Refused (Malformed l)) = false
+freesWorkspace (Refused (OutOfLimit l)) = false
+freesWorkspace (Refused (Cancelling l)) = false
+freesWorkspace (Refused NoAssignment) = true
+freesWorkspace (Refused (TooShort m)) = false
+freesWorkspace (Refused Mismatch) = false

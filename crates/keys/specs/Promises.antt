@@ -1,0 +1,63 @@
+-- What the two calls promise: the reply and every lent word, for every input, and demand 2's meaning.
+use mathlib.Core.Bool.{Bool, true, false, cond}
+use mathlib.Core.Path.{_≡_}
+use mathlib.Core.Logic.{_↔_}
+use mathlib.Core.List.{List}
+use Prim.Native.Nat.{ℕ, _<_}
+use lib.IntN.{ℤ, pos}
+use lib.ListN.{length, drop}
+use Rattle.integers.specs.Bound.{Within}
+use Rattle.words.specs.Change.{wordAt}
+use Rattle.places.specs.Numbering.{blockStart}
+use Rattle.rules.specs.declared.refusal.Refusal.the-variants.{NoAssignment}
+use Rattle.rules.specs.Hidden.{hiddenIn}
+use Rattle.rules.specs.Meaning.{Assignment}
+use Rattle.tables.specs.declared.reply.Reply.{Reply}
+use Rattle.tables.specs.declared.reply.Reply.the-variants.{Done, Refused}
+use Rattle.tables.specs.Tables.{isDone}
+use Rattle.tables.specs.Meaning.{Satisfies, SheetAllows, NamesVisible, assignmentOf}
+use Rattle.keys.specs.Keys.{keyOf, keyChecks, keyReply, assignmentChecks, assignmentReply, freesWorkspace}
+use Rattle.keys.specs.Reducing.{reduceUpTo, clashUpTo}
+
+-- a lent slice of which the first m words are the program's choice where `free`, and stay where not; words past them always stay
+pub record Lent (m : ℕ) (free : Bool) (before after : List ℤ) : Type 0 where
+  pub size : length after ≡ length before
+  pub rest : drop m after ≡ drop m before
+  pub kept : free ≡ false → after ≡ before
+
+-- no integers satisfy a table over n quantities
+abbrev pub Unsatisfiable : ℕ → List ℤ → Type 0
+Unsatisfiable n t = (σ : Assignment) → Satisfies n t σ → ⊥
+
+-- some integers do
+pub record Satisfiable (n : ℕ) (t : List ℤ) : Type 0 where
+  pub assignment : Assignment
+  pub satisfies : Satisfies n t assignment
+
+-- the key call on n quantities and a hidden set. Demand 2: the key allows integers for the visible quantities, and names these alone, exactly when some
+-- integers for the hidden ones satisfy the whole sheet with them; past the earlier checks the reply is 5 exactly when no integers satisfy the sheet
+pub record Keyed (n set : ℕ) (table workspace : List ℤ) (r : Reply) (table' workspace' : List ℤ) : Type 0 where
+  pub reply : r ≡ keyReply n set table (length workspace)
+  pub words : table' ≡ cond (isDone r) (keyOf (hiddenIn set) n table) table
+  pub rest : drop (blockStart n) table' ≡ drop (blockStart n) table
+  pub lent : Lent (blockStart n) (freesWorkspace r) workspace workspace'
+  pub meaning : r ≡ Done → (σ : Assignment) → Satisfies n table' σ ↔ SheetAllows (hiddenIn set) (Satisfies n table) σ
+  pub visible : r ≡ Done → NamesVisible n (hiddenIn set) table'
+  pub some : r ≡ Done → Satisfiable n table
+  pub none : keyChecks n set table (length workspace) ≡ Done → (r ≡ Refused NoAssignment) ↔ Unsatisfiable n table
+
+-- the assignment call on n quantities: where it succeeds, the first n words written satisfy every rule and lie between -2 ^ 62 and 2 ^ 62, which is
+-- what all choices have in common; past the earlier checks the reply is 5 exactly when no integers satisfy the table
+pub record Assigned (n : ℕ) (table workspace values : List ℤ) (r : Reply) (workspace' values' : List ℤ) : Type 0 where
+  pub reply : r ≡ assignmentReply n table (length workspace) (length values)
+  pub lent : Lent (blockStart n) (freesWorkspace r) workspace workspace'
+  pub written : Lent n (isDone r) values values'
+  pub meaning : r ≡ Done → Satisfies n table (assignmentOf values')
+  pub range : r ≡ Done → (k : ℕ) → k < n → Within (pos 4611686018427387904) (wordAt values' k)
+  pub none : assignmentChecks n table (length workspace) (length values) ≡ Done → (r ≡ Refused NoAssignment) ↔ Unsatisfiable n table
+
+-- a table reduced: whether a contradiction is met, and where not, every word
+pub record Reduced (n : ℕ) (before : List ℤ) (r : Bool) (after : List ℤ) : Type 0 where
+  pub reply : r ≡ clashUpTo n n before
+  pub table : r ≡ false → after ≡ reduceUpTo n n before
+  pub rest : drop (blockStart n) after ≡ drop (blockStart n) before

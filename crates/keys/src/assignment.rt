@@ -1,0 +1,61 @@
+// The assignment call: integers that satisfy a table, or the refusal that there are none.
+use crate::reduce;
+use rules::refusal::Refusal;
+use rules::sheet::Sheet;
+use tables::reply::Reply;
+ghost use mathlib.Core.Path.{_≡_};
+ghost use Prim.Native.Nat.{_≤_};
+ghost use lib.ListN.{length};
+ghost use Rattle.keys.specs.Keys.{assignmentChecks};
+ghost use Rattle.keys.specs.Reducing.{Layered, fillDown};
+ghost use Rattle.keys.specs.Promises.{Assigned};
+
+// Chooses a value for each quantity of a reduced table, the last first.
+fn fill(n: usize, table: &[i64], values: &mut [i64])
+    requires { ⌜ Layered n (now table) × (n ≤ length (now values)) ⌝ }
+    ensures { λ _. ⌜ now (values .exit) ≡ fillDown n (now (table .entry)) n (now (values .entry)) ⌝ }
+{
+    let mut j = n;
+    while 0 < j {
+        j = j - 1;
+        values[j] = elimination::choose::choose(n, table, values, j);
+    }
+}
+
+// The first refusal of the assignment call that is not 5.
+fn check(n: usize, table: &[i64], workspace: usize, values: usize) -> Reply
+    ensures { λ r. ⌜ r ≡ assignmentChecks n (now (table .entry)) workspace values ⌝ }
+{
+    let served = tables::table::serves(n, table.len());
+    if !served {
+        return Reply::Refused(Refusal::Size);
+    }
+    let needed = tables::table::size(n);
+    if workspace < needed {
+        return Reply::Refused(Refusal::TooShort { needed });
+    }
+    if values < n {
+        return Reply::Refused(Refusal::TooShort { needed: n });
+    }
+    if !tables::limit::is_table_in(table, needed, Sheet::MAX_BOUND) {
+        return Reply::Refused(Refusal::OutOfLimit { line: 0 });
+    }
+    Reply::Done
+}
+
+// Writes integers that satisfy every rule of the table to the first `n` words of `values`. Which integers is left free; they lie between
+// -2 ^ 62 and 2 ^ 62.
+pub fn assignment(n: usize, table: &[i64], workspace: &mut [i64], values: &mut [i64]) -> Reply
+    ensures { λ r. ⌜ Assigned n (now (table .entry)) (now (workspace .entry)) (now (values .entry)) r (now (workspace .exit)) (now (values .exit)) ⌝ }
+{
+    let checked = check(n, table, workspace.len(), values.len());
+    let Reply::Done = checked else {
+        return checked;
+    };
+    words::copy(workspace, table, tables::table::size(n));
+    if reduce::reduce(n, workspace) {
+        return Reply::Refused(Refusal::NoAssignment);
+    }
+    fill(n, workspace, values);
+    Reply::Done
+}

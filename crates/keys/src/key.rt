@@ -1,0 +1,62 @@
+// The key call: the sheet's table is replaced by its key.
+use crate::reduce;
+use rules::refusal::Refusal;
+use rules::sheet::Sheet;
+use tables::reply::Reply;
+ghost use mathlib.Core.Path.{_≡_};
+ghost use Rattle.rules.specs.Hidden.{hiddenIn};
+ghost use Rattle.keys.specs.Keys.{keyOf, keyChecks};
+ghost use Rattle.keys.specs.Reducing.{Fits};
+ghost use Rattle.keys.specs.Promises.{Keyed};
+
+// Hides each quantity of the set in increasing number.
+pub fn hide_set(n: usize, set: u32, table: &mut [i64])
+    requires { ⌜ Fits n (now table) ⌝ }
+    ensures { λ _. ⌜ now (table .exit) ≡ keyOf (hiddenIn set) n (now (table .entry)) ⌝ }
+{
+    let mut j = 0;
+    while j < n {
+        if rules::hidden::is_hidden(set, j + 1) {
+            elimination::hide::hide(n, table, j);
+        }
+        j = j + 1;
+    }
+}
+
+// The first refusal of the key call that is not 5.
+fn check(n: usize, set: u32, table: &[i64], workspace: usize) -> Reply
+    ensures { λ r. ⌜ r ≡ keyChecks n set (now (table .entry)) workspace ⌝ }
+{
+    let served = tables::table::serves(n, table.len());
+    if !served {
+        return Reply::Refused(Refusal::Size);
+    }
+    let needed = tables::table::size(n);
+    if workspace < needed {
+        return Reply::Refused(Refusal::TooShort { needed });
+    }
+    if !rules::hidden::is_within(set, n) {
+        return Reply::Refused(Refusal::OutOfLimit { line: 0 });
+    }
+    if !tables::limit::is_table_in(table, needed, Sheet::MAX_BOUND) {
+        return Reply::Refused(Refusal::OutOfLimit { line: 0 });
+    }
+    Reply::Done
+}
+
+// Replaces the sheet's table over `n` quantities by its key, the quantities of the set `hidden` hidden. 'No assignment' is decided in the workspace
+// first, for all quantities.
+pub fn key(n: usize, hidden: u32, table: &mut [i64], workspace: &mut [i64]) -> Reply
+    ensures { λ r. ⌜ Keyed n hidden (now (table .entry)) (now (workspace .entry)) r (now (table .exit)) (now (workspace .exit)) ⌝ }
+{
+    let checked = check(n, hidden, table, workspace.len());
+    let Reply::Done = checked else {
+        return checked;
+    };
+    words::copy(workspace, table, tables::table::size(n));
+    if reduce::reduce(n, workspace) {
+        return Reply::Refused(Refusal::NoAssignment);
+    }
+    hide_set(n, hidden, table);
+    Reply::Done
+}

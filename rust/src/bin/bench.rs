@@ -1,0 +1,86 @@
+//! Times the linked library beside the same steps in ordinary Rust, at the largest sheet: 32 quantities, a rule at each of
+//! the 2,048 places, an assignment, 16 hidden quantities. One line for each call. A time is no failure.
+
+use judge::library::{Library, DONE};
+use judge::meaning::{size, terms, LIMIT, MOST_QUANTITIES};
+use judge::plain;
+use judge::random::Random;
+use judge::sys::Linked;
+use std::hint::black_box;
+use std::time::{Duration, Instant};
+
+const N: usize = MOST_QUANTITIES;
+/// Every second quantity.
+const HIDDEN: u32 = 0x5555_5555;
+const CALLS: usize = 2_001;
+
+fn main() {
+    let sheet = full_sheet();
+    report("key", key_times(&sheet));
+    report("assignment", assignment_times(&sheet));
+}
+
+/// Rules around random integers, so that these are an assignment and every bound is within the limits.
+fn full_sheet() -> Vec<i64> {
+    let mut random = Random::new(1, 0);
+    let slack = LIMIT / 5;
+    let reach = (LIMIT - slack) / 2;
+    let values: Vec<i64> = (0..N).map(|_| random.within(-reach, reach)).collect();
+    let bound = |value: i128| value as i64 + random.within(0, slack);
+    terms(N).iter().map(|term| term.value(&values)).map(bound).collect()
+}
+
+/// The times of the library's calls and of the plain ones. The two take turns, so that both meet the same machine.
+fn key_times(sheet: &[i64]) -> [Vec<Duration>; 2] {
+    let mut times = [Vec::new(), Vec::new()];
+    let mut table = sheet.to_vec();
+    let mut workspace = vec![0; size(N)];
+    for call in 0..2 * CALLS {
+        // outside of the timing: the call before has replaced the sheet by its key
+        table.copy_from_slice(sheet);
+        workspace.fill(0);
+        let (table, workspace) = (black_box(&mut table[..]), black_box(&mut workspace[..]));
+        let start = Instant::now();
+        let reply = match call % 2 {
+            0 => Linked.key(N, HIDDEN, table, workspace),
+            _ => plain::key(N, HIDDEN, table, workspace),
+        };
+        times[call % 2].push(start.elapsed());
+        assert_eq!(reply, DONE);
+    }
+    times
+}
+
+fn assignment_times(sheet: &[i64]) -> [Vec<Duration>; 2] {
+    let mut times = [Vec::new(), Vec::new()];
+    let mut workspace = vec![0; size(N)];
+    let mut values = vec![0; N];
+    for call in 0..2 * CALLS {
+        workspace.fill(0);
+        values.fill(0);
+        let (workspace, values) = (black_box(&mut workspace[..]), black_box(&mut values[..]));
+        let start = Instant::now();
+        let reply = match call % 2 {
+            0 => Linked.assignment(N, sheet, workspace, values),
+            _ => plain::assignment(N, sheet, workspace, values),
+        };
+        times[call % 2].push(start.elapsed());
+        assert_eq!(reply, DONE);
+    }
+    times
+}
+
+fn report(name: &str, times: [Vec<Duration>; 2]) {
+    let [library, plain] = times.map(median);
+    println!(
+        "{name}: ratio {:.2} (library {library:.1} us, plain Rust {plain:.1} us; medians of {CALLS} calls, n {N}, {} rules, buffers refilled before each)",
+        library / plain,
+        size(N)
+    );
+}
+
+/// In microseconds.
+fn median(mut times: Vec<Duration>) -> f64 {
+    times.sort();
+    times[times.len() / 2].as_secs_f64() * 1e6
+}

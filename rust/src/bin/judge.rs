@@ -1,0 +1,26 @@
+//! judge [SEED [COUNT]]: judges the linked library on COUNT random sheets. Prints one line; at the first failure it prints
+//! what failed and the input, and exits with 1.
+
+use judge::run;
+use judge::sys::Linked;
+use std::env;
+use std::process::exit;
+
+const SEED: u64 = 1;
+const COUNT: u64 = 20_000;
+
+fn main() {
+    let given: Vec<String> = env::args().skip(1).collect();
+    let number = |at: usize, default: u64| given.get(at).map_or(Ok(default), |word| word.parse());
+    let (Ok(seed), Ok(count), true) = (number(0, SEED), number(1, COUNT), given.len() <= 2) else {
+        eprintln!("judge [SEED [COUNT]]");
+        exit(2);
+    };
+    match run::all(&Linked, seed, count) {
+        Ok(counts) => println!("judge: seed={seed} {counts} failures=0"),
+        Err(failure) => {
+            println!("judge: failed: {failure}");
+            exit(1);
+        }
+    }
+}

@@ -1,0 +1,120 @@
+//! Small sheets decided by trying all integers of a box, and why the boxes are wide enough for the answer over all
+//! integers. No quantity is eliminated here.
+//!
+//! The one fact behind the boxes. Let integers satisfy rules whose bounds have magnitude at most M, and let the
+//! magnitudes of the integers, put in order from 0 on, have a gap wider than M. Then all integers above the gap can go
+//! one step toward 0, or one step away from 0, and every rule stays met. For write each quantity with the sign that makes
+//! it positive:
+//! - Toward 0 a term can only grow where it subtracts a quantity from above the gap. After the step the term is still
+//!   at most -M: a lone one because the integer was above M, with one from below because the gap was wider than M,
+//!   with two subtracted because both were above M. A difference of two from above the gap stays what it was.
+//! - Away from 0 a term can only grow where it adds a quantity from above the gap, the other being absent, added, or
+//!   subtracted from below the gap. Such a term was above M, so no rule bounds it.
+
+use crate::meaning::{broken, is_in, largest_bound, Rule};
+
+/// Is enumeration quick enough for this sheet?
+pub fn fits(n: usize, rules: &[Rule]) -> bool {
+    let most = match n {
+        1..=3 => 4,
+        4 => 2,
+        _ => return false,
+    };
+    largest_bound(rules) <= most
+}
+
+/// Do some integers satisfy all rules?
+///
+/// Those whose magnitudes have the least sum have no gap wider than M, or they could go toward 0. So they are at most
+/// n times M.
+pub fn has_assignment(n: usize, rules: &[Rule]) -> bool {
+    let radius = n as i64 * largest_bound(rules) as i64;
+    let all: Vec<usize> = (1..=n).collect();
+    Search::new(&all, rules, radius).finds(&mut vec![0; n], 0)
+}
+
+/// Visible integers on which the key is wrong: it allows them though no hidden integers complete them, or the other way
+/// round. The key names no hidden quantity.
+pub fn wrong_on(n: usize, hidden: u32, sheet: &[Rule], key: &[Rule]) -> Option<Vec<i64>> {
+    let (hidden_ones, visible): (Vec<usize>, Vec<usize>) = (1..=n).partition(|&q| is_in(hidden, q));
+    let reach = visible_radius(&hidden_ones, &visible, sheet, key);
+    let (among_visible, rest): (Vec<Rule>, Vec<Rule>) = sheet.iter().partition(|rule| !rule.term.names(hidden));
+    let hidden_reach = hidden_radius(&hidden_ones, reach, sheet);
+    let completion = Search::new(&hidden_ones, &rest, hidden_reach);
+    let mut values = vec![0; n];
+    visible.iter().for_each(|&q| values[q - 1] = -reach);
+    loop {
+        let allowed = broken(key, &values).is_none();
+        let completed = broken(&among_visible, &values).is_none() && completion.finds(&mut values.clone(), 0);
+        if allowed != completed {
+            return Some(values);
+        }
+        if !advance(&visible, reach, &mut values) {
+            return None;
+        }
+    }
+}
+
+/// How far visible integers have to be tried.
+///
+/// Let k quantities be hidden and the visible magnitudes have a gap wider than (k + 1) M + 1. In it stand at most k
+/// hidden magnitudes, so a part of it is wider than M, and so it is when the visible integers above the gap have gone
+/// one step toward 0. By the fact above, the integers before the step are completed exactly when those after it are. If
+/// the gap is also wider than the key's largest magnitude plus 1, the key too allows both or none. So a wrong choice with
+/// such a gap leads to a wrong choice nearer to 0, and the last one has no such gap.
+fn visible_radius(hidden: &[usize], visible: &[usize], sheet: &[Rule], key: &[Rule]) -> i64 {
+    let parts = (hidden.len() as u64 + 1) * largest_bound(sheet);
+    let gap = parts.max(largest_bound(key)) + 1;
+    visible.len() as i64 * gap as i64
+}
+
+/// How far hidden integers have to be tried where the visible ones are at most `reach` in magnitude.
+///
+/// Of all that complete these, take hidden integers whose magnitudes have the least sum. Above `reach` stand only hidden
+/// ones, and a gap wider than M there, or from `reach` to the first of them, would let those above it go toward 0.
+fn hidden_radius(hidden: &[usize], reach: i64, sheet: &[Rule]) -> i64 {
+    reach + hidden.len() as i64 * largest_bound(sheet) as i64
+}
+
+/// Goes to the next choice for these quantities from -reach to reach; false after the last.
+fn advance(quantities: &[usize], reach: i64, values: &mut [i64]) -> bool {
+    for &q in quantities {
+        if values[q - 1] < reach {
+            values[q - 1] += 1;
+            return true;
+        }
+        values[q - 1] = -reach;
+    }
+    false
+}
+
+/// Tries all integers from -radius to radius for some quantities, the others being fixed. A choice is given up as soon as
+/// a rule is broken whose quantities all have their integers.
+struct Search<'a> {
+    order: &'a [usize],
+    /// for each quantity of the order the rules that can be tested from then on
+    due: Vec<Vec<Rule>>,
+    radius: i64,
+}
+
+impl Search<'_> {
+    fn new<'a>(order: &'a [usize], rules: &[Rule], radius: i64) -> Search<'a> {
+        let mut due = vec![Vec::new(); order.len()];
+        for rule in rules {
+            let turns = rule.term.quantities().filter_map(|q| order.iter().position(|&o| o == q));
+            let last = turns.max().expect("a rule of the search names a quantity of it");
+            due[last].push(*rule);
+        }
+        Search { order, due, radius }
+    }
+
+    fn finds(&self, values: &mut [i64], turn: usize) -> bool {
+        if turn == self.order.len() {
+            return true;
+        }
+        (-self.radius..=self.radius).any(|value| {
+            values[self.order[turn] - 1] = value;
+            broken(&self.due[turn], values).is_none() && self.finds(values, turn + 1)
+        })
+    }
+}

@@ -1,0 +1,71 @@
+//! A call on lent memory, and which words each reply may have changed (document 01, 'Returned to the caller').
+
+use crate::lent::Lent;
+use crate::library::{Library, DONE, NO_ASSIGNMENT};
+use crate::meaning::size;
+
+pub struct KeyCall {
+    pub n: usize,
+    pub hidden: u32,
+    pub table: Lent,
+    pub workspace: Lent,
+}
+
+impl KeyCall {
+    pub fn run(&mut self, library: &dyn Library) -> u32 {
+        let (table, workspace) = (self.table.slice(), self.workspace.slice());
+        library.key(self.n, self.hidden, table, workspace)
+    }
+
+    /// Has the call changed no word but those that its reply leaves free?
+    pub fn memory(&self, reply: u32) -> Result<(), String> {
+        let (table, workspace) = match reply {
+            DONE => (size(self.n), size(self.n)),
+            NO_ASSIGNMENT => (0, size(self.n)),
+            _ => (0, 0),
+        };
+        kept("table", &self.table, table)?;
+        kept("workspace", &self.workspace, workspace)
+    }
+}
+
+pub struct AssignmentCall {
+    pub n: usize,
+    pub table: Lent,
+    pub workspace: Lent,
+    pub values: Lent,
+}
+
+impl AssignmentCall {
+    pub fn run(&mut self, library: &dyn Library) -> u32 {
+        let (workspace, values) = (self.workspace.slice(), self.values.slice());
+        library.assignment(self.n, self.table.left(), workspace, values)
+    }
+
+    /// As for a key; the table is never changed.
+    pub fn memory(&self, reply: u32) -> Result<(), String> {
+        let (workspace, values) = match reply {
+            DONE => (size(self.n), self.n),
+            NO_ASSIGNMENT => (size(self.n), 0),
+            _ => (0, 0),
+        };
+        kept("table", &self.table, 0)?;
+        kept("workspace", &self.workspace, workspace)?;
+        kept("values", &self.values, values)
+    }
+}
+
+/// The reply against the one that was due.
+pub fn same_reply(reply: u32, due: u32) -> Result<(), String> {
+    if reply != due {
+        return Err(format!("reply {reply}, due {due}"));
+    }
+    Ok(())
+}
+
+fn kept(name: &str, lent: &Lent, free: usize) -> Result<(), String> {
+    if lent.kept_but(free) {
+        return Ok(());
+    }
+    Err(format!("{name}: a word changed that is not of its first {free}"))
+}

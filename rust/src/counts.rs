@@ -1,0 +1,24 @@
+//! What a run has judged, for its one line of output.
+
+use std::fmt;
+
+#[derive(Default)]
+pub struct Counts {
+    pub examples: usize,
+    pub sheets: usize,
+    pub keys: usize,
+    pub without: usize,
+    pub enumerated: usize,
+    /// damaged calls by their replies
+    pub damaged: [usize; 7],
+}
+
+impl fmt::Display for Counts {
+    fn fmt(&self, f: &mut fmt::Formatter) -> fmt::Result {
+        let Counts { examples, sheets, keys, without, enumerated, .. } = self;
+        write!(f, "examples={examples} sheets={sheets} keys={keys} without-assignment={without}")?;
+        write!(f, " enumerated={enumerated} damaged-calls={}", self.damaged.iter().sum::<usize>())?;
+        let mut replies = self.damaged.iter().enumerate().filter(|(_, &count)| count > 0);
+        replies.try_for_each(|(reply, count)| write!(f, " reply-{reply}={count}"))
+    }
+}

@@ -1,0 +1,161 @@
+//! Calls that are damaged in one way or several: the first refusal of document 01's order is due, and nothing else may
+//! have happened.
+
+use crate::calls::{same_reply, AssignmentCall, KeyCall};
+use crate::check::due;
+use crate::counts::Counts;
+use crate::graph::Closure;
+use crate::lent::Lent;
+use crate::library::{Library, PAST_LIMIT, SIZE, TOO_SHORT};
+use crate::meaning::{rules, size, LIMIT, MOST_QUANTITIES, NO_RULE};
+use crate::random::Random;
+use crate::sheets::Sheet;
+use std::fmt;
+
+/// What a damaged call is given.
+struct Damaged {
+    n: usize,
+    hidden: u32,
+    table: Vec<i64>,
+    workspace: usize,
+    values: usize,
+}
+
+/// Judges both calls on a sheet that is damaged in at least one way.
+pub fn both_calls(
+    library: &dyn Library,
+    sheet: &Sheet,
+    random: &mut Random,
+    counts: &mut Counts,
+) -> Result<(), String> {
+    let damaged = Damaged::from(sheet, random);
+    let reply = key(library, &damaged, random).map_err(|e| format!("key: {e}\n{damaged}"))?;
+    counts.damaged[reply as usize] += 1;
+    let reply = assignment(library, &damaged, random).map_err(|e| format!("assignment: {e}\n{damaged}"))?;
+    counts.damaged[reply as usize] += 1;
+    Ok(())
+}
+
+fn key(library: &dyn Library, damaged: &Damaged, random: &mut Random) -> Result<u32, String> {
+    let (n, hidden) = (damaged.n, damaged.hidden);
+    let table = Lent::new(&damaged.table, random);
+    let workspace = Lent::new(&random.words(damaged.workspace), random);
+    let mut call = KeyCall { n, hidden, table, workspace };
+    let reply = call.run(library);
+    same_reply(reply, damaged.due_of_key())?;
+    call.memory(reply)?;
+    Ok(reply)
+}
+
+fn assignment(library: &dyn Library, damaged: &Damaged, random: &mut Random) -> Result<u32, String> {
+    let n = damaged.n;
+    let table = Lent::new(&damaged.table, random);
+    let workspace = Lent::new(&random.words(damaged.workspace), random);
+    let values = Lent::new(&random.words(damaged.values), random);
+    let mut call = AssignmentCall { n, table, workspace, values };
+    let reply = call.run(library);
+    same_reply(reply, damaged.due_of_assignment())?;
+    call.memory(reply)?;
+    Ok(reply)
+}
+
+impl Damaged {
+    fn from(sheet: &Sheet, random: &mut Random) -> Damaged {
+        let n = sheet.n;
+        let mut damaged =
+            Damaged { n, hidden: sheet.hidden, table: sheet.table.clone(), workspace: size(n), values: n };
+        let certain = random.below(6);
+        let ways = [Damaged::word, Damaged::hidden, Damaged::table, Damaged::workspace, Damaged::values, Damaged::n];
+        for (i, way) in ways.iter().enumerate() {
+            if i == certain || random.chance(10) {
+                way(&mut damaged, random);
+            }
+        }
+        damaged
+    }
+
+    /// A word past the limit, by one or by far.
+    fn word(&mut self, random: &mut Random) {
+        let words = [LIMIT + 1, -LIMIT - 1, i64::MIN, i64::MIN + 1, NO_RULE - 1, 1 << 62, -(1 << 62)];
+        let place = random.edge(self.table.len());
+        self.table[place] = random.pick(&words);
+    }
+
+    /// A hidden quantity past n; there is none at 32.
+    fn hidden(&mut self, random: &mut Random) {
+        let past = MOST_QUANTITIES - self.n;
+        if past > 0 {
+            self.hidden |= 1 << (self.n + random.edge(past));
+        }
+    }
+
+    fn table(&mut self, random: &mut Random) {
+        let length = random.edge(self.table.len());
+        self.table.truncate(length);
+    }
+
+    fn workspace(&mut self, random: &mut Random) {
+        self.workspace = random.edge(self.workspace);
+    }
+
+    fn values(&mut self, random: &mut Random) {
+        self.values = random.edge(self.values);
+    }
+
+    /// A number of quantities that is none or too large. At some of them 2n² wraps to 0 or to something small. Half of the
+    /// time there is room for 34 quantities, so that not the length gives the refusal away.
+    fn n(&mut self, random: &mut Random) {
+        self.n = random.pick(&[0, 33, 34, 64, 1 << 31, 1 << 32, (1 << 32) + self.n, 1 << 63, usize::MAX]);
+        if random.chance(50) {
+            self.table.resize(size(34), NO_RULE);
+            self.workspace = size(34);
+            self.values = 34;
+        }
+    }
+
+    fn due_of_key(&self) -> u32 {
+        if self.table_refused() {
+            SIZE
+        } else if self.workspace < size(self.n) {
+            TOO_SHORT
+        } else if u64::from(self.hidden) >= 1 << self.n || self.word_refused() {
+            PAST_LIMIT
+        } else {
+            self.due_of_rules()
+        }
+    }
+
+    fn due_of_assignment(&self) -> u32 {
+        if self.table_refused() {
+            SIZE
+        } else if self.workspace < size(self.n) || self.values < self.n {
+            TOO_SHORT
+        } else if self.word_refused() {
+            PAST_LIMIT
+        } else {
+            self.due_of_rules()
+        }
+    }
+
+    fn table_refused(&self) -> bool {
+        !(1..=MOST_QUANTITIES).contains(&self.n) || self.table.len() < size(self.n)
+    }
+
+    fn word_refused(&self) -> bool {
+        let held = rules(self.n, &self.table);
+        held.iter().any(|rule| rule.bound > LIMIT || rule.bound < -LIMIT)
+    }
+
+    /// The damage may be one that this call does not see, as short values in the call for a key.
+    fn due_of_rules(&self) -> u32 {
+        due(Closure::of(self.n, &rules(self.n, &self.table)).is_some())
+    }
+}
+
+impl fmt::Display for Damaged {
+    fn fmt(&self, f: &mut fmt::Formatter) -> fmt::Result {
+        let Damaged { n, hidden, table, workspace, values } = self;
+        writeln!(f, "n={n} hidden={hidden:#x} table={table:?}")?;
+        writeln!(f, "words: table {}, workspace {workspace}, values {values}", table.len())
+    }
+}

@@ -1,0 +1,65 @@
+//! The two calls in ordinary Rust, by the steps that document 01 names: what the library's words are compared with and
+//! its times measured against.
+//!
+//! A quantity has a number from 0 here, and quantity k the literals 2k, for plus, and 2k + 1. One literal x stands at place
+//! 2 (x/2)² + x%2; two literals x < y of different quantities stand at 2 (y/2)² + 2 + 2x + y%2.
+
+mod choose;
+mod step;
+
+use crate::library::{DONE, NO_ASSIGNMENT, PAST_LIMIT, SIZE, TOO_SHORT};
+use crate::meaning::{LIMIT, MOST_QUANTITIES, NO_RULE};
+
+pub fn key(n: usize, hidden: u32, table: &mut [i64], workspace: &mut [i64]) -> u32 {
+    if let Err(number) = lengths(n, table, workspace) {
+        return number;
+    }
+    let (table, workspace) = (&mut table[..2 * n * n], &mut workspace[..2 * n * n]);
+    // as 64 bits, for a 32-bit number cannot be shifted by 32
+    if u64::from(hidden) >> n != 0 || !within_limits(table) {
+        return PAST_LIMIT;
+    }
+    workspace.copy_from_slice(table);
+    if !step::eliminate(n, workspace) {
+        return NO_ASSIGNMENT;
+    }
+    for k in (0..n).filter(|k| (hidden >> k) & 1 == 1) {
+        step::hide(n, table, k);
+    }
+    DONE
+}
+
+pub fn assignment(n: usize, table: &[i64], workspace: &mut [i64], values: &mut [i64]) -> u32 {
+    if let Err(number) = lengths(n, table, workspace) {
+        return number;
+    }
+    if values.len() < n {
+        return TOO_SHORT;
+    }
+    let (table, workspace) = (&table[..2 * n * n], &mut workspace[..2 * n * n]);
+    if !within_limits(table) {
+        return PAST_LIMIT;
+    }
+    workspace.copy_from_slice(table);
+    if !step::eliminate(n, workspace) {
+        return NO_ASSIGNMENT;
+    }
+    choose::values(n, workspace, &mut values[..n]);
+    DONE
+}
+
+/// The refusals that both calls begin with. n is tested first, so that 2n² cannot wrap.
+fn lengths(n: usize, table: &[i64], workspace: &[i64]) -> Result<(), u32> {
+    if n == 0 || n > MOST_QUANTITIES || table.len() < 2 * n * n {
+        return Err(SIZE);
+    }
+    if workspace.len() < 2 * n * n {
+        return Err(TOO_SHORT);
+    }
+    Ok(())
+}
+
+fn within_limits(table: &[i64]) -> bool {
+    let held = |&bound: &i64| bound == NO_RULE || (-LIMIT..=LIMIT).contains(&bound);
+    table.iter().all(held)
+}

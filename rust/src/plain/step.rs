@@ -1,0 +1,98 @@
+//! One quantity eliminated: its rules are gathered into a row for plus and a row for minus, then the table is walked in
+//! place order and each word written once. Every sum reads the rows, so the walk may change what it has passed.
+
+use crate::meaning::{MOST_QUANTITIES, NO_RULE};
+
+/// The bounds of the rules on one quantity, by the literal that is left when the quantity is taken away.
+pub struct Rows {
+    /// of the rules that add the quantity
+    pub plus: [i64; 2 * MOST_QUANTITIES],
+    /// of those that subtract it
+    pub minus: [i64; 2 * MOST_QUANTITIES],
+    /// of its lone rules
+    pub plus_alone: i64,
+    pub minus_alone: i64,
+}
+
+impl Rows {
+    /// The rules on k alone or with a quantity from `first` on.
+    pub fn gather(n: usize, table: &[i64], k: usize, first: usize) -> Rows {
+        let own = &table[2 * k * k..2 * (k + 1) * (k + 1)];
+        let mut rows = Rows {
+            plus: [NO_RULE; 2 * MOST_QUANTITIES],
+            minus: [NO_RULE; 2 * MOST_QUANTITIES],
+            plus_alone: own[0],
+            minus_alone: own[1],
+        };
+        for (x, pair) in own[2..].chunks_exact(2).enumerate().skip(2 * first) {
+            rows.plus[x] = pair[0];
+            rows.minus[x] = pair[1];
+        }
+        for r in first.max(k + 1)..n {
+            let four = &table[2 * r * r + 2 + 4 * k..][..4];
+            rows.plus[2 * r..2 * r + 2].copy_from_slice(&four[..2]);
+            rows.minus[2 * r..2 * r + 2].copy_from_slice(&four[2..]);
+        }
+        rows
+    }
+
+    /// Is a bare 0 <= c with c below 0 among the sums?
+    fn contradict(&self) -> bool {
+        let cancelled = (0..self.plus.len()).map(|x| sum(self.plus[x], self.minus[x ^ 1]));
+        sum(self.plus_alone, self.minus_alone) < 0 || cancelled.min() < Some(0)
+    }
+
+    /// Puts every sum in that lands in a place of quantities from `first` on. Places that name the quantity itself keep
+    /// their words, for no row has a rule at its literals.
+    fn add(&self, n: usize, table: &mut [i64], first: usize) {
+        for r in first..n {
+            let (alone, pairs) = table[2 * r * r..2 * (r + 1) * (r + 1)].split_at_mut(2);
+            alone[0] = alone[0].min(self.alone(2 * r));
+            alone[1] = alone[1].min(self.alone(2 * r + 1));
+            let (plus, minus) = (&self.plus[2 * r..][..2], &self.minus[2 * r..][..2]);
+            for (x, pair) in pairs.chunks_exact_mut(2).enumerate().skip(2 * first) {
+                let (plus_x, minus_x) = (self.plus[x], self.minus[x]);
+                pair[0] = pair[0].min(sum(plus_x, minus[0])).min(sum(minus_x, plus[0]));
+                pair[1] = pair[1].min(sum(plus_x, minus[1])).min(sum(minus_x, plus[1]));
+            }
+        }
+    }
+
+    /// The smallest sum that bounds literal y alone: with a lone rule from either side, or doubled and halved.
+    fn alone(&self, y: usize) -> i64 {
+        let doubled = sum(self.plus[y], self.minus[y]);
+        // a shift to the right rounds toward minus infinity
+        let halved = if doubled == NO_RULE { NO_RULE } else { doubled >> 1 };
+        halved.min(sum(self.plus[y], self.minus_alone)).min(sum(self.plus_alone, self.minus[y]))
+    }
+}
+
+/// Takes all quantities away in increasing number and leaves the rules on each as they stand at its turn; false at the
+/// first contradiction.
+pub fn eliminate(n: usize, table: &mut [i64]) -> bool {
+    (0..n).all(|k| {
+        let rows = Rows::gather(n, table, k, k + 1);
+        let possible = !rows.contradict();
+        if possible {
+            rows.add(n, table, k + 1);
+        }
+        possible
+    })
+}
+
+/// Hides quantity k: its sums go in, then its places are emptied.
+pub fn hide(n: usize, table: &mut [i64], k: usize) {
+    Rows::gather(n, table, k, 0).add(n, table, 0);
+    table[2 * k * k..2 * (k + 1) * (k + 1)].fill(NO_RULE);
+    for r in k + 1..n {
+        table[2 * r * r + 2 + 4 * k..][..4].fill(NO_RULE);
+    }
+}
+
+fn sum(a: i64, b: i64) -> i64 {
+    if a == NO_RULE || b == NO_RULE {
+        NO_RULE
+    } else {
+        a + b
+    }
+}

@@ -1,0 +1,41 @@
+//! The static library's two functions over `plain`, under the same names: with the feature `plain` the judge and its
+//! declarations in `sys` are tried where no archive is built.
+
+use crate::plain;
+use std::slice::{from_raw_parts, from_raw_parts_mut};
+
+#[no_mangle]
+unsafe extern "C" fn acornsled_key(
+    n: usize,
+    hidden: u32,
+    table: *mut i64,
+    table_len: usize,
+    workspace: *mut i64,
+    workspace_len: usize,
+) -> u32 {
+    // SAFETY: `sys` passes each slice's pointer with its length.
+    let (table, workspace) =
+        unsafe { (from_raw_parts_mut(table, table_len), from_raw_parts_mut(workspace, workspace_len)) };
+    plain::key(n, hidden, table, workspace)
+}
+
+#[no_mangle]
+unsafe extern "C" fn acornsled_assignment(
+    n: usize,
+    table: *const i64,
+    table_len: usize,
+    workspace: *mut i64,
+    workspace_len: usize,
+    values: *mut i64,
+    values_len: usize,
+) -> u32 {
+    // SAFETY: as above.
+    let (table, workspace, values) = unsafe {
+        (
+            from_raw_parts(table, table_len),
+            from_raw_parts_mut(workspace, workspace_len),
+            from_raw_parts_mut(values, values_len),
+        )
+    };
+    plain::assignment(n, table, workspace, values)
+}

@@ -44,34 +44,41 @@ refuted n t = refutedUpTo n n t
 abbrev pub sheetWords : ℕ → List ℤ → Bool
 sheetWords n t = wordsInLimit (blockStart n) (pos maxBound) t
 
+-- checks one after the other: the first refusal stands
+unfoldable pub andThen : Reply → Reply → Reply
+andThen Done next = next
+andThen (Refused r) next = Refused r
+
 -- a lent slice of so many words is long enough, or 6 with the length needed
-abbrev pub longEnough : ℕ → ℕ → Reply → Reply
-longEnough words needed next = cond (ltb words needed) (Refused (TooShort needed)) next
+unfoldable pub longEnough : ℕ → ℕ → Reply
+longEnough words needed = cond (ltb words needed) (Refused (TooShort needed)) Done
 
 -- a number is in its limit, or 3
-abbrev pub withinLimit : Bool → Reply
+unfoldable pub withinLimit : Bool → Reply
 withinLimit b = cond b Done (Refused (OutOfLimit 0))
+
+-- a table and a workspace of so many words serve n quantities, or 1 for n and the table, 6 for the workspace
+unfoldable pub lentChecks : ℕ → ℕ → ℕ → Reply
+lentChecks n table workspace = cond (serves n table) (longEnough workspace (blockStart n)) (Refused Size)
 
 -- the key call's checks before 5: 1, 6, 3
 unfoldable pub keyChecks : ℕ → ℕ → List ℤ → ℕ → Reply
-keyChecks n set t workspace =
-    cond (serves n (length t)) (longEnough workspace (blockStart n) (withinLimit (setWithin n set && sheetWords n t))) (Refused Size)
+keyChecks n set t workspace = andThen (lentChecks n (length t) workspace) (withinLimit (setWithin n set && sheetWords n t))
 
 -- the assignment call's: 1, 6 for the workspace, 6 for the assignment, 3
 unfoldable pub assignmentChecks : ℕ → List ℤ → ℕ → ℕ → Reply
 assignmentChecks n t workspace values =
-    cond (serves n (length t)) (longEnough workspace (blockStart n) (longEnough values n (withinLimit (sheetWords n t)))) (Refused Size)
+    andThen (lentChecks n (length t) workspace) (andThen (longEnough values n) (withinLimit (sheetWords n t)))
 
 -- then 5
-unfoldable pub decided : Reply → Bool → Reply
-decided Done none = cond none (Refused NoAssignment) Done
-decided (Refused r) none = Refused r
+unfoldable pub decided : Bool → Reply
+decided none = cond none (Refused NoAssignment) Done
 
 unfoldable pub keyReply : ℕ → ℕ → List ℤ → ℕ → Reply
-keyReply n set t workspace = decided (keyChecks n set t workspace) (refuted n t)
+keyReply n set t workspace = andThen (keyChecks n set t workspace) (decided (refuted n t))
 
 unfoldable pub assignmentReply : ℕ → List ℤ → ℕ → ℕ → Reply
-assignmentReply n t workspace values = decided (assignmentChecks n t workspace values) (refuted n t)
+assignmentReply n t workspace values = andThen (assignmentChecks n t workspace values) (decided (refuted n t))
 
 -- the replies after which the workspace is free: success and 5
 abbrev pub freesWorkspace : Reply → Bool

@@ -14,6 +14,7 @@ use Rattle.rules.specs.Meaning.{literalValue, names}
 use Rattle.tables.specs.Meaning.{HoldsRule, ruleIn, assignmentOf, WordsWithin}
 use Rattle.tables.specs.Tables.{hasRule}
 use Rattle.elimination.specs.Hiding.{pairWord, loneWord, paired, contradicts}
+use Rattle.elimination.specs.Magnitude.{Past, OwnWithin, Unnamed}
 use Rattle.elimination.specs.Choosing.{chosen}
 
 -- the first m quantities of n paired, each with later ones alone
@@ -41,24 +42,21 @@ fillDown n t (suc m) values = set (fillDown n t m values) (n - suc m) (choice n 
 
 -- ---- the sums fit
 
--- no rule of a table names quantity q
-abbrev pub Unnamed : ℕ → ℕ → List ℤ → Type 0
-Unnamed q n t = (k : ℕ) → HoldsRule n t k → names q (ruleIn t k) ≡ false
+-- `limit j` bounds the magnitudes when the first j quantities are paired or hidden, for any n. A step on a quantity at most doubles them; on one
+-- that no rule names it enlarges nothing, and the quantity's reach may be 0
+pub record Grows (n : ℕ) (limit reach : ℕ → ℕ) (t : List ℤ) : Type 0 where
+  pub room : blockStart n ≤ length t
+  pub start : WordsWithin (blockStart n) (pos (limit 0)) t
+  pub named : (j : ℕ) → j < n → (reach j ≡ limit j) ⊎ Unnamed n j t
+  pub step : (j : ℕ) → j < n → (reach j ≤ limit j) × (limit j + reach j ≤ limit (suc j))
 
--- `limit j` bounds the magnitudes when the first j quantities are paired. A step at most doubles them; a step on a quantity that no rule
--- names enlarges nothing
+-- and in the end they are small enough: the sums fit
 pub record Fits (n : ℕ) (t : List ℤ) : Type 0 where
   pub most : n ≤ maxQuantities
-  pub room : blockStart n ≤ length t
   pub limit : ℕ → ℕ
-  pub start : WordsWithin (blockStart n) (pos (limit 0)) t
-  pub step : (j : ℕ) → j < n → (limit j + limit j ≤ limit (suc j)) ⊎ (Unnamed (suc j) n t × (limit j ≤ limit (suc j)))
+  pub reach : ℕ → ℕ
+  pub grows : Grows n limit reach t
   pub last : limit n < 2 ^ 62
-
--- the rules of quantity j + 1, alone or with later ones, are at most A in magnitude
-pub record OwnWithin (n j A : ℕ) (t : List ℤ) : Type 0 where
-  pub lone : (z : ℕ) → z / 2 ≡ j → hasRule (loneWord t z) ≡ true → Within (pos A) (loneWord t z)
-  pub pair : (z x : ℕ) → z / 2 ≡ j → 2 * j + 2 ≤ x → x < 2 * n → hasRule (pairWord t z x) ≡ true → Within (pos A) (pairWord t z x)
 
 -- a reduced table: the rules of each quantity are within its reach, and the reaches add up to the limit at the end
 pub record Layered (n : ℕ) (t : List ℤ) : Type 0 where
@@ -66,6 +64,6 @@ pub record Layered (n : ℕ) (t : List ℤ) : Type 0 where
   pub room : blockStart n ≤ length t
   pub limit : ℕ → ℕ
   pub reach : ℕ → ℕ
-  pub own : (j : ℕ) → j < n → OwnWithin n j (reach j) t
+  pub own : (j : ℕ) → j < n → OwnWithin (Past (suc j) n) j (reach j) t
   pub step : (j : ℕ) → j < n → (reach j ≤ limit j) × (limit j + reach j ≤ limit (suc j))
   pub last : limit n < 2 ^ 62

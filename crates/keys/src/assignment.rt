@@ -1,4 +1,5 @@
 // The assignment call: integers that satisfy a table, or the refusal that there are none.
+use crate::checks;
 use crate::reduce;
 use rules::refusal::Refusal;
 use rules::sheet::Sheet;
@@ -26,18 +27,14 @@ fn fill(n: usize, table: &[i64], values: &mut [i64])
 fn check(n: usize, table: &[i64], workspace: usize, values: usize) -> Reply
     ensures { λ r. ⌜ r ≡ assignmentChecks n (now (table .entry)) workspace values ⌝ }
 {
-    let served = tables::table::serves(n, table.len());
-    if !served {
-        return Reply::Refused(Refusal::Size);
-    }
-    let needed = tables::table::size(n);
-    if workspace < needed {
-        return Reply::Refused(Refusal::TooShort { needed });
-    }
+    let lent = checks::lent(n, table.len(), workspace);
+    let Reply::Done = lent else {
+        return lent;
+    };
     if values < n {
         return Reply::Refused(Refusal::TooShort { needed: n });
     }
-    if !tables::limit::is_table_in(table, needed, Sheet::MAX_BOUND) {
+    if !tables::limit::is_table_in(table, tables::table::size(n), Sheet::MAX_BOUND) {
         return Reply::Refused(Refusal::OutOfLimit { line: 0 });
     }
     Reply::Done

@@ -1,13 +1,30 @@
 // The key call: the sheet's table is replaced by its key.
+use crate::checks;
 use crate::reduce;
 use rules::refusal::Refusal;
 use rules::sheet::Sheet;
 use tables::reply::Reply;
 ghost use mathlib.Core.Path.{_≡_};
+ghost use mathlib.Core.Bool.{cond};
+ghost use Prim.Native.Nat.{suc};
 ghost use Rattle.rules.specs.Hidden.{hiddenIn};
+ghost use Rattle.elimination.specs.Hiding.{eliminated};
+ghost use Rattle.elimination.specs.Promises.{Ready};
 ghost use Rattle.keys.specs.Keys.{keyOf, keyChecks};
 ghost use Rattle.keys.specs.Reducing.{Fits};
 ghost use Rattle.keys.specs.Promises.{Keyed};
+
+// Hides quantity `j + 1` where the set has it.
+fn hide_member(n: usize, set: u32, table: &mut [i64], j: usize)
+    requires { ⌜ Ready n j (now table) ⌝ }
+    ensures { λ _. ⌜ now (table .exit) ≡ cond (hiddenIn set (suc j)) (eliminated n j (now (table .entry))) (now (table .entry)) ⌝ }
+{
+    let hidden = rules::hidden::is_hidden(set, j + 1);
+    if !hidden {
+        return;
+    }
+    elimination::hide::hide(n, table, j);
+}
 
 // Hides each quantity of the set in increasing number.
 pub fn hide_set(n: usize, set: u32, table: &mut [i64])
@@ -16,9 +33,7 @@ pub fn hide_set(n: usize, set: u32, table: &mut [i64])
 {
     let mut j = 0;
     while j < n {
-        if rules::hidden::is_hidden(set, j + 1) {
-            elimination::hide::hide(n, table, j);
-        }
+        hide_member(n, set, table, j);
         j = j + 1;
     }
 }
@@ -27,18 +42,14 @@ pub fn hide_set(n: usize, set: u32, table: &mut [i64])
 fn check(n: usize, set: u32, table: &[i64], workspace: usize) -> Reply
     ensures { λ r. ⌜ r ≡ keyChecks n set (now (table .entry)) workspace ⌝ }
 {
-    let served = tables::table::serves(n, table.len());
-    if !served {
-        return Reply::Refused(Refusal::Size);
-    }
-    let needed = tables::table::size(n);
-    if workspace < needed {
-        return Reply::Refused(Refusal::TooShort { needed });
-    }
+    let lent = checks::lent(n, table.len(), workspace);
+    let Reply::Done = lent else {
+        return lent;
+    };
     if !rules::hidden::is_within(set, n) {
         return Reply::Refused(Refusal::OutOfLimit { line: 0 });
     }
-    if !tables::limit::is_table_in(table, needed, Sheet::MAX_BOUND) {
+    if !tables::limit::is_table_in(table, tables::table::size(n), Sheet::MAX_BOUND) {
         return Reply::Refused(Refusal::OutOfLimit { line: 0 });
     }
     Reply::Done

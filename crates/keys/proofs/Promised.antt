@@ -1,0 +1,199 @@
+-- The records of the two calls' contracts, from plain facts. Assumes nothing.
+use mathlib.Core.Path.{_≡_, refl, sym, _∙_}
+use mathlib.Core.Bool.{Bool, true, false, cond}
+use mathlib.Core.List.{List}
+use mathlib.Core.Logic.{_↔_}
+use Prim.Native.Nat.{ℕ, zero, suc, _≤_, _<_}
+use native.Mathlib.Omega.{arith}
+use lib.IntN.{ℤ}
+use lib.ListN.{length, drop}
+use Rattle.words.specs.Change.{change, copying}
+use Rattle.words.proofs.Change.{change-length, change-drop}
+use Rattle.places.specs.Numbering.{blockStart}
+use Rattle.rules.specs.declared.refusal.Refusal.{Refusal}
+use Rattle.rules.specs.declared.refusal.Refusal.the-variants.{NoAssignment}
+use Rattle.rules.specs.Hidden.{hiddenIn}
+use Rattle.rules.specs.Meaning.{Assignment}
+use Rattle.tables.specs.declared.reply.Reply.{Reply}
+use Rattle.tables.specs.declared.reply.Reply.the-variants.{Done, Refused}
+use Rattle.tables.specs.Tables.{tableSize, cleared}
+use Rattle.tables.proofs.Tests.{refused-done, clash}
+use Rattle.tables.specs.Meaning.{Satisfies, assignmentOf}
+use Rattle.elimination.specs.Hiding.{paired, eliminated}
+use Rattle.keys.specs.Keys.{every, hideUpTo, keyOf, refuted, decided, keyChecks, keyReply, assignmentChecks, assignmentReply}
+use Rattle.keys.specs.Reducing.{reduceUpTo, fillDown, Fits, Layered}
+use Rattle.keys.specs.Promises.{Lent, Keyed, Assigned, Reduced, Satisfiable, Unsatisfiable}
+use Rattle.keys.proofs.Several.{key-exact, key-visible, refuted-false}
+use Rattle.keys.proofs.Fitting.{hide-ample}
+use Rattle.keys.proofs.Copying.{SameTable, copied, same-back, same-satisfies, same-fits}
+use Rattle.keys.proofs.Reducing.{reduce-layered}
+use Rattle.keys.proofs.Filling.{fillDown-length, fillDown-rest, filled-range}
+use Rattle.keys.proofs.Deciding.{clash-some, clash-refuted, none-exactly}
+use Rattle.keys.proofs.Checking.{then-passed, then-refused, Lending, key-tells, assignment-tells}
+
+-- ---- words past the table's
+
+rest-eliminated : (n j : ℕ) (t : List ℤ) → drop (blockStart n) (eliminated n j t) ≡ drop (blockStart n) t
+unfolding eliminated cleared paired
+rest-eliminated n j t = change-drop (blockStart n) _ _ ∙ change-drop (blockStart n) _ t
+
+rest-hidden : (hidden : ℕ → Bool) (n m : ℕ) (t : List ℤ) → drop (blockStart n) (hideUpTo hidden n m t) ≡ drop (blockStart n) t
+unfolding hideUpTo
+rest-hidden hidden n zero t = refl
+rest-hidden hidden n (suc j) t = go (rest-hidden hidden n j t) (hidden (suc j))
+  where
+    go : drop (blockStart n) (hideUpTo hidden n j t) ≡ drop (blockStart n) t → (b : Bool)
+        → drop (blockStart n) (cond b (eliminated n j (hideUpTo hidden n j t)) (hideUpTo hidden n j t)) ≡ drop (blockStart n) t
+    go ih true = rest-eliminated n j (hideUpTo hidden n j t) ∙ ih
+    go ih false = ih
+
+rest-key : (hidden : ℕ → Bool) (n : ℕ) (t : List ℤ) → drop (blockStart n) (keyOf hidden n t) ≡ drop (blockStart n) t
+unfolding keyOf
+rest-key hidden n t = rest-hidden hidden n n t
+
+-- a slice that no one touched
+untouched : (m : ℕ) (free : Bool) (w : List ℤ) → Lent m free w w
+untouched m free w = record { size = refl; rest = refl; kept = λ e. refl }
+
+-- the workspace after the table was copied to it and reduced
+reduced-lent : (n : ℕ) (t w w' : List ℤ) (b : Bool) → length w' ≡ length w → Reduced n (change (blockStart n) (copying t) w) b w'
+    → Lent (blockStart n) true w w'
+reduced-lent n t w w' b l r = record {
+  size = l;
+  rest = r .rest ∙ change-drop (blockStart n) (copying t) w;
+  kept = λ e. clash refl e;
+}
+
+-- ---- the key call
+
+pub key-refused : (n set : ℕ) (t w : List ℤ) (r : Reply) (f : Refusal) → r ≡ keyChecks n set t (length w) → r ≡ Refused f → Keyed n set t w r t w
+unfolding keyReply
+key-refused n set t w r f e d = record {
+  reply = e ∙ sym (then-refused (keyChecks n set t (length w)) (decided (refuted n t)) f (sym e ∙ d));
+  words = rw d;
+  rest = refl;
+  lent = untouched (blockStart n) _ w;
+  meaning = λ c. absurd (refused-done (sym d ∙ c));
+  visible = λ c. absurd (refused-done (sym d ∙ c));
+  some = λ c. absurd (refused-done (sym d ∙ c));
+  none = λ c. absurd (refused-done (sym d ∙ e ∙ c));
+}
+
+-- what the key call knows once the workspace is reduced: the decision is document 01's
+key-decided : (n set : ℕ) (t w w' : List ℤ) (b : Bool) → keyChecks n set t (length w) ≡ Done
+    → Reduced n (change (blockStart n) (copying t) w) b w' → b ≡ refuted n t
+key-decided n set t w w' b e r =
+    let p = key-tells n set (length w) t e in
+    r .reply ∙ clash-refuted n t (change (blockStart n) (copying t) w) (copied n t w (p .0 .served .room) (p .0 .long)) (p .1)
+
+pub key-none : (n set : ℕ) (t w w' : List ℤ) → keyChecks n set t (length w) ≡ Done → length w' ≡ length w
+    → Reduced n (change (blockStart n) (copying t) w) true w' → Keyed n set t w (Refused NoAssignment) t w'
+unfolding keyReply decided
+key-none n set t w w' e l r =
+    let d : true ≡ refuted n t = key-decided n set t w w' true e r in
+    let f = key-tells n set (length w) t e .1 in
+    record {
+      reply = sym (then-passed (keyChecks n set t (length w)) (decided (refuted n t)) e ∙ rw (← d));
+      words = refl;
+      rest = refl;
+      lent = reduced-lent n t w w' true l r;
+      meaning = λ c. absurd (refused-done c);
+      visible = λ c. absurd (refused-done c);
+      some = λ c. absurd (refused-done c);
+      none = λ c. (λ g. none-exactly n t f .0 (rw (← d)), λ u. refl);
+    }
+
+pub key-done : (n set : ℕ) (t w t' w' : List ℤ) → keyChecks n set t (length w) ≡ Done → length w' ≡ length w
+    → Reduced n (change (blockStart n) (copying t) w) false w' → t' ≡ keyOf (hiddenIn set) n t → Keyed n set t w Done t' w'
+unfolding keyReply decided
+key-done n set t w t' w' e l r k =
+    let d : false ≡ refuted n t = key-decided n set t w w' false e r in
+    let f = key-tells n set (length w) t e .1 in
+    let s = refuted-false n t (f .grows .room) (hide-ample every n t f) (sym d) in
+    record {
+      reply = sym (then-passed (keyChecks n set t (length w)) (decided (refuted n t)) e ∙ rw (← d));
+      words = k;
+      rest = rw k (rest-key (hiddenIn set) n t);
+      lent = reduced-lent n t w w' false l r;
+      meaning = λ c σ. rw k (key-exact (hiddenIn set) n t (s .assignment) (hide-ample (hiddenIn set) n t f) (s .satisfies) σ);
+      visible = λ c. rw k (key-visible (hiddenIn set) n t (f .grows .room));
+      some = λ c. s;
+      none = λ c. (λ g. absurd (refused-done (sym g)), λ u. absurd (u (s .assignment) (s .satisfies)));
+    }
+
+-- ---- the assignment call
+
+pub assignment-refused : (n : ℕ) (t w v : List ℤ) (r : Reply) (f : Refusal) → r ≡ assignmentChecks n t (length w) (length v) → r ≡ Refused f
+    → Assigned n t w v r w v
+unfolding assignmentReply
+assignment-refused n t w v r f e d = record {
+  reply = e ∙ sym (then-refused (assignmentChecks n t (length w) (length v)) (decided (refuted n t)) f (sym e ∙ d));
+  lent = untouched (blockStart n) _ w;
+  written = untouched n _ v;
+  meaning = λ c. absurd (refused-done (sym d ∙ c));
+  range = λ c. absurd (refused-done (sym d ∙ c));
+  none = λ c. absurd (refused-done (sym d ∙ e ∙ c));
+}
+
+assignment-decided : (n : ℕ) (t w w' v : List ℤ) (b : Bool) → assignmentChecks n t (length w) (length v) ≡ Done
+    → Reduced n (change (blockStart n) (copying t) w) b w' → b ≡ refuted n t
+assignment-decided n t w w' v b e r =
+    let p = assignment-tells n (length w) (length v) t e in
+    r .reply ∙ clash-refuted n t (change (blockStart n) (copying t) w) (copied n t w (p .0 .served .room) (p .0 .long)) (p .2)
+
+pub assignment-none : (n : ℕ) (t w v w' : List ℤ) → assignmentChecks n t (length w) (length v) ≡ Done → length w' ≡ length w
+    → Reduced n (change (blockStart n) (copying t) w) true w' → Assigned n t w v (Refused NoAssignment) w' v
+unfolding assignmentReply decided
+assignment-none n t w v w' e l r =
+    let d : true ≡ refuted n t = assignment-decided n t w w' v true e r in
+    let f = assignment-tells n (length w) (length v) t e .2 in
+    record {
+      reply = sym (then-passed (assignmentChecks n t (length w) (length v)) (decided (refuted n t)) e ∙ rw (← d));
+      lent = reduced-lent n t w w' true l r;
+      written = untouched n _ v;
+      meaning = λ c. absurd (refused-done c);
+      range = λ c. absurd (refused-done c);
+      none = λ c. (λ g. none-exactly n t f .0 (rw (← d)), λ u. refl);
+    }
+
+pub assignment-done : (n : ℕ) (t w v w' v' : List ℤ) → assignmentChecks n t (length w) (length v) ≡ Done → length w' ≡ length w
+    → Reduced n (change (blockStart n) (copying t) w) false w' → v' ≡ fillDown n w' n v → Assigned n t w v Done w' v'
+unfolding assignmentReply decided
+assignment-done n t w v w' v' e l r k =
+    let d : false ≡ refuted n t = assignment-decided n t w w' v false e r in
+    let p = assignment-tells n (length w) (length v) t e in
+    let u : List ℤ = change (blockStart n) (copying t) w in
+    let same : SameTable n t u = copied n t w (p .0 .served .room) (p .0 .long) in
+    let f : Fits n u = same-fits n t u same (p .2) in
+    let filled : v' ≡ fillDown n (reduceUpTo n n u) n v = k ∙ rw (r .table refl) in
+    let s = clash-some n u v f (p .1) (sym (r .reply)) in
+    record {
+      reply = sym (then-passed (assignmentChecks n t (length w) (length v)) (decided (refuted n t)) e ∙ rw (← d));
+      lent = reduced-lent n t w w' false l r;
+      written = record {
+        size = rw filled (fillDown-length n n (reduceUpTo n n u) v);
+        rest = rw filled (fillDown-rest n n (reduceUpTo n n u) v (omega arith));
+        kept = λ c. clash refl c;
+      };
+      meaning = λ c. rw filled (same-satisfies n u t (assignmentOf (fillDown n (reduceUpTo n n u) n v)) (same-back n t u same) s);
+      range = λ c i h. rw filled (filled-range n (reduceUpTo n n u) v (reduce-layered n u f) (p .1) i h);
+      none = λ c. (λ g. absurd (refused-done (sym g)), λ z. absurd (z _ (same-satisfies n u t _ (same-back n t u same) s)));
+    }
+
+-- ---- the workspace, as the two calls use it
+
+copy-whole : (n m workspace : ℕ) (t w u : List ℤ) → Lending n (length t) workspace → m ≡ tableSize n → u ≡ change m (copying t) w
+    → u ≡ change (blockStart n) (copying t) w
+copy-whole n m workspace t w u l d e = let p : m ≡ blockStart n = d ∙ l .served .size in rw p at e
+
+pub copy-fits : (n m : ℕ) (t w u : List ℤ) → Lending n (length t) (length w) → Fits n t → m ≡ tableSize n → u ≡ change m (copying t) w → Fits n u
+copy-fits n m t w u l f d e =
+    rw (copy-whole n m (length w) t w u l d e) (same-fits n t (change (blockStart n) (copying t) w) (copied n t w (l .served .room) (l .long)) f)
+
+pub copy-reduced : (n m : ℕ) (t w u w' : List ℤ) (b c : Bool) → Lending n (length t) (length w) → m ≡ tableSize n → u ≡ change m (copying t) w → b ≡ c
+    → Reduced n u b w' → Reduced n (change (blockStart n) (copying t) w) c w'
+copy-reduced n m t w u w' b c l d e f r = rw (f, copy-whole n m (length w) t w u l d e) at r
+
+pub copy-layered : (n m : ℕ) (t w u w' : List ℤ) (b : Bool) → Lending n (length t) (length w) → Fits n t → m ≡ tableSize n → u ≡ change m (copying t) w
+    → b ≡ false → Reduced n u b w' → Layered n w'
+copy-layered n m t w u w' b l f d e g r = rw (r .table g) (reduce-layered n u (copy-fits n m t w u l f d e))

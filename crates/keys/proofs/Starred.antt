@@ -1,0 +1,129 @@
+-- Document 01's starred cases about keys and refusal 5, as one table. Every case is computed by the definitions that the contracts cite.
+-- Assumes nothing.
+use mathlib.Core.Path.{_≡_, refl}
+use mathlib.Core.List.{List, [], _∷_}
+use Prim.Native.Nat.{ℕ, zero, suc}
+use lib.IntN.{ℤ, pos, negsuc}
+use Rattle.integers.specs.Bound.{half, smaller}
+use Rattle.words.specs.Change.{changeFrom, change, lowered}
+use Rattle.places.specs.Numbering.{blockStart, placeOfOne, placeOfPair, placeOfTwo, findTwo, blockUpTo, blockOf, offsetOf, isOne, higherAt, lowerAt}
+use Rattle.rules.specs.declared.rule.Rule.{Rule}
+use Rattle.rules.specs.Hidden.{hiddenIn}
+use Rattle.rules.specs.Meaning.{names}
+use Rattle.rules.specs.Steps.{ruleOf, halvedOf}
+use Rattle.tables.specs.Places.{ruleAt, findPlace}
+use Rattle.tables.specs.Tables.{tableSize, serves, putAt, putHalved, putRule, putAll, tableOf, cleared, replyNumber, inLimit, wordsInLimit}
+use Rattle.elimination.specs.Hiding.{withSum, withHalf, bareBelow, pairWord, onOne, onTwo, lowestAt, pairing, anyBare, paired, contradicts, eliminated}
+use Rattle.keys.specs.Keys.{hideUpTo, keyOf, refutedUpTo, refuted, andThen, longEnough, withinLimit, lentChecks, keyChecks, decided, keyReply}
+
+-- a sheet of n quantities with its hidden set, bit q - 1 for quantity q, and its rules as written; the paper's number of the reply, 0 where the
+-- key is made; and the key's rules as written, none where the call is refused
+pub record Case : Type 0 where
+  pub n : ℕ
+  pub set : ℕ
+  pub rules : List Rule
+  pub reply : ℕ
+  pub key : List Rule
+
+-- the sheet's table, and its key
+abbrev pub sheetTable : Case → List ℤ
+sheetTable c = tableOf (c .n) (c .rules)
+
+abbrev pub keyTable : Case → List ℤ
+keyTable c = keyOf (hiddenIn (c .set)) (c .n) (sheetTable c)
+
+-- the number of the reply to the sheet's table, with a workspace just long enough
+abbrev pub replyTo : Case → ℕ
+replyTo c = replyNumber (keyReply (c .n) (c .set) (sheetTable c) (blockStart (c .n)))
+
+-- asked only where the reply is 0
+abbrev pub WhereDone : ℕ → Type 0 → Type 0
+WhereDone zero X = X
+WhereDone (suc r) X = Unit {0}
+
+-- the reply has its number, and where that is 0 the key is the table of the key's rules
+abbrev pub Passes : Case → Type 0
+Passes c = (replyTo c ≡ c .reply) × WhereDone (c .reply) (keyTable c ≡ tableOf (c .n) (c .key))
+
+abbrev pub AllPass : List Case → Type 0
+AllPass [] = Unit {0}
+AllPass (c ∷ cs) = Passes c × AllPass cs
+
+-- sheet A: hidden 2, +1+2:5, +1-2:2, +3-2:0 give +1:3, +1+3:5
+abbrev pub sheetA : Case
+sheetA = record {
+  n = 3;
+  set = 2;
+  rules = ruleOf (pos 1) (pos 2) (pos 5) ∷ ruleOf (pos 1) (negsuc 1) (pos 2) ∷ ruleOf (pos 3) (negsuc 1) (pos 0) ∷ [];
+  reply = 0;
+  key = ruleOf (pos 1) (pos 0) (pos 3) ∷ ruleOf (pos 1) (pos 3) (pos 5) ∷ [];
+}
+
+-- nothing hidden, +1+1:-1 gives +1:-1
+abbrev pub halvedBelow : Case
+halvedBelow = record {
+  n = 1;
+  set = 0;
+  rules = ruleOf (pos 1) (pos 1) (negsuc 0) ∷ [];
+  reply = 0;
+  key = ruleOf (pos 1) (pos 0) (negsuc 0) ∷ [];
+}
+
+-- +1+1:1, -1-1:-1 are refused by 5, though one half fits
+abbrev pub oneHalf : Case
+oneHalf = record {
+  n = 1;
+  set = 0;
+  rules = ruleOf (pos 1) (pos 1) (pos 1) ∷ ruleOf (negsuc 0) (negsuc 0) (negsuc 0) ∷ [];
+  reply = 5;
+  key = [];
+}
+
+-- hidden 1, +1+2:1, -1-2:-1, +1-2:0, -1+2:0 are refused by 5, seen only after both quantities go
+abbrev pub seenLate : Case
+seenLate = record {
+  n = 2;
+  set = 1;
+  rules =
+      ruleOf (pos 1) (pos 2) (pos 1) ∷ ruleOf (negsuc 0) (negsuc 1) (negsuc 0) ∷ ruleOf (pos 1) (negsuc 1) (pos 0)
+      ∷ ruleOf (negsuc 0) (pos 2) (pos 0) ∷ [];
+  reply = 5;
+  key = [];
+}
+
+-- hidden 2, +1+2:0 gives no rules
+abbrev pub unpaired : Case
+unpaired = record { n = 2; set = 2; rules = ruleOf (pos 1) (pos 2) (pos 0) ∷ []; reply = 0; key = [] }
+
+-- hidden 2, +1-2:1000000000, +2-3:1000000000 give +1-3:2000000000
+abbrev pub largest : Case
+largest = record {
+  n = 3;
+  set = 2;
+  rules = ruleOf (pos 1) (negsuc 1) (pos 1000000000) ∷ ruleOf (pos 2) (negsuc 2) (pos 1000000000) ∷ [];
+  reply = 0;
+  key = ruleOf (pos 1) (negsuc 2) (pos 2000000000) ∷ [];
+}
+
+-- hidden 1, no rules give no rules
+abbrev pub noRules : Case
+noRules = record { n = 1; set = 1; rules = []; reply = 0; key = [] }
+
+-- in document 01's order
+abbrev pub starred : List Case
+starred = sheetA ∷ halvedBelow ∷ oneHalf ∷ seenLate ∷ unpaired ∷ largest ∷ noRules ∷ []
+
+-- `unfolding steps` lets every definition compute that a case uses
+unfoldable pub steps : Unit {0}
+unfolding
+    half smaller changeFrom change lowered
+    blockStart placeOfOne placeOfPair placeOfTwo findTwo blockUpTo blockOf offsetOf isOne higherAt lowerAt
+    names ruleOf halvedOf ruleAt findPlace tableSize serves putAt putHalved putRule putAll cleared inLimit wordsInLimit
+    withSum withHalf bareBelow pairWord onOne onTwo lowestAt pairing anyBare paired contradicts eliminated
+    hideUpTo keyOf refutedUpTo refuted andThen longEnough withinLimit lentChecks keyChecks decided keyReply
+steps = tt
+
+-- every case passes, by computing
+pub starred-pass : AllPass starred
+unfolding steps
+starred-pass = ((refl, refl), ((refl, refl), ((refl, tt), ((refl, tt), ((refl, refl), ((refl, refl), ((refl, refl), tt)))))))

@@ -1,0 +1,2 @@
+-- What the exported functions' proofs share.
+pub mod Promised

@@ -23,7 +23,8 @@ use Rattle.elimination.specs.Hiding.{pairWord, loneWord, paired, contrad
 use Rattle.elimination.specs.Choosing.{chosen}
 use Rattle.elimination.proofs.Projection.{own-sums, sums-own}
 use Rattle.elimination.specs.Magnitude.{Past}
-use Rattle.elimination.proofs.Terms.{TermsMet, Others, OwnOf, pair-sym, pair-apart, satisfies-met, without-met, met-some, sums-some, met-own, met-join, literal-agree, met-agree, own-agree, sums-agree}
+use Rattle.elimination.proofs.TermWords.{pair-sym, pair-apart}
+use Rattle.elimination.proofs.Terms.{TermsMet, Others, OwnOf, satisfies-met, without-met, met-some, sums-some, met-own, met-join, literal-agree, met-agree, own-agree, sums-agree}
 use Rattle.elimination.proofs.Step.{SumsOf, Adds, paired-length, pair-early, lone-early, step-lower, step-met, step-clear, step-sums}
 
 -- ---- literals

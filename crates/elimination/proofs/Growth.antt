@@ -21,10 +21,12 @@ use Rattle.tables.specs.Places.{ruleAt}
 use Rattle.tables.specs.Tables.{hasRule, clearing, cleared}
 use Rattle.tables.specs.Meaning.{HoldsRule, ruleIn, WordsWithin}
 use Rattle.tables.proofs.Tests.{clash}
+use Rattle.tables.proofs.Without.{cleared-word}
 use Rattle.tables.proofs.Places.{own-named, four-named}
 use Rattle.elimination.specs.Hiding.{pairWord, loneWord, onOne, onTwo, lowestAt, pairing, paired, eliminated}
 use Rattle.elimination.specs.Magnitude.{Past, OwnWithin, Unnamed}
-use Rattle.elimination.proofs.PairedWords.{onOne-elim, onTwo-elim, quantity-cases, pair-own, pair-first, pair-second, lone-within, pair-within, lone-elim, pair-elim}
+use Rattle.elimination.proofs.TermWords.{quantity-cases, pair-same, pair-first, pair-second, lone-within, pair-within}
+use Rattle.elimination.proofs.PairedWords.{onOne-elim, onTwo-elim, lone-elim, pair-elim}
 use Rattle.elimination.proofs.Step.{paired-length}
 
 -- ---- bounds by terms
@@ -101,11 +103,6 @@ paired-within from n j B t l h w =
 
 -- ---- clearing
 
--- a cleared table's words
-pub cleared-word : (n q : ℕ) (t : List ℤ) (k : ℕ) → blockStart n ≤ length t → k < blockStart n → wordAt (cleared n q t) k ≡ clearing q k (wordAt t k)
-unfolding cleared
-cleared-word n q t k l h = change-below (blockStart n) (clearing q) t k h (omega arith)
-
 -- clearing a quantity's places enlarges nothing
 pub cleared-within : (n q : ℕ) (B : ℤ) (t : List ℤ) → blockStart n ≤ length t → WordsWithin (blockStart n) B t → WordsWithin (blockStart n) B (cleared n q t)
 cleared-within n q B t l w = record { each = λ k h g. rw (cleared-word n q t k l h) (go k h (names q (ruleAt k (wordAt t k)))) }
@@ -139,7 +136,7 @@ module _ (n j : ℕ) (t : List ℤ) (l : blockStart n ≤ length t) (u : Unnamed
   pub unnamed-pair : (z x : ℕ) → z < 2 * n → x < 2 * n → z / 2 ≡ j → hasRule (pairWord t z x) ≡ false
   unnamed-pair z x h g e =
       quantity-cases (hasRule (pairWord t z x) ≡ false) z x
-      (λ s. rw (pair-own t z x s))
+      (λ s. rw (pair-same t z x s))
       (λ o. rw (pair-first t z x o)
       (unnamed-none (placeOfPair z x) (pair-below n z x o g) (four-named j (placeOfPair z x) _ (omega (arith, pair-offset z x o)) (omega (arith, pair-offset z x o)))))
       (λ o. rw (pair-second t x z o)

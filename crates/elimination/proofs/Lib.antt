@@ -1,6 +1,7 @@
 -- The laws of the step that proofs above cite: the elimination of one integer, a table term by term, the words of a paired table, what a step
 -- means, that hiding is exact, and how much it enlarges bounds; then what the functions' proofs share.
 pub mod Projection
+pub mod TermWords
 pub mod Terms
 pub mod PairedWords
 pub mod Step

@@ -20,6 +20,7 @@ use Rattle.rules.specs.Limits.{noRule}
 use Rattle.tables.specs.Tables.{hasRule}
 use Rattle.tables.specs.Meaning.{WordsWithin}
 use Rattle.tables.proofs.Tests.{clash}
+use Rattle.elimination.proofs.TermWords.{quantity-cases, pair-same, pair-first, pair-second}
 use Rattle.elimination.specs.Hiding.{withSum, withHalf, pairWord, loneWord, onOne, onTwo, lowestAt, pairing, paired}
 
 -- ---- one word
@@ -166,49 +167,6 @@ onTwo-sym plus minus x y w = let h = below x y in let k = below y x in omega lin
         (λ d e. omega (linear, onTwo-minus plus minus x y w e d, parts-add (plus y) (minus x), parts-add (minus x) (plus y)))
         (λ d e. omega (linear, onTwo-plus plus minus x y w e d, parts-add (minus y) (plus x), parts-add (plus x) (minus y)))
 
--- ---- words by terms
-
--- two literals are of one quantity, or of two in either order
-pub quantity-cases : (P : Type 0) (x y : ℕ) → (x / 2 ≡ y / 2 → P) → (x / 2 < y / 2 → P) → (y / 2 < x / 2 → P) → P
-quantity-cases P x y same below above = go (eqb (x / 2) (y / 2)) refl (ltb (x / 2) (y / 2)) refl
-  where
-    go : (b : Bool) → eqb (x / 2) (y / 2) ≡ b → (c : Bool) → ltb (x / 2) (y / 2) ≡ c → P
-    go true e c d = same (eqb-true (x / 2) (y / 2) e)
-    go false e true d = below (ltb-true (x / 2) (y / 2) d)
-    go false e false d =
-        let n : x / 2 ≡ y / 2 → ⊥ = eqb-false (x / 2) (y / 2) e in
-        let l : y / 2 ≤ x / 2 = ltb-false (x / 2) (y / 2) d in above (omega arith)
-
--- two literals of one quantity have no rule together; those of two have the word of their place, whichever comes first
-pub pair-own : (t : List ℤ) (x y : ℕ) → x / 2 ≡ y / 2 → pairWord t x y ≡ noRule
-unfolding pairWord
-pair-own t x y e = rw (eq-eqb (y / 2) (x / 2) (sym e))
-
-pub pair-first : (t : List ℤ) (x y : ℕ) → x / 2 < y / 2 → pairWord t x y ≡ wordAt t (placeOfPair x y)
-unfolding pairWord placeOfTwo
-pair-first t x y l = rw (ne-eqb (y / 2) (x / 2) (λ e. omega arith), le-ltb y x (omega arith))
-
-pub pair-second : (t : List ℤ) (x y : ℕ) → x / 2 < y / 2 → pairWord t y x ≡ wordAt t (placeOfPair x y)
-unfolding pairWord placeOfTwo
-pair-second t x y l = rw (ne-eqb (x / 2) (y / 2) (λ e. omega arith), lt-ltb x y (omega arith))
-
--- so a word of two literals that holds a rule is of two quantities
-pub pair-own-none : (t : List ℤ) (x y : ℕ) → x / 2 ≡ y / 2 → hasRule (pairWord t x y) ≡ true → ⊥
-pair-own-none t x y e r = clash {b = hasRule noRule} (rw (pair-own t x y e) at r) refl
-
--- a term's word that holds a rule is within the limit of the words
-pub lone-within : (n : ℕ) (B : ℤ) (t : List ℤ) (x : ℕ) → blockStart n ≤ length t → WordsWithin (blockStart n) B t → x < 2 * n
-    → hasRule (loneWord t x) ≡ true → Within B (loneWord t x)
-lone-within n B t x l w h e = w .each (placeOfOne x) (one-below n x h) (omega (arith, one-below n x h)) e
-
-pub pair-within : (n : ℕ) (B : ℤ) (t : List ℤ) (x y : ℕ) → blockStart n ≤ length t → WordsWithin (blockStart n) B t → x < 2 * n → y < 2 * n
-    → hasRule (pairWord t x y) ≡ true → Within B (pairWord t x y)
-pair-within n B t x y l w h k =
-    quantity-cases (hasRule (pairWord t x y) ≡ true → Within B (pairWord t x y)) x y
-    (λ e r. absurd (pair-own-none t x y e r))
-    (λ o. rw (pair-first t x y o) (λ r. w .each (placeOfPair x y) (pair-below n x y o k) (omega (arith, pair-below n x y o k)) r))
-    (λ o. rw (pair-second t y x o) (λ r. w .each (placeOfPair y x) (pair-below n y x o h) (omega (arith, pair-below n y x o h)) r))
-
 -- ---- the words of the paired table
 
 module _ (from n j : ℕ) (t : List ℤ) (l : blockStart n ≤ length t) where
@@ -312,7 +270,7 @@ module _ (from n j : ℕ) (t : List ℤ) (l : blockStart n ≤ length t) where
       → P (pairWord (paired from n j t) x y)
   pair-elim P x y h k w a b =
       quantity-cases (P (pairWord (paired from n j t) x y)) x y
-      (λ e. rw (pair-own (paired from n j t) x y e) (rw (pair-own t x y e) at w))
+      (λ e. rw (pair-same (paired from n j t) x y e) (rw (pair-same t x y e) at w))
       (λ o. rw (pair-first (paired from n j t) x y o)
       (ordered-elim P x y o k (rw (pair-first t x y o) at w) a (λ f g d e. turned (pairWord t (2 * j) y) (pairWord t (2 * j + 1) x) (b f g e d))))
       (λ o. rw (pair-second (paired from n j t) y x o)
@@ -336,7 +294,7 @@ module _ (from n j : ℕ) (t : List ℤ) (l : blockStart n ≤ length t) where
   pub pair-lowered : (x y : ℕ) → x < 2 * n → y < 2 * n → pairWord (paired from n j t) x y ≤ℤ pairWord t x y
   pair-lowered x y h k =
       quantity-cases (pairWord (paired from n j t) x y ≤ℤ pairWord t x y) x y
-      (λ e. rw (pair-own (paired from n j t) x y e, pair-own t x y e) (≤ℤ-refl noRule))
+      (λ e. rw (pair-same (paired from n j t) x y e, pair-same t x y e) (≤ℤ-refl noRule))
       (λ o. rw (pair-first (paired from n j t) x y o, pair-first t x y o) (ordered-lowered x y o k))
       (λ o. rw (pair-second (paired from n j t) y x o, pair-second t y x o) (ordered-lowered y x o h))
 

@@ -27,7 +27,8 @@ use Rattle.tables.proofs.Tests.{clash}
 use Rattle.elimination.specs.Hiding.{bareBelow, pairWord, loneWord, anyBare, paired, contradicts}
 use Rattle.elimination.proofs.Projection.{Sums}
 use Rattle.elimination.proofs.Terms.{TermsMet, Others}
-use Rattle.elimination.proofs.PairedWords.{hasRule-mono, pair-own-none, lone-within, pair-within, lone-elim, lone-lowered, lone-plus, lone-minus, lone-half, pair-elim, pair-lowered, pair-sum}
+use Rattle.elimination.proofs.TermWords.{pair-apart, lone-within, pair-within}
+use Rattle.elimination.proofs.PairedWords.{hasRule-mono, lone-elim, lone-lowered, lone-plus, lone-minus, lone-half, pair-elim, pair-lowered, pair-sum}
 
 -- the sums of quantity j + 1 hold
 abbrev pub SumsOf : (ℕ → Type 0) → ℕ → List ℤ → Assignment → Type 0
@@ -50,15 +51,15 @@ paired-length from n j t = change-length (blockStart n) _ t
 pub pair-kept : (from n j : ℕ) (t : List ℤ) (z x : ℕ) → blockStart n ≤ length t → z < 2 * n → x < 2 * n → z / 2 ≡ j → pairWord (paired from n j t) z x ≡ pairWord t z x
 pair-kept from n j t z x l h g e =
     pair-elim from n j t l (λ (w : ℤ). w ≡ pairWord t z x) z x h g refl
-    (λ a b c d. absurd (pair-own-none t (2 * j) z (omega arith) c))
-    (λ a b c d. absurd (pair-own-none t (2 * j + 1) z (omega arith) d))
+    (λ a b c d. absurd (pair-apart t (2 * j) z c (omega arith)))
+    (λ a b c d. absurd (pair-apart t (2 * j + 1) z d (omega arith)))
 
 pub lone-kept : (from n j : ℕ) (t : List ℤ) (z : ℕ) → blockStart n ≤ length t → z < 2 * n → z / 2 ≡ j → loneWord (paired from n j t) z ≡ loneWord t z
 lone-kept from n j t z l h e =
     lone-elim from n j t l (λ (w : ℤ). w ≡ loneWord t z) z h refl
-    (λ a c d. absurd (pair-own-none t (2 * j) z (omega arith) c))
-    (λ a c d. absurd (pair-own-none t (2 * j + 1) z (omega arith) c))
-    (λ a c d. absurd (pair-own-none t (2 * j) z (omega arith) c))
+    (λ a c d. absurd (pair-apart t (2 * j) z c (omega arith)))
+    (λ a c d. absurd (pair-apart t (2 * j + 1) z c (omega arith)))
+    (λ a c d. absurd (pair-apart t (2 * j) z c (omega arith)))
 
 pub pair-early : (from n j : ℕ) (t : List ℤ) (z x : ℕ) → blockStart n ≤ length t → z < 2 * n → x < 2 * n → z < 2 * from → pairWord (paired from n j t) z x ≡ pairWord t z x
 pair-early from n j t z x l h g e =
@@ -162,7 +163,7 @@ step-clear from n j t σ h s =
         → pos 0 ≤ℤ (pairWord t (2 * j) x +ℤ pairWord t (2 * j + 1) (negated x))
     go x f l true e c d =
         let q = eqb-true (x / 2) j e in
-        absurd (pair-own-none t (2 * j) x (omega arith) c)
+        absurd (pair-apart t (2 * j) x c (omega arith))
     go x f l false e c d =
         let q = eqb-false (x / 2) j e in
         let k = s .both x (negated x) (f, l, q) (omega arith, omega arith, λ u. q (omega arith)) c d in

@@ -12,8 +12,7 @@ use lib.Signed.{_≤ℤ_}
 use borrow.Author.Tests.{ltb-true, ltb-false, lt-ltb, le-ltb, eq-eqb, ne-eqb}
 use Rattle.words.specs.Change.{wordAt}
 use Rattle.places.specs.Numbering.{blockStart, placeOfOne, placeOfPair, placeOfTwo, isOne, higherAt, lowerAt, offsetOf}
-use Rattle.places.proofs.Numbering.{one-below, pair-below, one-isOne, one-higher, pair-isOne, pair-higher, higher-half, at-one, at-lower, at-pair, at-below}
-use Rattle.places.proofs.Numbering as numbering
+use Rattle.places.proofs.Numbering.{one-below, pair-below, one-isOne, one-higher, pair-isOne, pair-higher, pair-lower, higher-half, at-one, at-lower, at-pair, at-below}
 use Rattle.rules.specs.declared.rule.Rule.the-variants.{One, Two}
 use Rattle.rules.specs.Limits.{noRule}
 use Rattle.rules.specs.Literal.{quantityOf}
@@ -27,6 +26,7 @@ use Rattle.tables.proofs.Places.{own-named, four-named, not-named}
 use Rattle.elimination.specs.Magnitude.{Past}
 use Rattle.elimination.specs.Hiding.{pairWord, loneWord}
 use Rattle.elimination.proofs.Projection.{Sums, Own}
+use Rattle.elimination.proofs.TermWords.{pair-none, pair-first, pair-sym}
 
 -- an assignment meets every rule of a table whose literals are all In
 pub record TermsMet (In : ℕ → Type 0) (t : List ℤ) (σ : Assignment) : Type 0 where
@@ -40,40 +40,6 @@ Others from n j x = (2 * from ≤ x) × (x < 2 * n) × (x / 2 ≡ j → ⊥)
 -- the integer of quantity j + 1 keeps its bounds with the literals In
 abbrev pub OwnOf : (ℕ → Type 0) → ℕ → List ℤ → Assignment → Type 0
 OwnOf In j t σ = Own In (literalValue σ) (pairWord t (2 * j)) (pairWord t (2 * j + 1)) (loneWord t (2 * j)) (loneWord t (2 * j + 1)) (σ (suc j))
-
--- ---- the word of two literals
-
--- two of one quantity have no rule together
-pub pair-same : (t : List ℤ) (x y : ℕ) → x / 2 ≡ y / 2 → pairWord t x y ≡ noRule
-unfolding pairWord
-pair-same t x y e = rw (eq-eqb (y / 2) (x / 2) (sym e))
-
-pub pair-none : (t : List ℤ) (x y : ℕ) → x / 2 ≡ y / 2 → hasRule (pairWord t x y) ≡ false
-pair-none t x y e = rw (pair-same t x y e)
-
--- so two that have one are of two quantities
-pub pair-apart : (t : List ℤ) (x y : ℕ) → hasRule (pairWord t x y) ≡ true → x / 2 ≡ y / 2 → ⊥
-pair-apart t x y r e = clash r (pair-none t x y e)
-
--- the word is that of their place, whichever is named first
-pub pair-lower : (t : List ℤ) (x y : ℕ) → x / 2 < y / 2 → pairWord t x y ≡ wordAt t (placeOfPair x y)
-unfolding pairWord placeOfTwo
-pair-lower t x y h = rw (ne-eqb (y / 2) (x / 2) (omega arith), le-ltb y x (omega arith))
-
-pub pair-upper : (t : List ℤ) (x y : ℕ) → y / 2 < x / 2 → pairWord t x y ≡ wordAt t (placeOfPair y x)
-unfolding pairWord placeOfTwo
-pair-upper t x y h = rw (ne-eqb (y / 2) (x / 2) (omega arith), lt-ltb y x (omega arith))
-
--- so their order does not matter
-pub pair-sym : (t : List ℤ) (x y : ℕ) → pairWord t x y ≡ pairWord t y x
-pair-sym t x y = go (ltb (x / 2) (y / 2)) refl (ltb (y / 2) (x / 2)) refl
-  where
-    go : (a : Bool) → ltb (x / 2) (y / 2) ≡ a → (b : Bool) → ltb (y / 2) (x / 2) ≡ b → pairWord t x y ≡ pairWord t y x
-    go true d b e = let l = ltb-true (x / 2) (y / 2) d in pair-lower t x y l ∙ sym (pair-upper t y x l)
-    go false d true e = let l = ltb-true (y / 2) (x / 2) e in pair-upper t x y l ∙ sym (pair-lower t y x l)
-    go false d false e =
-        let same : x / 2 ≡ y / 2 = omega (arith, ltb-false (x / 2) (y / 2) d, ltb-false (y / 2) (x / 2) e) in
-        pair-same t x y same ∙ sym (pair-same t y x (sym same))
 
 -- ---- from the rules of places to those of terms and back
 
@@ -92,7 +58,7 @@ lone-met σ x c m = (rw (rule-one (placeOfOne x) c (one-isOne x), one-higher x) 
 
 pair-met : (σ : Assignment) (x y : ℕ) (c : ℤ) → x / 2 < y / 2 → Meets σ (ruleAt (placeOfPair x y) c) → (literalValue σ x +ℤ literalValue σ y) ≤ℤ c
 pair-met σ x y c l m =
-    (rw (rule-two (placeOfPair x y) c (pair-isOne x y l), pair-higher x y l, numbering.pair-lower x y l) at m) .met
+    (rw (rule-two (placeOfPair x y) c (pair-isOne x y l), pair-higher x y l, pair-lower x y l) at m) .met
 
 -- terms on the literals In are met where the rules of their places are
 places-met : (n : ℕ) (In : ℕ → Type 0) (t : List ℤ) (σ : Assignment) → ((x : ℕ) → In x → x < 2 * n)
@@ -107,10 +73,10 @@ places-met n In t σ below each = record { one = one-of; two = λ x y i k. two-o
 
     ordered : (x y : ℕ) → In x → In y → x / 2 < y / 2 → hasRule (pairWord t x y) ≡ true → (literalValue σ x +ℤ literalValue σ y) ≤ℤ pairWord t x y
     ordered x y i k l r =
-        rw (pair-lower t x y l)
+        rw (pair-first t x y l)
         (pair-met σ x y (wordAt t (placeOfPair x y)) l
-        (each (placeOfPair x y) (pair-below n x y l (below y k)) (rw (pair-lower t x y l) at r) (rw (pair-higher x y l) k)
-        (λ e. rw (numbering.pair-lower x y l) i)))
+        (each (placeOfPair x y) (pair-below n x y l (below y k)) (rw (pair-first t x y l) at r) (rw (pair-higher x y l) k)
+        (λ e. rw (pair-lower x y l) i)))
 
     two-of : (x y : ℕ) → In x → In y → (a : Bool) → ltb (x / 2) (y / 2) ≡ a → (b : Bool) → ltb (y / 2) (x / 2) ≡ b
         → hasRule (pairWord t x y) ≡ true → (literalValue σ x +ℤ literalValue σ y) ≤ℤ pairWord t x y
@@ -131,7 +97,7 @@ met-place In t σ k m high low r = go (isOne k) refl
         rw (rule-one k (wordAt t k) e) (record { met = rw (at-one k e) at (m .one (higherAt k) high (rw (at-one k e) r)) })
     go false e =
         let word : pairWord t (lowerAt k) (higherAt k) ≡ wordAt t k =
-        pair-lower t (lowerAt k) (higherAt k) (at-lower k e) ∙ ap (wordAt t) (at-pair k e)
+        pair-first t (lowerAt k) (higherAt k) (at-lower k e) ∙ ap (wordAt t) (at-pair k e)
         in
         rw (rule-two k (wordAt t k) e)
         (record { met = rw word at (m .two (lowerAt k) (higherAt k) (low e) high (rw word r)) })

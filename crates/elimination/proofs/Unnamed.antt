@@ -17,13 +17,14 @@ use Rattle.rules.specs.Meaning.{names}
 use Rattle.tables.specs.Places.{ruleAt}
 use Rattle.tables.specs.Tables.{hasRule, cleared}
 use Rattle.tables.specs.Meaning.{ruleIn}
+use Rattle.tables.proofs.Without.{cleared-word}
 use Rattle.tables.proofs.Tests.{clash}
 use Rattle.elimination.specs.Hiding.{pairWord, loneWord, paired, eliminated}
 use Rattle.elimination.specs.Magnitude.{Unnamed}
-use Rattle.elimination.proofs.Terms.{pair-sym}
-use Rattle.elimination.proofs.PairedWords.{pair-first, pair-second, lone-elim, pair-elim}
+use Rattle.elimination.proofs.TermWords.{pair-first, pair-second, pair-sym}
+use Rattle.elimination.proofs.PairedWords.{lone-elim, pair-elim}
 use Rattle.elimination.proofs.Step.{paired-length}
-use Rattle.elimination.proofs.Growth.{cleared-word, unnamed-lone, unnamed-pair}
+use Rattle.elimination.proofs.Growth.{unnamed-lone, unnamed-pair}
 
 -- ---- by terms
 

@@ -1,6 +1,6 @@
 -- What the calls' checks answer, and what it tells that they pass. Assumes nothing.
 use mathlib.Core.Path.{_≡_, refl, sym, _∙_}
-use mathlib.Core.Bool.{Bool, true, false, cond, _&&_}
+use mathlib.Core.Bool.{Bool, true, false, cond, _&&_, and-false}
 use mathlib.Core.List.{List}
 use Prim.Native.Nat.{ℕ, _≤_, _<_}
 use native.Mathlib.Omega.{arith}
@@ -22,7 +22,6 @@ use Rattle.tables.proofs.Sizes.{Served, serves-tells}
 use Rattle.keys.specs.Keys.{andThen, longEnough, withinLimit, lentChecks, sheetWords, keyChecks, assignmentChecks}
 use Rattle.keys.specs.Reducing.{Fits}
 use Rattle.keys.proofs.Fitting.{sheet-fits}
-use Rattle.keys.proofs.Several.{and-false}
 
 -- ---- one check after the other
 

@@ -1,21 +1,25 @@
 -- 'No assignment' as the program decides it is document 01's, and is given exactly when no integers satisfy the table. Assumes nothing.
-use mathlib.Core.Path.{_≡_, refl, sym}
-use mathlib.Core.Bool.{Bool, true, false, cond}
+use mathlib.Core.Path.{_≡_, refl, sym, _∙_}
+use mathlib.Core.Bool.{Bool, true, false}
 use mathlib.Core.Logic.{_↔_}
 use mathlib.Core.List.{List}
-use Prim.Native.Nat.{ℕ, _≤_}
+use Prim.Native.Nat.{ℕ, zero, suc, _≤_}
 use native.Mathlib.Omega.{arith}
 use lib.IntN.{ℤ, pos}
 use lib.ListN.{length, replicate, length-replicate}
+use borrow.Author.Tests.{le-leb}
 use Rattle.tables.specs.Meaning.{Satisfies, assignmentOf}
-use Rattle.rules.specs.declared.refusal.Refusal.the-variants.{NoAssignment}
-use Rattle.tables.specs.declared.reply.Reply.the-variants.{Done, Refused}
-use Rattle.tables.proofs.Tests.{refused-done}
-use Rattle.keys.specs.Keys.{every, refuted, decided}
+use Rattle.words.specs.Change.{change, copying}
+use Rattle.words.proofs.Change.{change-drop}
+use Rattle.places.specs.Numbering.{blockStart}
+use Rattle.rules.specs.Limits.{maxQuantities}
+use Rattle.tables.specs.Tables.{tableSize}
+use Rattle.tables.proofs.Tests.{clash}
+use Rattle.keys.specs.Keys.{every, refuted}
 use Rattle.keys.specs.Reducing.{reduceUpTo, clashUpTo, fillDown, Fits}
-use Rattle.keys.specs.Promises.{Satisfiable, Unsatisfiable}
+use Rattle.keys.specs.Promises.{Satisfiable, Unsatisfiable, Reduced, Decided}
 use Rattle.keys.proofs.Several.{refuted-true, refuted-false}
-use Rattle.keys.proofs.Copying.{SameTable, same-back, same-satisfies, same-fits}
+use Rattle.keys.proofs.Copying.{SameTable, copied, same-back, same-satisfies, same-fits}
 use Rattle.keys.proofs.Fitting.{hide-ample}
 use Rattle.keys.proofs.Reducing.{reduceUpTo-length, reduce-only, reduce-closed, clash-none}
 use Rattle.keys.proofs.Filling.{filled-satisfies}
@@ -49,13 +53,42 @@ clash-refuted n t u same f = go (clashUpTo n n u) refl (refuted n t) refl
         (same-satisfies n u t (s .assignment) (same-back n t u same) (s .satisfies)))
     go false d false e = refl
 
--- 5 exactly when no integers satisfy the table
-pub none-exactly : (n : ℕ) (t : List ℤ) → Fits n t → (decided (refuted n t) ≡ Refused NoAssignment) ↔ Unsatisfiable n t
-unfolding decided
-none-exactly n t f = go (refuted n t) refl
+-- the decision is true exactly when no integers satisfy the table
+pub refuted-exactly : (n : ℕ) (t : List ℤ) → Fits n t → (refuted n t ≡ true) ↔ Unsatisfiable n t
+refuted-exactly n t f = (refuted-true n t (hide-ample every n t f), λ u. go u (refuted n t) refl)
   where
-    go : (b : Bool) → refuted n t ≡ b → (cond b (Refused NoAssignment) Done ≡ Refused NoAssignment) ↔ Unsatisfiable n t
-    go true e = (λ d. refuted-true n t (hide-ample every n t f) e, λ u. refl)
-    go false e =
-        let s = refuted-false n t (f .grows .room) (hide-ample every n t f) e in
-        (λ d. absurd (refused-done (sym d)), λ u. absurd (u (s .assignment) (s .satisfies)))
+    go : Unsatisfiable n t → (b : Bool) → refuted n t ≡ b → b ≡ true
+    go u true e = refl
+    go u false e =
+        let s = refuted-false n t (f .grows .room) (hide-ample every n t f) e in absurd (u (s .assignment) (s .satisfies))
+
+-- ---- in the workspace
+
+-- the size asked for is that of the table
+size-whole : (n : ℕ) → n ≤ maxQuantities → tableSize n ≡ blockStart n
+unfolding tableSize blockStart
+size-whole zero h = refl
+size-whole (suc n) h = rw (le-leb 1 (suc n) (omega arith), le-leb (suc n) maxQuantities h)
+
+copy-whole : (n m : ℕ) (t w u : List ℤ) → n ≤ maxQuantities → m ≡ tableSize n → u ≡ change m (copying t) w → u ≡ change (blockStart n) (copying t) w
+copy-whole n m t w u h d e = let p : m ≡ blockStart n = d ∙ size-whole n h in rw p at e
+
+pub copy-fits : (n m : ℕ) (t w u : List ℤ) → Fits n t → blockStart n ≤ length w → m ≡ tableSize n → u ≡ change m (copying t) w → Fits n u
+copy-fits n m t w u f l d e =
+    rw (copy-whole n m t w u (f .most) d e) (same-fits n t (change (blockStart n) (copying t) w) (copied n t w (f .grows .room) l) f)
+
+-- a copy reduced decides the table
+pub copy-decides : (n m : ℕ) (t w u w' : List ℤ) (r : Bool) → Fits n t → blockStart n ≤ length w → m ≡ tableSize n → u ≡ change m (copying t) w
+    → length w' ≡ length w → Reduced n u r w' → Decided n t w r w'
+copy-decides n m t w u w' r f l d e g p = record {
+  reply = same;
+  meaning = rw same (refuted-exactly n t f);
+  words = λ h. p .table h ∙ rw whole;
+  lent = record { size = g; rest = p .rest ∙ rw whole (change-drop (blockStart n) (copying t) w); kept = λ h. clash refl h };
+}
+  where
+    whole : u ≡ change (blockStart n) (copying t) w
+    whole = copy-whole n m t w u (f .most) d e
+
+    same : r ≡ refuted n t
+    same = p .reply ∙ rw whole (clash-refuted n t (change (blockStart n) (copying t) w) (copied n t w (f .grows .room) l) f)

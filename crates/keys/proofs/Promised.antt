@@ -8,7 +8,7 @@ use native.Mathlib.Omega.{arith}
 use lib.IntN.{ℤ}
 use lib.ListN.{length, drop}
 use Rattle.words.specs.Change.{change, copying}
-use Rattle.words.proofs.Change.{change-length, change-drop}
+use Rattle.words.proofs.Change.{change-drop}
 use Rattle.places.specs.Numbering.{blockStart}
 use Rattle.rules.specs.declared.refusal.Refusal.{Refusal}
 use Rattle.rules.specs.declared.refusal.Refusal.the-variants.{NoAssignment}
@@ -22,13 +22,13 @@ use Rattle.tables.specs.Meaning.{Satisfies, assignmentOf}
 use Rattle.elimination.specs.Hiding.{paired, eliminated}
 use Rattle.keys.specs.Keys.{every, hideUpTo, keyOf, refuted, decided, keyChecks, keyReply, assignmentChecks, assignmentReply}
 use Rattle.keys.specs.Reducing.{reduceUpTo, fillDown, Fits, Layered}
-use Rattle.keys.specs.Promises.{Lent, Keyed, Assigned, Reduced, Satisfiable, Unsatisfiable}
+use Rattle.keys.specs.Promises.{Lent, Keyed, Assigned, Decided}
 use Rattle.keys.proofs.Several.{key-exact, key-visible, refuted-false}
 use Rattle.keys.proofs.Fitting.{hide-ample}
 use Rattle.keys.proofs.Copying.{SameTable, copied, same-back, same-satisfies, same-fits}
 use Rattle.keys.proofs.Reducing.{reduce-layered}
 use Rattle.keys.proofs.Filling.{fillDown-length, fillDown-rest, filled-range}
-use Rattle.keys.proofs.Deciding.{clash-some, clash-refuted, none-exactly}
+use Rattle.keys.proofs.Deciding.{clash-some, clash-refuted}
 use Rattle.keys.proofs.Checking.{then-passed, then-refused, Lending, key-tells, assignment-tells}
 
 -- ---- words past the table's
@@ -55,15 +55,6 @@ rest-key hidden n t = rest-hidden hidden n n t
 untouched : (m : ℕ) (free : Bool) (w : List ℤ) → Lent m free w w
 untouched m free w = record { size = refl; rest = refl; kept = λ e. refl }
 
--- the workspace after the table was copied to it and reduced
-reduced-lent : (n : ℕ) (t w w' : List ℤ) (b : Bool) → length w' ≡ length w → Reduced n (change (blockStart n) (copying t) w) b w'
-    → Lent (blockStart n) true w w'
-reduced-lent n t w w' b l r = record {
-  size = l;
-  rest = r .rest ∙ change-drop (blockStart n) (copying t) w;
-  kept = λ e. clash refl e;
-}
-
 -- ---- the key call
 
 pub key-refused : (n set : ℕ) (t w : List ℤ) (r : Reply) (f : Refusal) → r ≡ keyChecks n set t (length w) → r ≡ Refused f → Keyed n set t w r t w
@@ -79,42 +70,30 @@ key-refused n set t w r f e d = record {
   none = λ c. absurd (refused-done (sym d ∙ e ∙ c));
 }
 
--- what the key call knows once the workspace is reduced: the decision is document 01's
-key-decided : (n set : ℕ) (t w w' : List ℤ) (b : Bool) → keyChecks n set t (length w) ≡ Done
-    → Reduced n (change (blockStart n) (copying t) w) b w' → b ≡ refuted n t
-key-decided n set t w w' b e r =
-    let p = key-tells n set (length w) t e in
-    r .reply ∙ clash-refuted n t (change (blockStart n) (copying t) w) (copied n t w (p .0 .served .room) (p .0 .long)) (p .1)
-
-pub key-none : (n set : ℕ) (t w w' : List ℤ) → keyChecks n set t (length w) ≡ Done → length w' ≡ length w
-    → Reduced n (change (blockStart n) (copying t) w) true w' → Keyed n set t w (Refused NoAssignment) t w'
+pub key-none : (n set : ℕ) (t w w' : List ℤ) → keyChecks n set t (length w) ≡ Done → Decided n t w true w' → Keyed n set t w (Refused NoAssignment) t w'
 unfolding keyReply decided
-key-none n set t w w' e l r =
-    let d : true ≡ refuted n t = key-decided n set t w w' true e r in
-    let f = key-tells n set (length w) t e .1 in
-    record {
-      reply = sym (then-passed (keyChecks n set t (length w)) (decided (refuted n t)) e ∙ rw (← d));
-      words = refl;
-      rest = refl;
-      lent = reduced-lent n t w w' true l r;
-      meaning = λ c. absurd (refused-done c);
-      visible = λ c. absurd (refused-done c);
-      some = λ c. absurd (refused-done c);
-      none = λ c. (λ g. none-exactly n t f .0 (rw (← d)), λ u. refl);
-    }
+key-none n set t w w' e d = record {
+  reply = sym (then-passed (keyChecks n set t (length w)) (decided (refuted n t)) e ∙ rw (← d .reply));
+  words = refl;
+  rest = refl;
+  lent = d .lent;
+  meaning = λ c. absurd (refused-done c);
+  visible = λ c. absurd (refused-done c);
+  some = λ c. absurd (refused-done c);
+  none = λ c. (λ g. d .meaning .0 refl, λ u. refl);
+}
 
-pub key-done : (n set : ℕ) (t w t' w' : List ℤ) → keyChecks n set t (length w) ≡ Done → length w' ≡ length w
-    → Reduced n (change (blockStart n) (copying t) w) false w' → t' ≡ keyOf (hiddenIn set) n t → Keyed n set t w Done t' w'
+pub key-done : (n set : ℕ) (t w t' w' : List ℤ) → keyChecks n set t (length w) ≡ Done → Decided n t w false w' → t' ≡ keyOf (hiddenIn set) n t
+    → Keyed n set t w Done t' w'
 unfolding keyReply decided
-key-done n set t w t' w' e l r k =
-    let d : false ≡ refuted n t = key-decided n set t w w' false e r in
+key-done n set t w t' w' e d k =
     let f = key-tells n set (length w) t e .1 in
-    let s = refuted-false n t (f .grows .room) (hide-ample every n t f) (sym d) in
+    let s = refuted-false n t (f .grows .room) (hide-ample every n t f) (sym (d .reply)) in
     record {
-      reply = sym (then-passed (keyChecks n set t (length w)) (decided (refuted n t)) e ∙ rw (← d));
+      reply = sym (then-passed (keyChecks n set t (length w)) (decided (refuted n t)) e ∙ rw (← d .reply));
       words = k;
       rest = rw k (rest-key (hiddenIn set) n t);
-      lent = reduced-lent n t w w' false l r;
+      lent = d .lent;
       meaning = λ c σ. rw k (key-exact (hiddenIn set) n t (s .assignment) (hide-ample (hiddenIn set) n t f) (s .satisfies) σ);
       visible = λ c. rw k (key-visible (hiddenIn set) n t (f .grows .room));
       some = λ c. s;
@@ -135,41 +114,37 @@ assignment-refused n t w v r f e d = record {
   none = λ c. absurd (refused-done (sym d ∙ e ∙ c));
 }
 
-assignment-decided : (n : ℕ) (t w w' v : List ℤ) (b : Bool) → assignmentChecks n t (length w) (length v) ≡ Done
-    → Reduced n (change (blockStart n) (copying t) w) b w' → b ≡ refuted n t
-assignment-decided n t w w' v b e r =
-    let p = assignment-tells n (length w) (length v) t e in
-    r .reply ∙ clash-refuted n t (change (blockStart n) (copying t) w) (copied n t w (p .0 .served .room) (p .0 .long)) (p .2)
-
-pub assignment-none : (n : ℕ) (t w v w' : List ℤ) → assignmentChecks n t (length w) (length v) ≡ Done → length w' ≡ length w
-    → Reduced n (change (blockStart n) (copying t) w) true w' → Assigned n t w v (Refused NoAssignment) w' v
+pub assignment-none : (n : ℕ) (t w v w' : List ℤ) → assignmentChecks n t (length w) (length v) ≡ Done → Decided n t w true w'
+    → Assigned n t w v (Refused NoAssignment) w' v
 unfolding assignmentReply decided
-assignment-none n t w v w' e l r =
-    let d : true ≡ refuted n t = assignment-decided n t w w' v true e r in
-    let f = assignment-tells n (length w) (length v) t e .2 in
-    record {
-      reply = sym (then-passed (assignmentChecks n t (length w) (length v)) (decided (refuted n t)) e ∙ rw (← d));
-      lent = reduced-lent n t w w' true l r;
-      written = untouched n _ v;
-      meaning = λ c. absurd (refused-done c);
-      range = λ c. absurd (refused-done c);
-      none = λ c. (λ g. none-exactly n t f .0 (rw (← d)), λ u. refl);
-    }
+assignment-none n t w v w' e d = record {
+  reply = sym (then-passed (assignmentChecks n t (length w) (length v)) (decided (refuted n t)) e ∙ rw (← d .reply));
+  lent = d .lent;
+  written = untouched n _ v;
+  meaning = λ c. absurd (refused-done c);
+  range = λ c. absurd (refused-done c);
+  none = λ c. (λ g. d .meaning .0 refl, λ u. refl);
+}
 
-pub assignment-done : (n : ℕ) (t w v w' v' : List ℤ) → assignmentChecks n t (length w) (length v) ≡ Done → length w' ≡ length w
-    → Reduced n (change (blockStart n) (copying t) w) false w' → v' ≡ fillDown n w' n v → Assigned n t w v Done w' v'
+-- the table that the values are read from
+pub decided-layered : (n : ℕ) (t w w' : List ℤ) (r : Bool) → Fits n t → blockStart n ≤ length w → r ≡ false → Decided n t w r w' → Layered n w'
+decided-layered n t w w' r f l e d =
+    rw (d .words e) (reduce-layered n (change (blockStart n) (copying t) w)
+    (same-fits n t (change (blockStart n) (copying t) w) (copied n t w (f .grows .room) l) f))
+
+pub assignment-done : (n : ℕ) (t w v w' v' : List ℤ) → assignmentChecks n t (length w) (length v) ≡ Done → Decided n t w false w' → v' ≡ fillDown n w' n v
+    → Assigned n t w v Done w' v'
 unfolding assignmentReply decided
-assignment-done n t w v w' v' e l r k =
-    let d : false ≡ refuted n t = assignment-decided n t w w' v false e r in
+assignment-done n t w v w' v' e d k =
     let p = assignment-tells n (length w) (length v) t e in
     let u : List ℤ = change (blockStart n) (copying t) w in
     let same : SameTable n t u = copied n t w (p .0 .served .room) (p .0 .long) in
     let f : Fits n u = same-fits n t u same (p .2) in
-    let filled : v' ≡ fillDown n (reduceUpTo n n u) n v = k ∙ rw (r .table refl) in
-    let s = clash-some n u v f (p .1) (sym (r .reply)) in
+    let filled : v' ≡ fillDown n (reduceUpTo n n u) n v = k ∙ rw (d .words refl) in
+    let s = clash-some n u v f (p .1) (clash-refuted n t u same (p .2) ∙ sym (d .reply)) in
     record {
-      reply = sym (then-passed (assignmentChecks n t (length w) (length v)) (decided (refuted n t)) e ∙ rw (← d));
-      lent = reduced-lent n t w w' false l r;
+      reply = sym (then-passed (assignmentChecks n t (length w) (length v)) (decided (refuted n t)) e ∙ rw (← d .reply));
+      lent = d .lent;
       written = record {
         size = rw filled (fillDown-length n n (reduceUpTo n n u) v);
         rest = rw filled (fillDown-rest n n (reduceUpTo n n u) v (omega arith));
@@ -179,21 +154,3 @@ assignment-done n t w v w' v' e l r k =
       range = λ c i h. rw filled (filled-range n (reduceUpTo n n u) v (reduce-layered n u f) (p .1) i h);
       none = λ c. (λ g. absurd (refused-done (sym g)), λ z. absurd (z _ (same-satisfies n u t _ (same-back n t u same) s)));
     }
-
--- ---- the workspace, as the two calls use it
-
-copy-whole : (n m workspace : ℕ) (t w u : List ℤ) → Lending n (length t) workspace → m ≡ tableSize n → u ≡ change m (copying t) w
-    → u ≡ change (blockStart n) (copying t) w
-copy-whole n m workspace t w u l d e = let p : m ≡ blockStart n = d ∙ l .served .size in rw p at e
-
-pub copy-fits : (n m : ℕ) (t w u : List ℤ) → Lending n (length t) (length w) → Fits n t → m ≡ tableSize n → u ≡ change m (copying t) w → Fits n u
-copy-fits n m t w u l f d e =
-    rw (copy-whole n m (length w) t w u l d e) (same-fits n t (change (blockStart n) (copying t) w) (copied n t w (l .served .room) (l .long)) f)
-
-pub copy-reduced : (n m : ℕ) (t w u w' : List ℤ) (b c : Bool) → Lending n (length t) (length w) → m ≡ tableSize n → u ≡ change m (copying t) w → b ≡ c
-    → Reduced n u b w' → Reduced n (change (blockStart n) (copying t) w) c w'
-copy-reduced n m t w u w' b c l d e f r = rw (f, copy-whole n m (length w) t w u l d e) at r
-
-pub copy-layered : (n m : ℕ) (t w u w' : List ℤ) (b : Bool) → Lending n (length t) (length w) → Fits n t → m ≡ tableSize n → u ≡ change m (copying t) w
-    → b ≡ false → Reduced n u b w' → Layered n w'
-copy-layered n m t w u w' b l f d e g r = rw (r .table g) (reduce-layered n u (copy-fits n m t w u l f d e))

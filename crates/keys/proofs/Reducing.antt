@@ -23,16 +23,16 @@ use Rattle.elimination.specs.Hiding.{pairWord, loneWord, paired, contradicts}
 use Rattle.elimination.specs.Promises.{Ready, Paired}
 use Rattle.elimination.specs.Magnitude.{Past, OwnWithin, Unnamed}
 use Rattle.elimination.proofs.Projection.{Sums}
-use Rattle.elimination.proofs.Terms.{TermsMet, pair-sym, pair-apart}
-use Rattle.elimination.proofs.PairedWords.{quantity-cases}
-use Rattle.elimination.proofs.Step.{SumsOf, paired-length, pair-early, lone-early, step-lower}
+use Rattle.elimination.proofs.Terms.{TermsMet}
+use Rattle.elimination.proofs.TermWords.{quantity-cases, pair-sym, pair-apart}
+use Rattle.elimination.proofs.Step.{SumsOf, neither, paired-length, pair-early, lone-early, step-lower}
 use Rattle.elimination.proofs.Exact.{upward-room, upward-met, upward-lower}
 use Rattle.elimination.proofs.Growth.{TermsWithin, terms-mono, terms-own, words-terms, upward-within, unnamed-lone, unnamed-pair}
 use Rattle.elimination.proofs.Unnamed.{unnamed-paired}
 use Rattle.keys.specs.Reducing.{reduceUpTo, clashUpTo, Grows, Fits, Layered}
 use Rattle.keys.specs.Promises.{Reduced}
 use Rattle.keys.proofs.Fitting.{limit-rises}
-use Rattle.keys.proofs.Several.{Ample, or-either, or-neither}
+use Rattle.keys.proofs.Several.{Ample, or-either}
 
 pub reduceUpTo-length : (n m : ℕ) (t : List ℤ) → length (reduceUpTo n m t) ≡ length t
 unfolding reduceUpTo
@@ -268,7 +268,7 @@ pub reduce-closed : (n m : ℕ) (t : List ℤ) (f : Fits n t) → m ≤ n → cl
 unfolding reduceUpTo clashUpTo
 reduce-closed n zero t f h e = λ i g. let z : ⊥ = omega arith in absurd z
 reduce-closed n (suc j) t f h e =
-    let p = or-neither (clashUpTo n j t) (contradicts (suc j) n j (reduceUpTo n j t)) e in
+    let p = neither (clashUpTo n j t) (contradicts (suc j) n j (reduceUpTo n j t)) .0 e in
     λ i g σ. go (reduce-closed n j t f (omega arith) (p .0)) (p .1) i g σ (ltb i j) refl
   where
     u : List ℤ

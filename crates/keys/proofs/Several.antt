@@ -1,7 +1,7 @@
 -- Several quantities hidden in increasing number: demand 2 for tables, by induction over exact steps, and 'no assignment' for all quantities.
 -- Assumes nothing.
 use mathlib.Core.Path.{_≡_, refl, _∙_, sym, ap}
-use mathlib.Core.Bool.{Bool, true, false, cond, _&&_, _||_}
+use mathlib.Core.Bool.{Bool, true, false, cond, _&&_, _||_, and-false, or-false}
 use mathlib.Core.List.{List}
 use mathlib.Core.Logic.{_↔_, _⊎_, inl, inr}
 use Prim.Native.Nat.{ℕ, zero, suc, _+_, _≤_, _<_}
@@ -20,7 +20,7 @@ use Rattle.tables.proofs.Meanings.{in-range, satisfies-agree}
 use Rattle.tables.proofs.Places.{own-named}
 use Rattle.elimination.specs.Hiding.{contradicts, eliminated}
 use Rattle.elimination.specs.Magnitude.{Unnamed}
-use Rattle.elimination.proofs.Step.{Adds}
+use Rattle.elimination.proofs.Step.{Adds, neither}
 use Rattle.elimination.proofs.Exact.{eliminate-exact, eliminate-none, eliminate-length}
 use Rattle.elimination.proofs.Unnamed.{eliminated-unnamed, unnamed-eliminated}
 use Rattle.keys.specs.Keys.{hideUpTo, keyOf, every, refutedUpTo, refuted}
@@ -62,14 +62,6 @@ keep-other hidden n j t e = let f : hidden (suc j) ≡ false = rw (add-one j) at
 
 abbrev pub upTo : (ℕ → Bool) → ℕ → ℕ → Bool
 upTo hidden m q = leb q m && hidden q
-
-pub and-false : (b : Bool) → (b && false) ≡ false
-and-false true = refl
-and-false false = refl
-
-or-false : (b : Bool) → (b || false) ≡ b
-or-false true = refl
-or-false false = refl
 
 leb-next : (q j : ℕ) → (q ≡ suc j → ⊥) → leb q (suc j) ≡ leb q j
 leb-next q j n = go (leb q j) refl
@@ -259,10 +251,6 @@ pub or-either : (a b : Bool) → (a || b) ≡ true → (a ≡ true) ⊎ (b ≡ t
 or-either true b e = inl refl
 or-either false b e = inr e
 
-pub or-neither : (a b : Bool) → (a || b) ≡ false → (a ≡ false) × (b ≡ false)
-or-neither true b e = clash refl e
-or-neither false b e = (refl, e)
-
 -- a contradiction on the way: no integers satisfy the table
 refuted-none : (n m : ℕ) (t : List ℤ) (σ : Assignment) → m ≤ n → AmpleUpTo every n t → refutedUpTo n m t ≡ true → Satisfies n t σ → ⊥
 unfolding refutedUpTo
@@ -285,7 +273,7 @@ refuted-some : (n m : ℕ) (t : List ℤ) (σ : Assignment) → m ≤ n → Ampl
 unfolding refutedUpTo hideUpTo
 refuted-some n zero t σ h a e s = record { assignment = σ; satisfies = s }
 refuted-some n (suc j) t σ h a e s =
-    let p = or-neither (refutedUpTo n j t) (contradicts 0 n j (hideUpTo every n j t)) e in
+    let p = neither (refutedUpTo n j t) (contradicts 0 n j (hideUpTo every n j t)) .0 e in
     let c = eliminate-exact n j 4611686018427387903 (hideUpTo every n j t) σ (a j (omega arith)) (omega arith) (p .1) .0 s in
     refuted-some n j t (joined (eqb (suc j)) σ (c .hiddens)) (omega arith) a (p .0) (c .complete)
 

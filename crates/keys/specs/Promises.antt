@@ -7,7 +7,7 @@ use Prim.Native.Nat.{ℕ, _<_}
 use lib.IntN.{ℤ, pos}
 use lib.ListN.{length, drop}
 use Rattle.integers.specs.Bound.{Within}
-use Rattle.words.specs.Change.{wordAt}
+use Rattle.words.specs.Change.{wordAt, change, copying}
 use Rattle.places.specs.Numbering.{blockStart}
 use Rattle.rules.specs.declared.refusal.Refusal.the-variants.{NoAssignment}
 use Rattle.rules.specs.Hidden.{hiddenIn}
@@ -16,7 +16,7 @@ use Rattle.tables.specs.declared.reply.Reply.{Reply}
 use Rattle.tables.specs.declared.reply.Reply.the-variants.{Done, Refused}
 use Rattle.tables.specs.Tables.{isDone}
 use Rattle.tables.specs.Meaning.{Satisfies, SheetAllows, NamesVisible, assignmentOf}
-use Rattle.keys.specs.Keys.{keyOf, keyChecks, keyReply, assignmentChecks, assignmentReply, freesWorkspace}
+use Rattle.keys.specs.Keys.{keyOf, refuted, keyChecks, keyReply, assignmentChecks, assignmentReply, freesWorkspace}
 use Rattle.keys.specs.Reducing.{reduceUpTo, clashUpTo}
 
 -- a lent slice of which the first m words are the program's choice where `free`, and stay where not; words past them always stay
@@ -61,3 +61,10 @@ pub record Reduced (n : ℕ) (before : List ℤ) (r : Bool) (after : List ℤ) :
   pub reply : r ≡ clashUpTo n n before
   pub table : r ≡ false → after ≡ reduceUpTo n n before
   pub rest : drop (blockStart n) after ≡ drop (blockStart n) before
+
+-- 'no assignment' decided of a table: true exactly when no integers satisfy it. Where some do, the workspace has its copy of the table reduced
+pub record Decided (n : ℕ) (table workspace : List ℤ) (r : Bool) (workspace' : List ℤ) : Type 0 where
+  pub reply : r ≡ refuted n table
+  pub meaning : (r ≡ true) ↔ Unsatisfiable n table
+  pub words : r ≡ false → workspace' ≡ reduceUpTo n n (change (blockStart n) (copying table) workspace)
+  pub lent : Lent (blockStart n) true workspace workspace'

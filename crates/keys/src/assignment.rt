@@ -1,6 +1,6 @@
 // The assignment call: integers that satisfy a table, or the refusal that there are none.
 use crate::checks;
-use crate::reduce;
+use crate::decide;
 use rules::refusal::Refusal;
 use rules::sheet::Sheet;
 use tables::reply::Reply;
@@ -49,8 +49,7 @@ pub fn assignment(n: usize, table: &[i64], workspace: &mut [i64], values: &mut [
     let Reply::Done = checked else {
         return checked;
     };
-    words::copy(workspace, table, tables::table::size(n));
-    if reduce::reduce(n, workspace) {
+    if decide::decide(n, table, workspace) {
         return Reply::Refused(Refusal::NoAssignment);
     }
     fill(n, workspace, values);

@@ -1,6 +1,6 @@
 // The key call: the sheet's table is replaced by its key.
 use crate::checks;
-use crate::reduce;
+use crate::decide;
 use rules::refusal::Refusal;
 use rules::sheet::Sheet;
 use tables::reply::Reply;
@@ -27,7 +27,7 @@ fn hide_member(n: usize, set: u32, table: &mut [i64], j: usize)
 }
 
 // Hides each quantity of the set in increasing number.
-pub fn hide_set(n: usize, set: u32, table: &mut [i64])
+fn hide_set(n: usize, set: u32, table: &mut [i64])
     requires { ⌜ Fits n (now table) ⌝ }
     ensures { λ _. ⌜ now (table .exit) ≡ keyOf (hiddenIn set) n (now (table .entry)) ⌝ }
 {
@@ -64,8 +64,7 @@ pub fn key(n: usize, hidden: u32, table: &mut [i64], workspace: &mut [i64]) -> R
     let Reply::Done = checked else {
         return checked;
     };
-    words::copy(workspace, table, tables::table::size(n));
-    if reduce::reduce(n, workspace) {
+    if decide::decide(n, table, workspace) {
         return Reply::Refused(Refusal::NoAssignment);
     }
     hide_set(n, hidden, table);

@@ -19,7 +19,8 @@ use Rattle.tables.specs.Meaning.{ruleIn, Satisfies, SatisfiesWithout}
 use Rattle.tables.proofs.Tests.{clash}
 use Rattle.tables.proofs.Values.{meets-named}
 
-cleared-word : (n q : ℕ) (t : List ℤ) (k : ℕ) → blockStart n ≤ length t → k < blockStart n → wordAt (cleared n q t) k ≡ clearing q k (wordAt t k)
+-- the word of a cleared table
+pub cleared-word : (n q : ℕ) (t : List ℤ) (k : ℕ) → blockStart n ≤ length t → k < blockStart n → wordAt (cleared n q t) k ≡ clearing q k (wordAt t k)
 unfolding cleared
 cleared-word n q t k l h = change-below (blockStart n) (clearing q) t k h (omega arith)
 

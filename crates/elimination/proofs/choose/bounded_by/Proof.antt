@@ -21,7 +21,7 @@ use Rattle.elimination.specs.Hiding.{addable, pairWord, loneWord}
 use Rattle.elimination.specs.Choosing.{withUpper, boundedBy}
 use Rattle.elimination.specs.Promises.{Choosable}
 use Rattle.elimination.proofs.Projection.{bounded-none, bounded-more}
-use Rattle.elimination.proofs.PairedWords.{lone-within, pair-within}
+use Rattle.elimination.proofs.TermWords.{lone-within, pair-within}
 use Rattle.elimination.proofs.Values.{literal-within}
 use Rattle.elimination.proofs.choose.bounded_by.Statement.{statement}
 use Rattle.elimination.proofs.choose.bounded_by.Tie as tie

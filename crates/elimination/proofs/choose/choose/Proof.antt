@@ -17,7 +17,7 @@ use Rattle.elimination.specs.Hiding.{addable, pairWord, loneWord}
 use Rattle.elimination.specs.Choosing.{boundedBy, chosen}
 use Rattle.elimination.specs.Promises.{Ready, Valued}
 use Rattle.elimination.proofs.Projection.{bounded-within}
-use Rattle.elimination.proofs.PairedWords.{lone-within, pair-within}
+use Rattle.elimination.proofs.TermWords.{lone-within, pair-within}
 use Rattle.elimination.proofs.Values.{literal-within, zero-less, zero-less-word}
 use Rattle.elimination.proofs.choose.choose.Statement.{statement}
 use Rattle.elimination.proofs.choose.choose.Tie as tie

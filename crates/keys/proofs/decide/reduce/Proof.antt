@@ -1,4 +1,4 @@
--- `reduce::reduce` meets its contract. The loop's invariant: the first j quantities are paired, with no contradiction. The measure is the quantities left.
+-- `decide::reduce` meets its contract. The loop's invariant: the first j quantities are paired, with no contradiction. The measure is the quantities left.
 -- Assumes nothing.
 use mathlib.Core.Path.{_≡_, refl, sym, _∙_}
 use mathlib.Core.Bool.{false}
@@ -10,8 +10,8 @@ use denote.Ref.{now}
 use borrow.Author.Needs.{needs}
 use Rattle.keys.specs.Reducing.{reduceUpTo, clashUpTo}
 use Rattle.keys.proofs.Reducing.{reduce-ready, reduce-none, reduce-more, clash-more, reduced-clash, reduced-clear}
-use Rattle.keys.proofs.reduce.reduce.Statement.{statement}
-use Rattle.keys.proofs.reduce.reduce.Tie as tie
+use Rattle.keys.proofs.decide.reduce.Statement.{statement}
+use Rattle.keys.proofs.decide.reduce.Tie as tie
 
 abbrev Inv-loop : tie.InvT-loop
 Inv-loop n table₀ j₀ table j = (j ≤ n) × (length table ≡ length table₀) × (table ≡ reduceUpTo n j table₀) × (clashUpTo n j table₀ ≡ false)

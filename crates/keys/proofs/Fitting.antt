@@ -5,6 +5,7 @@ use mathlib.Core.Bool.{Bool, true, false, cond}
 use mathlib.Core.List.{List}
 use mathlib.Core.Logic.{_⊎_, inl, inr}
 use Prim.Native.Nat.{ℕ, zero, suc, _+_, _*_, _≤_, _<_, _^_}
+use native.Mathlib.Nat.{mul-add, two-pow-succ}
 use native.Mathlib.Omega.{arith}
 use lib.Dec.{ltb}
 use lib.IntN.{ℤ, pos}
@@ -20,7 +21,7 @@ use Rattle.elimination.specs.Promises.{Ready}
 use Rattle.elimination.specs.Magnitude.{Unnamed}
 use Rattle.elimination.proofs.Growth.{eliminated-within, eliminated-unnamed-within}
 use Rattle.elimination.proofs.Unnamed.{unnamed-eliminated}
-use Rattle.keys.specs.Keys.{hideUpTo, sheetWords}
+use Rattle.keys.specs.Keys.{hideUpTo, keyOf, sheetWords}
 use Rattle.keys.specs.Reducing.{Grows, Fits}
 use Rattle.keys.proofs.Several.{Ample, AmpleUpTo, hideUpTo-length}
 
@@ -50,11 +51,18 @@ hide-unnamed hidden n (suc j) i t h l u = go (hide-unnamed hidden n j i t (omega
 
 -- ---- hiding several
 
-pub hide-within : (hidden : ℕ → Bool) (n m : ℕ) (limit reach : ℕ → ℕ) (t : List ℤ) → m ≤ n → Grows n limit reach t
+-- the limits of hiding: each hidden quantity that a rule names may double the bounds, others enlarge nothing
+pub record HideGrows (hidden : ℕ → Bool) (n : ℕ) (limit : ℕ → ℕ) (t : List ℤ) : Type 0 where
+  pub room : blockStart n ≤ length t
+  pub start : WordsWithin (blockStart n) (pos (limit 0)) t
+  pub rises : (j : ℕ) → j < n → limit j ≤ limit (suc j)
+  pub doubles : (j : ℕ) → j < n → hidden (suc j) ≡ true → (limit j + limit j ≤ limit (suc j)) ⊎ Unnamed n j t
+
+pub hide-within : (hidden : ℕ → Bool) (n m : ℕ) (limit : ℕ → ℕ) (t : List ℤ) → m ≤ n → HideGrows hidden n limit t
     → WordsWithin (blockStart n) (pos (limit m)) (hideUpTo hidden n m t)
 unfolding hideUpTo
-hide-within hidden n zero limit reach t h f = f .start
-hide-within hidden n (suc j) limit reach t h f = go (hide-within hidden n j limit reach t (omega arith) f) (hidden (suc j))
+hide-within hidden n zero limit t h f = f .start
+hide-within hidden n (suc j) limit t h f = go (hide-within hidden n j limit t (omega arith) f) (hidden (suc j)) refl
   where
     u : List ℤ
     u = hideUpTo hidden n j t
@@ -62,26 +70,60 @@ hide-within hidden n (suc j) limit reach t h f = go (hide-within hidden n j limi
     l : blockStart n ≤ length u
     l = omega (arith, hideUpTo-length hidden n j t, f .room)
 
-    step : WordsWithin (blockStart n) (pos (limit j)) u → (reach j ≡ limit j) ⊎ Unnamed n j t
+    step : WordsWithin (blockStart n) (pos (limit j)) u → (limit j + limit j ≤ limit (suc j)) ⊎ Unnamed n j t
         → WordsWithin (blockStart n) (pos (limit (suc j))) (eliminated n j u)
-    step w (inl e) =
-        let s = f .step j (omega arith) in
-        words-mono (blockStart n) (limit j + limit j) (limit (suc j)) (eliminated n j u) (omega (arith, s .1)) (eliminated-within n j (limit j) u l (omega arith) w)
+    step w (inl e) = words-mono (blockStart n) (limit j + limit j) (limit (suc j)) (eliminated n j u) e (eliminated-within n j (limit j) u l (omega arith) w)
     step w (inr v) =
-        let s = f .step j (omega arith) in
-        words-mono (blockStart n) (limit j) (limit (suc j)) (eliminated n j u) (omega (arith, s .1))
+        words-mono (blockStart n) (limit j) (limit (suc j)) (eliminated n j u) (f .rises j (omega arith))
         (eliminated-unnamed-within n j u l (hide-unnamed hidden n j j t (omega arith) (f .room) v) (limit j) (omega arith) w)
 
-    go : WordsWithin (blockStart n) (pos (limit j)) u → (b : Bool) → WordsWithin (blockStart n) (pos (limit (suc j))) (cond b (eliminated n j u) u)
-    go w true = step w (f .named j (omega arith))
-    go w false = let s = f .step j (omega arith) in words-mono (blockStart n) (limit j) (limit (suc j)) u (omega (arith, s .1)) w
+    go : WordsWithin (blockStart n) (pos (limit j)) u → (b : Bool) → hidden (suc j) ≡ b
+        → WordsWithin (blockStart n) (pos (limit (suc j))) (cond b (eliminated n j u) u)
+    go w true e = step w (f .doubles j (omega arith) e)
+    go w false e = words-mono (blockStart n) (limit j) (limit (suc j)) u (f .rises j (omega arith)) w
+
+-- how many of the first m quantities are hidden
+unfoldable pub hiddenCount : (ℕ → Bool) → ℕ → ℕ
+hiddenCount hidden zero = 0
+hiddenCount hidden (suc j) = cond (hidden (suc j)) (suc (hiddenCount hidden j)) (hiddenCount hidden j)
+
+doubled : (B c : ℕ) → B * 2 ^ suc c ≡ B * 2 ^ c + B * 2 ^ c
+doubled B c = rw (two-pow-succ c) (mul-add B (2 ^ c) (2 ^ c))
+
+-- so a key of a table within B, with k quantities hidden, is within B * 2 ^ k
+pub key-within : (hidden : ℕ → Bool) (n B : ℕ) (t : List ℤ) → blockStart n ≤ length t → WordsWithin (blockStart n) (pos B) t
+    → WordsWithin (blockStart n) (pos (B * 2 ^ hiddenCount hidden n)) (keyOf hidden n t)
+unfolding keyOf hiddenCount
+key-within hidden n B t l w = hide-within hidden n n (λ j. B * 2 ^ hiddenCount hidden j) t (omega arith) (record {
+  room = l;
+  start = words-mono (blockStart n) B (B * 2 ^ 0) t (omega arith) w;
+  rises = λ j h. rises j (hidden (suc j));
+  doubles = λ j h e. inl (rw (e, doubled B (hiddenCount hidden j)) (omega arith));
+})
+  where
+    rises : (j : ℕ) (b : Bool) → B * 2 ^ hiddenCount hidden j ≤ B * 2 ^ cond b (suc (hiddenCount hidden j)) (hiddenCount hidden j)
+    rises j true = rw (doubled B (hiddenCount hidden j)) (omega arith)
+    rises j false = omega arith
+
+-- limits that serve pairing serve hiding
+grows-hide : (hidden : ℕ → Bool) (n : ℕ) (limit reach : ℕ → ℕ) (t : List ℤ) → Grows n limit reach t → HideGrows hidden n limit t
+grows-hide hidden n limit reach t f = record {
+  room = f .room;
+  start = f .start;
+  rises = λ j h. let s = f .step j h in omega (arith, s .1);
+  doubles = λ j h e. go j h (f .named j h);
+}
+  where
+    go : (j : ℕ) → j < n → (reach j ≡ limit j) ⊎ Unnamed n j t → (limit j + limit j ≤ limit (suc j)) ⊎ Unnamed n j t
+    go j h (inl e) = let s = f .step j h in inl (omega (arith, s .1))
+    go j h (inr v) = inr v
 
 pub hide-ample : (hidden : ℕ → Bool) (n : ℕ) (t : List ℤ) → Fits n t → AmpleUpTo hidden n t
 hide-ample hidden n t f j h = record {
   room = omega (arith, hideUpTo-length hidden n j t, f .grows .room);
   words = words-mono (blockStart n) (f .limit j) 4611686018427387903 (hideUpTo hidden n j t)
       (omega (arith, limit-rises n (f .limit) (f .reach) (f .grows .step) j n (omega arith) (omega arith), f .last))
-      (hide-within hidden n j (f .limit) (f .reach) t (omega arith) (f .grows));
+      (hide-within hidden n j (f .limit) t (omega arith) (grows-hide hidden n (f .limit) (f .reach) t (f .grows)));
   fits = omega arith;
 }
 

@@ -5,15 +5,17 @@ use mathlib.Core.List.{List}
 use Prim.Native.Nat.{ℕ, suc, _+_, _*_, _/_, _%_, _≤_, _<_}
 use native.Mathlib.Numerals.{add-one}
 use native.Mathlib.Omega.{arith}
-use lib.Dec.{ltb}
+use lib.Dec.{ltb, eqb}
 use lib.IntN.{ℤ}
 use lib.ListN.{length, set}
-use borrow.Author.Tests.{ltb-false, lt-ltb, le-ltb}
+use borrow.Author.Tests.{ltb-false, lt-ltb, le-ltb, eqb-true, eqb-false}
 use Rattle.words.specs.Change.{wordAt, change, startingAt}
 use Rattle.words.proofs.Change.{change-nothing, change-same}
 use Rattle.places.specs.Numbering.{blockStart, placeOfOne, placeOfPair, blockOf, offsetOf, isOne, higherAt, lowerAt}
-use Rattle.places.proofs.Numbering.{blockStart-suc, block-unique, offset-place, one-isOne, one-higher, pair-isOne, pair-higher, pair-lower, at-lower, at-below}
-use Rattle.elimination.specs.Hiding.{pairWord, loneWord, onOne, onTwo, lowestAt, pairing, paired}
+use Rattle.places.proofs.Numbering.{blockStart-suc, block-unique, offset-place, one-isOne, one-higher, pair-isOne, pair-higher, pair-lower, higher-half, at-lower, at-below}
+use Rattle.elimination.specs.Hiding.{withSum, withHalf, pairWord, loneWord, onOne, onTwo, lowestAt, pairing, paired}
+use Rattle.tables.specs.Tables.{hasRule}
+use Rattle.elimination.proofs.PairedWords.{withSum-left, withSum-right, withHalf-left}
 use Rattle.elimination.proofs.Rows.{starting-none, starting-more, starting-on, Gathered}
 
 -- ---- the places of a block
@@ -135,6 +137,34 @@ module _ (from : ℕ) (plus minus : ℕ → ℤ) (p m : ℤ) where
       second =
           r ∙ one-more i (i + 1) (2 * b + 1) t u (one-minus b) (omega arith) (omega arith) (omega (arith, blockStart-suc b)) first
           ∙ ap (λ (c : ℕ). change c (startingAt i f) t) (omega arith)
+
+  -- where no rule has the block's quantity together with the one that is paired, nothing is put in
+  pairing-idle : (k : ℕ) (w : ℤ) → hasRule (plus (higherAt k)) ≡ false → hasRule (minus (higherAt k)) ≡ false → pairing from plus minus p m k w ≡ w
+  unfolding pairing onOne onTwo
+  pairing-idle k w a b = go (ltb (lowestAt k) (2 * from)) (isOne k)
+    where
+      y : ℕ
+      y = higherAt k
+
+      go : (c d : Bool) → cond c w (cond d (withHalf (plus y) (minus y) (withSum (plus y) m (withSum (minus y) p w)))
+          (withSum (plus (lowerAt k)) (minus y) (withSum (minus (lowerAt k)) (plus y) w))) ≡ w
+      go true d = refl
+      go false true = rw (withSum-left (minus y) p w b, withSum-left (plus y) m w a, withHalf-left (plus y) (minus y) w a)
+      go false false = rw (withSum-right (minus (lowerAt k)) (plus y) w a, withSum-right (plus (lowerAt k)) (minus y) w b)
+
+  pub block-idle : (b : ℕ) (t : List ℤ) → hasRule (plus (2 * b)) ≡ false → hasRule (minus (2 * b)) ≡ false → hasRule (plus (2 * b + 1)) ≡ false
+      → hasRule (minus (2 * b + 1)) ≡ false → t ≡ change (blockStart (suc b)) (startingAt (blockStart b) (pairing from plus minus p m)) t
+  block-idle b t a c d e = sym (change-nothing (blockStart (suc b)) (startingAt (blockStart b) f) t (λ k h. go k h (ltb k (blockStart b)) refl))
+    where
+      own : (k : ℕ) → blockOf k ≡ b → (o : Bool) → eqb (higherAt k) (2 * b) ≡ o → pairing from plus minus p m k (wordAt t k) ≡ wordAt t k
+      own k g true o = let s = eqb-true (higherAt k) (2 * b) o in pairing-idle k (wordAt t k) (rw s a) (rw s c)
+      own k g false o =
+          let s : higherAt k ≡ 2 * b + 1 = omega (arith, eqb-false (higherAt k) (2 * b) o, higher-half k) in
+          pairing-idle k (wordAt t k) (rw s d) (rw s e)
+
+      go : (k : ℕ) → k < blockStart (suc b) → (q : Bool) → ltb k (blockStart b) ≡ q → cond q (wordAt t k) (pairing from plus minus p m k (wordAt t k)) ≡ wordAt t k
+      go k h true q = refl
+      go k h false q = own k (block-unique b k (ltb-false k (blockStart b) q) h) (eqb (higherAt k) (2 * b)) refl
 
 -- ---- other rows
 

@@ -8,6 +8,8 @@ pub mod Step
 pub mod Exact
 pub mod Growth
 pub mod Unnamed
+pub mod DocumentTerms
+pub mod Document
 pub mod Values
 pub mod Sums
 pub mod Rows

@@ -1,6 +1,6 @@
--- Addable words: the sum of two fits. Assumes nothing.
-use mathlib.Core.Path.{_≡_}
-use mathlib.Core.Bool.{true}
+-- Words of rules: the sum of two addable ones fits, and what it tells that some hold none. Assumes nothing.
+use mathlib.Core.Path.{_≡_, refl}
+use mathlib.Core.Bool.{Bool, true, false, not, _||_}
 use native.Mathlib.Omega.{arith}
 use lib.IntN.{ℤ, _+ℤ_}
 use mir.Syntax.{w64}
@@ -8,6 +8,8 @@ use mir.Val.{SFits, toZ, ofZ}
 use Rattle.integers.proofs.Parts.{word-value}
 use Rattle.integers.proofs.Within.{sum-word}
 use Rattle.tables.specs.Tables.{hasRule}
+use Rattle.tables.proofs.Tests.{clash}
+use Rattle.elimination.specs.Hiding.{noneHeld}
 use Rattle.elimination.specs.Promises.{Addable}
 
 -- the sum of two addable words that hold rules is a word
@@ -17,3 +19,15 @@ sum-fits a b h k p q = sum-word {A = 4611686018427387903} {B = 46116860184273879
 -- a word that is addable is so read back from its bits
 pub adds-held : (w : ℤ) → SFits w64 w → Addable w → Addable (toZ w64 (ofZ w64 w))
 adds-held w f h = rw (word-value f) h
+
+-- what it tells that none of four words is a rule
+pub none-tells : (a b c d : ℤ) → noneHeld a b c d ≡ true → (hasRule a ≡ false) × (hasRule b ≡ false) × (hasRule c ≡ false) × (hasRule d ≡ false)
+unfolding noneHeld
+none-tells a b c d = go (hasRule a) (hasRule b) (hasRule c) (hasRule d)
+  where
+    go : (p q r s : Bool) → not (p || (q || (r || s))) ≡ true → (p ≡ false) × (q ≡ false) × (r ≡ false) × (s ≡ false)
+    go true q r s e = clash e refl
+    go false true r s e = clash e refl
+    go false false true s e = clash e refl
+    go false false false true e = clash e refl
+    go false false false false e = (refl, refl, refl, refl)

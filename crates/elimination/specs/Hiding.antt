@@ -1,7 +1,7 @@
 -- Hiding one quantity (document 01, 'Hiding'), in the field's terms eliminating it: each place by itself, with no order of work. Sums are read
 -- from places that name the quantity and go to places that do not, so every sum is one of rules as they stood before. Quantity j + 1 has the
 -- literals 2j with + and 2j + 1 with -.
-use mathlib.Core.Bool.{Bool, false, cond, _&&_, _||_}
+use mathlib.Core.Bool.{Bool, false, cond, not, _&&_, _||_}
 use mathlib.Core.List.{List}
 use Prim.Native.Nat.{ℕ, zero, suc, _+_, _*_, _/_}
 use lib.Dec.{leb, ltb, eqb}
@@ -27,6 +27,10 @@ withHalf a b w = cond (hasRule a && hasRule b) (smaller w (half (a +ℤ b))) w
 -- the bare sum 0 ≤ a + b of two bounds is a contradiction
 unfoldable pub bareBelow : ℤ → ℤ → Bool
 bareBelow a b = (hasRule a && hasRule b) && ltZ (a +ℤ b) (pos 0)
+
+-- none of four words is a rule
+unfoldable pub noneHeld : ℤ → ℤ → ℤ → ℤ → Bool
+noneHeld a b c d = not (hasRule a || (hasRule b || (hasRule c || hasRule d)))
 
 -- two bounds of at most this magnitude, 2 ^ 62 - 1, have a sum that is a bound too, and below the no-rule word
 abbrev pub addable : ℤ

@@ -8,7 +8,7 @@ ghost use Rattle.elimination.specs.Hiding.{anyBare};
 ghost use Rattle.elimination.specs.Promises.{Row};
 
 // Whether the bare sum of a literal and its negation, past the first `from` quantities, is a contradiction for one of `n` quantities.
-pub fn is_any_bare_below(n: usize, from: usize, plus: &[i64], minus: &[i64]) -> bool
+pub(crate) fn is_any_bare_below(n: usize, from: usize, plus: &[i64], minus: &[i64]) -> bool
     requires { ⌜ Row n (now plus) × Row n (now minus) × (from ≤ n) ⌝ }
     ensures { λ r. ⌜ r ≡ anyBare from (wordAt (now (plus .entry))) (wordAt (now (minus .entry))) (2 * n) ⌝ }
 {

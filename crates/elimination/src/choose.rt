@@ -2,12 +2,9 @@
 use crate::row;
 use rules::sheet::Sheet;
 ghost use mathlib.Core.Path.{_≡_};
-ghost use Prim.Native.Nat.{_+_, _-_, _*_, _/_, _<_, _≤_};
-ghost use lib.IntN.{negℤ};
+ghost use Prim.Native.Nat.{_+_, _-_, _*_, _/_, _<_};
 ghost use lib.ListN.{length};
 ghost use Rattle.words.specs.Change.{wordAt};
-ghost use Rattle.places.specs.Numbering.{blockStart};
-ghost use Rattle.rules.specs.Limits.{maxQuantities};
 ghost use Rattle.rules.specs.Meaning.{literalValue};
 ghost use Rattle.tables.specs.Meaning.{assignmentOf};
 ghost use Rattle.elimination.specs.Hiding.{pairWord, loneWord};

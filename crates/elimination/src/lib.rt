@@ -1,8 +1,8 @@
 // Hiding one quantity of a table in place (document 01, 'Hiding'). Every function here asks that the sums it makes fit; who calls it has
 // shown that.
-pub mod bare;
+mod bare;
 pub mod choose;
 pub mod hide;
 pub mod pair;
-pub mod row;
-pub mod word;
+mod row;
+mod word;

@@ -50,8 +50,16 @@ fn pair_one(table: &mut [i64], at: usize, a: i64, b: i64, p: i64, m: i64)
     table[at] = word::with_half(a, b, word::with_sum(a, m, word::with_sum(b, p, w)));
 }
 
-// Puts the sums in at the terms of the block of quantity `b + 1`.
-fn pair_block(table: &mut [i64], b: usize, from: usize, plus: &[i64], minus: &[i64], p: i64, m: i64)
+// Puts the sums in at every place of the block of quantity `b + 1`.
+fn pair_places(
+    table: &mut [i64],
+    b: usize,
+    from: usize,
+    plus: &[i64],
+    minus: &[i64],
+    p: i64,
+    m: i64,
+)
     requires { ⌜ (b < maxQuantities) × (from ≤ b) × (blockStart (suc b) ≤ length (now table)) × Row (suc b) (now plus) × Row (suc b) (now minus) × Addable p × Addable m ⌝ }
     ensures { λ _. ⌜ now (table .exit) ≡ change (blockStart (suc b)) (startingAt (blockStart b) (pairing from (wordAt (now (plus .entry))) (wordAt (now (minus .entry))) p m)) (now (table .entry)) ⌝ }
 {
@@ -60,6 +68,19 @@ fn pair_block(table: &mut [i64], b: usize, from: usize, plus: &[i64], minus: &[i
     pair_one(table, start, plus[y], minus[y], p, m);
     pair_one(table, start + 1, plus[y + 1], minus[y + 1], p, m);
     pair_twos(table, b, from, plus, minus);
+}
+
+// Puts the sums in at the terms of the block of quantity `b + 1`. None goes there where no rule has that quantity together with the one that is
+// paired, as in most blocks of a table with few rules.
+fn pair_block(table: &mut [i64], b: usize, from: usize, plus: &[i64], minus: &[i64], p: i64, m: i64)
+    requires { ⌜ (b < maxQuantities) × (from ≤ b) × (blockStart (suc b) ≤ length (now table)) × Row (suc b) (now plus) × Row (suc b) (now minus) × Addable p × Addable m ⌝ }
+    ensures { λ _. ⌜ now (table .exit) ≡ change (blockStart (suc b)) (startingAt (blockStart b) (pairing from (wordAt (now (plus .entry))) (wordAt (now (minus .entry))) p m)) (now (table .entry)) ⌝ }
+{
+    let y = 2 * b;
+    if word::are_none(plus[y], minus[y], plus[y + 1], minus[y + 1]) {
+        return;
+    }
+    pair_places(table, b, from, plus, minus, p, m);
 }
 
 // Puts the sums in, block after block.

@@ -10,7 +10,7 @@ ghost use Rattle.elimination.specs.Hiding.{gathering};
 ghost use Rattle.elimination.specs.Hiding.{pairWord as Hiding·pairWord};
 
 // The bound of the term of literals `z` and `x`; two of one quantity have no term together.
-pub fn pair_word(n: usize, table: &[i64], z: usize, x: usize) -> i64
+pub(crate) fn pair_word(n: usize, table: &[i64], z: usize, x: usize) -> i64
     requires { ⌜ (n ≤ maxQuantities) × (z < 2 * n) × (x < 2 * n) × (blockStart n ≤ length (now table)) ⌝ }
     ensures { λ r. ⌜ r ≡ Hiding·pairWord (now (table .entry)) z x ⌝ }
 {
@@ -26,7 +26,7 @@ pub fn pair_word(n: usize, table: &[i64], z: usize, x: usize) -> i64
 }
 
 // Gathers the bounds of `z` with each literal of `n` quantities past the first `from`.
-pub fn gather(n: usize, table: &[i64], z: usize, from: usize, row: &mut [i64])
+pub(crate) fn gather(n: usize, table: &[i64], z: usize, from: usize, row: &mut [i64])
     requires { ⌜ (n ≤ maxQuantities) × (z < 2 * n) × (from ≤ n) × (blockStart n ≤ length (now table)) × (2 * n ≤ length (now row)) ⌝ }
     ensures { λ _. ⌜ now (row .exit) ≡ change (2 * n) (startingAt (2 * from) (gathering (now (table .entry)) z)) (now (row .entry)) ⌝ }
 {

@@ -1,11 +1,11 @@
 // The operations on the words of a step: a sum put in by minimum, the same halved, and the test of a bare sum.
 use rules::sheet::Sheet;
 ghost use mathlib.Core.Path.{_≡_};
-ghost use Rattle.elimination.specs.Hiding.{withSum, withHalf, bareBelow};
+ghost use Rattle.elimination.specs.Hiding.{withSum, withHalf, bareBelow, noneHeld};
 ghost use Rattle.elimination.specs.Promises.{Addable};
 
 // `w` with the sum of two bounds put in by minimum; `w` where either is no rule.
-pub fn with_sum(a: i64, b: i64, w: i64) -> i64
+pub(crate) fn with_sum(a: i64, b: i64, w: i64) -> i64
     requires { ⌜ Addable a × Addable b ⌝ }
     ensures { λ r. ⌜ r ≡ withSum a b w ⌝ }
 {
@@ -18,7 +18,7 @@ pub fn with_sum(a: i64, b: i64, w: i64) -> i64
 }
 
 // `w` with the sum of two bounds, halved, put in by minimum; `w` where either is no rule.
-pub fn with_half(a: i64, b: i64, w: i64) -> i64
+pub(crate) fn with_half(a: i64, b: i64, w: i64) -> i64
     requires { ⌜ Addable a × Addable b ⌝ }
     ensures { λ r. ⌜ r ≡ withHalf a b w ⌝ }
 {
@@ -31,7 +31,7 @@ pub fn with_half(a: i64, b: i64, w: i64) -> i64
 }
 
 // Whether the bare sum of two bounds is a contradiction.
-pub fn is_bare_below(a: i64, b: i64) -> bool
+pub(crate) fn is_bare_below(a: i64, b: i64) -> bool
     requires { ⌜ Addable a × Addable b ⌝ }
     ensures { λ r. ⌜ r ≡ bareBelow a b ⌝ }
 {
@@ -41,4 +41,23 @@ pub fn is_bare_below(a: i64, b: i64) -> bool
         }
     }
     false
+}
+
+// Whether none of four words is a rule.
+pub(crate) fn are_none(a: i64, b: i64, c: i64, d: i64) -> bool
+    ensures { λ r. ⌜ r ≡ noneHeld a b c d ⌝ }
+{
+    if a < Sheet::NO_RULE {
+        return false;
+    }
+    if b < Sheet::NO_RULE {
+        return false;
+    }
+    if c < Sheet::NO_RULE {
+        return false;
+    }
+    if d < Sheet::NO_RULE {
+        return false;
+    }
+    true
 }

@@ -5,7 +5,7 @@ ghost use mathlib.Core.Path.{_≡_};
 ghost use Rattle.keys.specs.Keys.{lentChecks};
 
 // Whether a table and a workspace of so many words serve `n` quantities: 1 for `n` and the table, 6 for the workspace.
-pub fn lent(n: usize, table: usize, workspace: usize) -> Reply
+pub(crate) fn lent(n: usize, table: usize, workspace: usize) -> Reply
     ensures { λ r. ⌜ r ≡ lentChecks n table workspace ⌝ }
 {
     let served = tables::table::serves(n, table);

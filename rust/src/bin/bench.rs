@@ -1,8 +1,8 @@
-//! Times the linked library beside the same steps in ordinary Rust, at the largest sheet: 32 quantities, a rule at each of
-//! the 2,048 places, an assignment, 16 hidden quantities. One line for each call. A time is no failure.
+//! Times the linked library beside the same steps in ordinary Rust: 32 quantities, 16 of them hidden, an assignment, and
+//! rules at all 2,048 places or at 64 of them. One line for each call. A time is no failure.
 
 use judge::library::{Library, DONE};
-use judge::meaning::{size, terms, LIMIT, MOST_QUANTITIES};
+use judge::meaning::{size, terms, LIMIT, MOST_QUANTITIES, NO_RULE};
 use judge::plain;
 use judge::random::Random;
 use judge::sys::Linked;
@@ -15,9 +15,12 @@ const HIDDEN: u32 = 0x5555_5555;
 const CALLS: usize = 2_001;
 
 fn main() {
-    let sheet = full_sheet();
-    report("key", key_times(&sheet));
-    report("assignment", assignment_times(&sheet));
+    let dense = full_sheet();
+    let sparse = thinned(&dense);
+    for sheet in [&dense, &sparse] {
+        report("key", sheet, key_times(sheet));
+        report("assignment", sheet, assignment_times(sheet));
+    }
 }
 
 /// Rules around random integers, so that these are an assignment and every bound is within the limits.
@@ -28,6 +31,12 @@ fn full_sheet() -> Vec<i64> {
     let values: Vec<i64> = (0..N).map(|_| random.within(-reach, reach)).collect();
     let bound = |value: i128| value as i64 + random.within(0, slack);
     terms(N).iter().map(|term| term.value(&values)).map(bound).collect()
+}
+
+/// A rule of the sheet at every 32nd place, moved on by one from row to row so that all quantities are met.
+fn thinned(sheet: &[i64]) -> Vec<i64> {
+    let kept = |(place, &word): (usize, &i64)| if place % 32 == place / 32 % 32 { word } else { NO_RULE };
+    sheet.iter().enumerate().map(kept).collect()
 }
 
 /// The times of the library's calls and of the plain ones. The two take turns, so that both meet the same machine.
@@ -70,12 +79,12 @@ fn assignment_times(sheet: &[i64]) -> [Vec<Duration>; 2] {
     times
 }
 
-fn report(name: &str, times: [Vec<Duration>; 2]) {
+fn report(name: &str, sheet: &[i64], times: [Vec<Duration>; 2]) {
     let [library, plain] = times.map(median);
+    let rules = sheet.iter().filter(|&&word| word != NO_RULE).count();
     println!(
-        "{name}: ratio {:.2} (library {library:.1} us, plain Rust {plain:.1} us; medians of {CALLS} calls, n {N}, {} rules, buffers refilled before each)",
-        library / plain,
-        size(N)
+        "{name}, n {N}, {rules} rules: ratio {:.2} (library {library:.1} us, plain Rust {plain:.1} us; medians of {CALLS} calls, buffers refilled before each)",
+        library / plain
     );
 }
 

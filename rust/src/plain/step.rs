@@ -46,6 +46,9 @@ impl Rows {
     /// their words, for no row has a rule at its literals.
     fn add(&self, n: usize, table: &mut [i64], first: usize) {
         for r in first..n {
+            if !self.meets(r) {
+                continue;
+            }
             let (alone, pairs) = table[2 * r * r..2 * (r + 1) * (r + 1)].split_at_mut(2);
             alone[0] = alone[0].min(self.alone(2 * r));
             alone[1] = alone[1].min(self.alone(2 * r + 1));
@@ -56,6 +59,12 @@ impl Rows {
                 pair[1] = pair[1].min(sum(plus_x, minus[1])).min(sum(minus_x, plus[1]));
             }
         }
+    }
+
+    /// Is there a rule on quantity r and the one that is eliminated? Where there is none, no sum lands in the block of r.
+    fn meets(&self, r: usize) -> bool {
+        let none = |row: &[i64]| row[2 * r] == NO_RULE && row[2 * r + 1] == NO_RULE;
+        !(none(&self.plus) && none(&self.minus))
     }
 
     /// The smallest sum that bounds literal y alone: with a lone rule from either side, or doubled and halved.

@@ -20,7 +20,8 @@ use Rattle.places.proofs.Numbering.{pair-below}
 use Rattle.rules.specs.Limits.{noRule}
 use Rattle.rules.specs.Literal.{negated}
 use Rattle.tables.proofs.Tests.{clash}
-use Rattle.elimination.specs.Hiding.{pairWord, gathering, loneWord, bareBelow, anyBare, contradicts}
+use Rattle.elimination.specs.Hiding.{pairWord, loneWord, bareBelow, anyBare, contradicts}
+use Rattle.elimination.specs.Rows.{gathering}
 use Rattle.elimination.specs.Promises.{Addable, Ready, Row}
 
 -- ---- a change that starts at a place

@@ -9,7 +9,7 @@ use Rattle.integers.proofs.Parts.{word-value}
 use Rattle.integers.proofs.Within.{sum-word}
 use Rattle.tables.specs.Tables.{hasRule}
 use Rattle.tables.proofs.Tests.{clash}
-use Rattle.elimination.specs.Hiding.{noneHeld}
+use Rattle.elimination.specs.Rows.{noneHeld}
 use Rattle.elimination.specs.Promises.{Addable}
 
 -- the sum of two addable words that hold rules is a word

@@ -1,7 +1,7 @@
 -- Hiding one quantity (document 01, 'Hiding'), in the field's terms eliminating it: each place by itself, with no order of work. Sums are read
 -- from places that name the quantity and go to places that do not, so every sum is one of rules as they stood before. Quantity j + 1 has the
 -- literals 2j with + and 2j + 1 with -.
-use mathlib.Core.Bool.{Bool, false, cond, not, _&&_, _||_}
+use mathlib.Core.Bool.{Bool, false, cond, _&&_, _||_}
 use mathlib.Core.List.{List}
 use Prim.Native.Nat.{ℕ, zero, suc, _+_, _*_, _/_}
 use lib.Dec.{leb, ltb, eqb}
@@ -28,23 +28,11 @@ withHalf a b w = cond (hasRule a && hasRule b) (smaller w (half (a +ℤ b))) w
 unfoldable pub bareBelow : ℤ → ℤ → Bool
 bareBelow a b = (hasRule a && hasRule b) && ltZ (a +ℤ b) (pos 0)
 
--- none of four words is a rule
-unfoldable pub noneHeld : ℤ → ℤ → ℤ → ℤ → Bool
-noneHeld a b c d = not (hasRule a || (hasRule b || (hasRule c || hasRule d)))
-
--- two bounds of at most this magnitude, 2 ^ 62 - 1, have a sum that is a bound too, and below the no-rule word
-abbrev pub addable : ℤ
-addable = pos 4611686018427387903
-
 -- ---- the rules of one quantity
 
 -- the bound of the term of literals z and x; two of one quantity have no term together
 unfoldable pub pairWord : List ℤ → ℕ → ℕ → ℤ
 pairWord t z x = cond (eqb (x / 2) (z / 2)) noRule (wordAt t (placeOfTwo x z))
-
--- as a change: the bounds of z with each literal
-abbrev pub gathering : List ℤ → ℕ → ℕ → ℤ → ℤ
-gathering t z x w = pairWord t z x
 
 -- the bound of the term of a literal alone
 abbrev pub loneWord : List ℤ → ℕ → ℤ
@@ -78,12 +66,13 @@ anyBare from plus minus (suc x) = (leb (2 * from) x && bareBelow (plus x) (minus
 
 -- ---- the step, on a table over n quantities
 
--- every rule with the quantity j + 1 and + is added to every rule with it and -, of the other quantities only those past the first `from`
+-- every rule with the quantity j + 1 and + is added to every rule with it and -, and the sums go in by minimum. Of the other quantities only those
+-- past the first `from` take part: all of them where it is 0, which is document 01's step
 unfoldable pub paired : ℕ → ℕ → ℕ → List ℤ → List ℤ
 paired from n j t =
     change (blockStart n) (pairing from (pairWord t (2 * j)) (pairWord t (2 * j + 1)) (loneWord t (2 * j)) (loneWord t (2 * j + 1))) t
 
--- and one of the sums is bare and below 0
+-- one of these sums is bare and below 0: a contradiction
 unfoldable pub contradicts : ℕ → ℕ → ℕ → List ℤ → Bool
 contradicts from n j t =
     bareBelow (loneWord t (2 * j)) (loneWord t (2 * j + 1)) || anyBare from (pairWord t (2 * j)) (pairWord t (2 * j + 1)) (2 * n)

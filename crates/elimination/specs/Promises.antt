@@ -5,7 +5,7 @@ use mathlib.Core.Logic.{_↔_}
 use mathlib.Core.List.{List}
 use lib.Dec.{eqb}
 use Prim.Native.Nat.{ℕ, suc, _+_, _*_, _≤_, _<_}
-use lib.IntN.{ℤ, pos}
+use lib.IntN.{ℤ}
 use lib.ListN.{length}
 use Rattle.integers.specs.Bound.{Within}
 use Rattle.words.specs.Change.{wordAt, change, startingAt}
@@ -14,15 +14,16 @@ use Rattle.rules.specs.Limits.{maxQuantities}
 use Rattle.rules.specs.Meaning.{Assignment}
 use Rattle.tables.specs.Tables.{hasRule}
 use Rattle.tables.specs.Meaning.{Satisfies, SheetAllows, WordsWithin}
-use Rattle.elimination.specs.Hiding.{addable, pairing, paired, contradicts, eliminated}
+use Rattle.elimination.specs.Hiding.{pairing, paired, contradicts, eliminated}
+use Rattle.elimination.specs.Magnitude.{addable, valueLimit}
 
 -- a word is no rule, or a bound small enough to be added to another
 abbrev pub Addable : ℤ → Type 0
 Addable w = hasRule w ≡ true → Within addable w
 
--- an integer from -2 ^ 62 to 2 ^ 62, as the values of an assignment are
+-- an integer in the range of an assignment's values
 abbrev pub Choosable : ℤ → Type 0
-Choosable v = Within (pos 4611686018427387904) v
+Choosable v = Within valueLimit v
 
 -- the values of the quantities of n past j + 1
 pub record Valued (n j : ℕ) (values : List ℤ) : Type 0 where

@@ -6,7 +6,7 @@ ghost use lib.ListN.{length};
 ghost use Rattle.words.specs.Change.{change, startingAt};
 ghost use Rattle.places.specs.Numbering.{blockStart};
 ghost use Rattle.rules.specs.Limits.{maxQuantities};
-ghost use Rattle.elimination.specs.Hiding.{gathering};
+ghost use Rattle.elimination.specs.Rows.{gathering};
 ghost use Rattle.elimination.specs.Hiding.{pairWord as Hiding·pairWord};
 
 // The bound of the term of literals `z` and `x`; two of one quantity have no term together.

@@ -1,7 +1,8 @@
 // The operations on the words of a step: a sum put in by minimum, the same halved, and the test of a bare sum.
 use rules::sheet::Sheet;
 ghost use mathlib.Core.Path.{_≡_};
-ghost use Rattle.elimination.specs.Hiding.{withSum, withHalf, bareBelow, noneHeld};
+ghost use Rattle.elimination.specs.Hiding.{withSum, withHalf, bareBelow};
+ghost use Rattle.elimination.specs.Rows.{noneHeld};
 ghost use Rattle.elimination.specs.Promises.{Addable};
 
 // `w` with the sum of two bounds put in by minimum; `w` where either is no rule.

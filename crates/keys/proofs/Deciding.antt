@@ -8,7 +8,7 @@ use native.Mathlib.Omega.{arith}
 use lib.IntN.{ℤ, pos}
 use lib.ListN.{length, replicate, length-replicate}
 use borrow.Author.Tests.{le-leb}
-use Rattle.tables.specs.Meaning.{Satisfies, assignmentOf}
+use Rattle.tables.specs.Meaning.{Satisfies, Satisfiable, Unsatisfiable, assignmentOf}
 use Rattle.words.specs.Change.{change, copying}
 use Rattle.words.proofs.Change.{change-drop}
 use Rattle.places.specs.Numbering.{blockStart}
@@ -17,7 +17,7 @@ use Rattle.tables.specs.Tables.{tableSize}
 use Rattle.tables.proofs.Tests.{clash}
 use Rattle.keys.specs.Keys.{every, refuted}
 use Rattle.keys.specs.Reducing.{reduceUpTo, clashUpTo, fillDown, Fits}
-use Rattle.keys.specs.Promises.{Satisfiable, Unsatisfiable, Reduced, Decided}
+use Rattle.keys.specs.Promises.{Reduced, Decided}
 use Rattle.keys.proofs.Several.{refuted-true, refuted-false}
 use Rattle.keys.proofs.Copying.{SameTable, copied, same-back, same-satisfies, same-fits}
 use Rattle.keys.proofs.Fitting.{hide-ample}

@@ -18,7 +18,7 @@ use Rattle.tables.specs.Meaning.{Satisfies, assignmentOf}
 use Rattle.elimination.specs.Hiding.{pairWord, loneWord}
 use Rattle.elimination.specs.Choosing.{chosen}
 use Rattle.elimination.specs.Promises.{Valued}
-use Rattle.elimination.specs.Magnitude.{Past}
+use Rattle.elimination.specs.Magnitude.{valueLimit, Past}
 use Rattle.elimination.proofs.Projection.{chosen-within}
 use Rattle.elimination.proofs.Terms.{TermsMet, satisfies-met}
 use Rattle.elimination.proofs.Exact.{upward-choose}
@@ -122,7 +122,7 @@ filled-within n (suc m) t values f h g i p q = go (eqb i j) refl (filled-within 
         (within-mono (omega (arith, s .1, rises)) (rw next at (ih i (omega (arith, eqb-false i j e)) q)))
 
 pub filled-range : (n : ℕ) (t values : List ℤ) → Layered n t → n ≤ length values → (k : ℕ) → k < n
-    → Within (pos 4611686018427387904) (wordAt (fillDown n t n values) k)
+    → Within valueLimit (wordAt (fillDown n t n values) k)
 filled-range n t values f g k h = within-mono (omega (arith, f .last)) (filled-within n n t values f (omega arith) g k (omega arith) h)
 
 -- ---- step by step, as the program goes

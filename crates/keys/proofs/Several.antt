@@ -14,7 +14,7 @@ use borrow.Author.Tests.{leb-true, leb-false, le-leb, lt-leb, eqb-true, eqb-fals
 use Rattle.places.specs.Numbering.{blockStart, blockOf}
 use Rattle.places.proofs.Numbering.{block-below}
 use Rattle.rules.specs.Meaning.{Assignment, names}
-use Rattle.tables.specs.Meaning.{HoldsRule, ruleIn, Satisfies, joined, SheetAllows, NamesVisible}
+use Rattle.tables.specs.Meaning.{HoldsRule, ruleIn, Satisfies, Satisfiable, Unsatisfiable, joined, SheetAllows, NamesVisible}
 use Rattle.tables.proofs.Tests.{clash}
 use Rattle.tables.proofs.Meanings.{in-range, satisfies-agree}
 use Rattle.tables.proofs.Places.{own-named}
@@ -24,7 +24,6 @@ use Rattle.elimination.proofs.Step.{Adds, neither}
 use Rattle.elimination.proofs.Exact.{eliminate-exact, eliminate-none, eliminate-length}
 use Rattle.elimination.proofs.Unnamed.{eliminated-unnamed, unnamed-eliminated}
 use Rattle.keys.specs.Keys.{hideUpTo, keyOf, every, refutedUpTo, refuted}
-use Rattle.keys.specs.Promises.{Satisfiable, Unsatisfiable}
 
 pub hideUpTo-length : (hidden : ℕ → Bool) (n m : ℕ) (t : List ℤ) → length (hideUpTo hidden n m t) ≡ length t
 unfolding hideUpTo

@@ -4,7 +4,7 @@ use mathlib.Core.Path.{_≡_}
 use mathlib.Core.Logic.{_↔_}
 use mathlib.Core.List.{List}
 use Prim.Native.Nat.{ℕ, _<_}
-use lib.IntN.{ℤ, pos}
+use lib.IntN.{ℤ}
 use lib.ListN.{length, drop}
 use Rattle.integers.specs.Bound.{Within}
 use Rattle.words.specs.Change.{wordAt, change, copying}
@@ -15,7 +15,8 @@ use Rattle.rules.specs.Meaning.{Assignment}
 use Rattle.tables.specs.declared.reply.Reply.{Reply}
 use Rattle.tables.specs.declared.reply.Reply.the-variants.{Done, Refused}
 use Rattle.tables.specs.Tables.{isDone}
-use Rattle.tables.specs.Meaning.{Satisfies, SheetAllows, NamesVisible, assignmentOf}
+use Rattle.tables.specs.Meaning.{Satisfies, Satisfiable, Unsatisfiable, SheetAllows, NamesVisible, assignmentOf}
+use Rattle.elimination.specs.Magnitude.{valueLimit}
 use Rattle.keys.specs.Keys.{keyOf, refuted, keyChecks, keyReply, assignmentChecks, assignmentReply, freesWorkspace}
 use Rattle.keys.specs.Reducing.{reduceUpTo, clashUpTo}
 
@@ -24,15 +25,6 @@ pub record Lent (m : ℕ) (free : Bool) (before after : List ℤ) : Type 0 where
   pub size : length after ≡ length before
   pub rest : drop m after ≡ drop m before
   pub kept : free ≡ false → after ≡ before
-
--- no integers satisfy a table over n quantities
-abbrev pub Unsatisfiable : ℕ → List ℤ → Type 0
-Unsatisfiable n t = (σ : Assignment) → Satisfies n t σ → ⊥
-
--- some integers do
-pub record Satisfiable (n : ℕ) (t : List ℤ) : Type 0 where
-  pub assignment : Assignment
-  pub satisfies : Satisfies n t assignment
 
 -- the key call on n quantities and a hidden set. Demand 2: the key allows integers for the visible quantities, and names these alone, exactly when some
 -- integers for the hidden ones satisfy the whole sheet with them; past the earlier checks the reply is 5 exactly when no integers satisfy the sheet
@@ -53,7 +45,7 @@ pub record Assigned (n : ℕ) (table workspace values : List ℤ) (r : Reply) (w
   pub lent : Lent (blockStart n) (freesWorkspace r) workspace workspace'
   pub written : Lent n (isDone r) values values'
   pub meaning : r ≡ Done → Satisfies n table (assignmentOf values')
-  pub range : r ≡ Done → (k : ℕ) → k < n → Within (pos 4611686018427387904) (wordAt values' k)
+  pub range : r ≡ Done → (k : ℕ) → k < n → Within valueLimit (wordAt values' k)
   pub none : assignmentChecks n table (length workspace) (length values) ≡ Done → (r ≡ Refused NoAssignment) ↔ Unsatisfiable n table
 
 -- a table reduced: whether a contradiction is met, and where not, every word

@@ -28,7 +28,16 @@ ruleIn t k = ruleAt k (wordAt t k)
 pub record Satisfies (n : ℕ) (t : List ℤ) (σ : Assignment) : Type 0 where
   pub each : (k : ℕ) → HoldsRule n t k → Meets σ (ruleIn t k)
 
--- the same of the rules alone that do not name quantity q
+-- no integers satisfy it
+abbrev pub Unsatisfiable : ℕ → List ℤ → Type 0
+Unsatisfiable n t = (σ : Assignment) → Satisfies n t σ → ⊥
+
+-- some integers do
+pub record Satisfiable (n : ℕ) (t : List ℤ) : Type 0 where
+  pub assignment : Assignment
+  pub satisfies : Satisfies n t assignment
+
+-- an assignment satisfies the rules alone that do not name quantity q
 pub record SatisfiesWithout (q n : ℕ) (t : List ℤ) (σ : Assignment) : Type 0 where
   pub each : (k : ℕ) → HoldsRule n t k → names q (ruleIn t k) ≡ false → Meets σ (ruleIn t k)
 

@@ -17,7 +17,8 @@ use Rattle.rules.specs.Limits.{maxQuantities}
 use Rattle.rules.specs.Meaning.{literalValue}
 use Rattle.tables.specs.Meaning.{assignmentOf}
 use Rattle.tables.proofs.Sizes.{small-square}
-use Rattle.elimination.specs.Hiding.{addable, pairWord, loneWord}
+use Rattle.elimination.specs.Hiding.{pairWord, loneWord}
+use Rattle.elimination.specs.Magnitude.{addable}
 use Rattle.elimination.specs.Choosing.{withUpper, boundedBy}
 use Rattle.elimination.specs.Promises.{Choosable}
 use Rattle.elimination.proofs.Projection.{bounded-none, bounded-more}

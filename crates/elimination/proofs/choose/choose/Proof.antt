@@ -13,7 +13,8 @@ use Rattle.integers.proofs.Parts.{positivePart, negativePart, held-value, word-
 use Rattle.integers.proofs.Within.{within-of, within-neg}
 use Rattle.rules.specs.Meaning.{literalValue}
 use Rattle.tables.specs.Meaning.{assignmentOf}
-use Rattle.elimination.specs.Hiding.{addable, pairWord, loneWord}
+use Rattle.elimination.specs.Hiding.{pairWord, loneWord}
+use Rattle.elimination.specs.Magnitude.{addable}
 use Rattle.elimination.specs.Choosing.{boundedBy, chosen}
 use Rattle.elimination.specs.Promises.{Ready, Valued}
 use Rattle.elimination.proofs.Projection.{bounded-within}

@@ -9,7 +9,7 @@ use denote.Ref.{now}
 use borrow.Author.Needs.{needs}
 use Rattle.integers.proofs.Parts.{held-value}
 use Rattle.words.specs.Change.{change, startingAt}
-use Rattle.elimination.specs.Hiding.{gathering}
+use Rattle.elimination.specs.Rows.{gathering}
 use Rattle.elimination.proofs.Rows.{starting-none, starting-more}
 use Rattle.elimination.proofs.row.gather.Statement.{statement}
 use Rattle.elimination.proofs.row.gather.Tie as tie

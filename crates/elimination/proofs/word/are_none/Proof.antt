@@ -3,7 +3,7 @@ use mathlib.Core.Path.{_≡_}
 use mathlib.Core.Bool.{false}
 use Rattle.integers.proofs.Parts.{word-value}
 use Rattle.tables.specs.Tables.{hasRule}
-use Rattle.elimination.specs.Hiding.{noneHeld}
+use Rattle.elimination.specs.Rows.{noneHeld}
 use Rattle.elimination.proofs.word.are_none.Statement.{statement}
 use Rattle.elimination.proofs.word.are_none.Tie as tie
 

@@ -25,40 +25,10 @@ use Rattle.tables.specs.Places.{findPlace, HasPlace}
 use Rattle.tables.specs.Tables.{hasRule}
 use Rattle.tables.specs.Meaning.{HoldsRule, ruleIn}
 use Rattle.elimination.specs.Hiding.{pairWord, loneWord, paired, contradicts}
+use Rattle.elimination.specs.ByRules.{RuleWith, IsSum, SumAt, BareSum}
 use Rattle.elimination.proofs.TermWords.{pair-first, pair-second, pair-apart}
 use Rattle.elimination.proofs.PairedWords.{lone-elim, lone-lowered, lone-plus, lone-minus, lone-half, pair-elim, pair-lowered, pair-sum}
 use Rattle.elimination.proofs.DocumentTerms.{found-one, found-pair, Left, place-left, left-place, ListedOf, EveryRest, listed-rest, rest-listed, NotBelow, clear-listed, bare-found}
-
--- ---- the document's words
-
--- a 'rule with +q' or 'rule with -q': a place of the table over n quantities holds it, and the literal z stands in its term
-pub record RuleWith (n z : ℕ) (t : List ℤ) (r : Rule) : Type 0 where
-  pub place : ℕ
-  pub holds : HoldsRule n t place
-  pub is : r ≡ ruleIn t place
-  pub stands : Stands z r
-
--- 'every rule with +q is added to every rule with -q, q drops out, and the sum is halved where its two remaining terms are alike, or is
--- a bare 0 ≤ c where nothing remains or the rest cancels': u is such a sum, q being quantity j + 1. Its bound is over unbounded integers
-pub record IsSum (n j : ℕ) (t : List ℤ) (u : Rule) : Type 0 where
-  pub plus : Rule
-  pub minus : Rule
-  pub with-plus : RuleWith n (2 * j) t plus
-  pub with-minus : RuleWith n (2 * j + 1) t minus
-  pub is : u ≡ restRule (partnerOf (2 * j) plus) (partnerOf (2 * j + 1) minus) (boundOf plus +ℤ boundOf minus)
-
--- a sum that goes to place k with the bound w
-pub record SumAt (n j : ℕ) (t : List ℤ) (k : ℕ) (w : ℤ) : Type 0 where
-  pub sum : Rule
-  pub is : IsSum n j t sum
-  pub place : findPlace sum ≡ At k
-  pub bound : w ≡ boundOf sum
-
--- 'a bare 0 ≤ c with c below 0'
-pub record BareSum (n j : ℕ) (t : List ℤ) : Type 0 where
-  pub bound : ℤ
-  pub is : IsSum n j t (Nothing bound)
-  pub below : bound <ℤ pos 0
 
 -- ---- the sums, listed by words
 
@@ -91,7 +61,7 @@ listed-sum n j t l h = rest-listed n j t (IsSum n j t) sum
 at-same : (a k : ℕ) → At a ≡ At k → a ≡ k
 at-same a k e = cc
 
-nowhere-at : (k : ℕ) → Nowhere ≡ At k → ⊥
+pub nowhere-at : (k : ℕ) → Nowhere ≡ At k → ⊥
 nowhere-at k e = let z : _≡_ {A = ℕ} 0 1 = cc in omega arith
 
 module _ (n j : ℕ) (t : List ℤ) (l : blockStart n ≤ length t) (h : j < n) where

@@ -5,7 +5,7 @@ use mathlib.Core.Logic.{_↔_}
 use mathlib.Core.List.{List}
 use lib.Dec.{eqb}
 use Prim.Native.Nat.{ℕ, suc, _+_, _*_, _≤_, _<_}
-use lib.IntN.{ℤ}
+use lib.IntN.{ℤ, pos}
 use lib.ListN.{length}
 use Rattle.integers.specs.Bound.{Within}
 use Rattle.words.specs.Change.{wordAt, change, startingAt}
@@ -13,8 +13,9 @@ use Rattle.places.specs.Numbering.{blockStart}
 use Rattle.rules.specs.Limits.{maxQuantities}
 use Rattle.rules.specs.Meaning.{Assignment}
 use Rattle.tables.specs.Tables.{hasRule}
-use Rattle.tables.specs.Meaning.{Satisfies, SheetAllows, WordsWithin}
+use Rattle.tables.specs.Meaning.{Satisfies, Unsatisfiable, SheetAllows, WordsWithin}
 use Rattle.elimination.specs.Hiding.{pairing, paired, contradicts, eliminated}
+use Rattle.elimination.specs.ByRules.{HiddenByRules}
 use Rattle.elimination.specs.Magnitude.{addable, valueLimit}
 
 -- a word is no rule, or a bound small enough to be added to another
@@ -47,15 +48,17 @@ pub record Row (n : ℕ) (row : List ℤ) : Type 0 where
 pub record TwosPaired (b from : ℕ) (plus minus before after : List ℤ) : Type 0 where
   pub table : (p m : ℤ) → after ≡ change (blockStart (suc b)) (startingAt (blockStart b + 2) (pairing from (wordAt plus) (wordAt minus) p m)) before
 
--- the sums of quantity j + 1 put in, and whether one is a contradiction
+-- the sums of quantity j + 1 put in, of the other quantities only those past the first `from`, and whether one is a contradiction
 pub record Paired (from n j : ℕ) (before : List ℤ) (r : Bool) (after : List ℤ) : Type 0 where
   pub reply : r ≡ contradicts from n j before
   pub table : after ≡ paired from n j before
 
--- quantity j + 1 hidden, and whether a sum is a contradiction. Where none is, the table allows just what some integer for the quantity
--- completes; where one is, nothing satisfied the table
-pub record Hidden (n j : ℕ) (before : List ℤ) (r : Bool) (after : List ℤ) : Type 0 where
+-- quantity j + 1 hidden, and whether a sum is a contradiction: place by place, and in document 01's words. The bounds at most double. Where there is no
+-- contradiction, the table allows just what some integer for the quantity completes; where there is one, nothing satisfied the table
+pub record QuantityHidden (n j : ℕ) (before : List ℤ) (r : Bool) (after : List ℤ) : Type 0 where
   pub reply : r ≡ contradicts 0 n j before
   pub table : after ≡ eliminated n j before
+  pub rules : HiddenByRules n j before r after
+  pub growth : (B : ℕ) → WordsWithin (blockStart n) (pos B) before → WordsWithin (blockStart n) (pos (B + B)) after
   pub meaning : r ≡ false → (σ : Assignment) → Satisfies n after σ ↔ SheetAllows (eqb (suc j)) (Satisfies n before) σ
-  pub none : r ≡ true → (σ : Assignment) → Satisfies n before σ → ⊥
+  pub none : r ≡ true → Unsatisfiable n before

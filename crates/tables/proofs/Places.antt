@@ -1,7 +1,7 @@
 -- Places and terms go together one by one: each term of one or two different quantities of 1 to n has a place below 2n², and each such place is that of
 -- exactly one, which is `ruleAt`. Assumes nothing.
 use mathlib.Core.Path.{_≡_, refl, sym, _∙_, ap}
-use mathlib.Core.Bool.{Bool, true, false, cond, _||_, or-true}
+use mathlib.Core.Bool.{Bool, true, false, cond, _||_, or-true, or-comm}
 use mathlib.Core.Logic.{_⊎_, inl, inr}
 use Prim.Native.Nat.{ℕ, suc, _+_, _*_, _/_, _<_, _≤_}
 use native.Mathlib.Omega.{arith}
@@ -145,3 +145,26 @@ hasPlace-names n q (Two x y c) u e = go (eqb (quantityOf x) q) refl e
     go true d e = let h = eqb-true (quantityOf x) q d in let l = u .0 in omega arith
     go false d e = let h = eqb-true (quantityOf y) q e in let l = u .1 in omega arith
 hasPlace-names n q (Nothing c) u e = absurd u
+
+-- which quantities the rule of a place names does not depend on its bound,
+pub names-bound : (q k : ℕ) (c d : ℤ) → names q (ruleAt k c) ≡ names q (ruleAt k d)
+unfolding names ruleAt
+names-bound q k c d = go (isOne k)
+  where
+    go : (b : Bool) → names q (cond b (One (higherAt k) c) (Two (lowerAt k) (higherAt k) c)) ≡ names q (cond b (One (higherAt k) d) (Two (lowerAt k) (higherAt k) d))
+    go true = refl
+    go false = refl
+
+inOrder-names : (q : ℕ) (r : Rule) → names q (inOrder r) ≡ names q r
+unfolding names inOrder
+inOrder-names q (One x c) = refl
+inOrder-names q (Two x y c) = go (ltb x y)
+  where
+    go : (b : Bool) → names q (cond b (Two x y c) (Two y x c)) ≡ names q (Two x y c)
+    go true = refl
+    go false = or-comm (eqb (quantityOf y) q) (eqb (quantityOf x) q)
+inOrder-names q (Nothing c) = refl
+
+-- and at the place of a rule's term they are the rule's own
+pub place-names : (n q : ℕ) (r : Rule) (c : ℤ) → HasPlace n r → names q (ruleAt (placeOf r) c) ≡ names q r
+place-names n q r c u = names-bound q (placeOf r) c (boundOf r) ∙ ap (names q) (ruleAt-inOrder n r u) ∙ inOrder-names q r

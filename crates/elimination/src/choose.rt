@@ -1,14 +1,13 @@
-// The choice of a value for one quantity, given those of all later ones: the integer nearest to 0 that the quantity's rules leave.
+// The choice of a value for one quantity, given those of all later ones: the integer nearest to 0, where the quantity's rules leave one.
 use crate::row;
 use rules::sheet::Sheet;
 ghost use mathlib.Core.Path.{_≡_};
-ghost use Prim.Native.Nat.{_+_, _-_, _*_, _/_, _<_};
+ghost use Prim.Native.Nat.{_/_, _<_};
 ghost use lib.ListN.{length};
 ghost use Rattle.words.specs.Change.{wordAt};
 ghost use Rattle.rules.specs.Meaning.{literalValue};
 ghost use Rattle.tables.specs.Meaning.{assignmentOf};
-ghost use Rattle.elimination.specs.Hiding.{pairWord, loneWord};
-ghost use Rattle.elimination.specs.Choosing.{withUpper, boundedBy, chosen};
+ghost use Rattle.elimination.specs.Choosing.{withUpper, boundedIn, choice};
 ghost use Rattle.elimination.specs.Promises.{Addable, Choosable, Valued, Ready};
 
 // The value of the literal `x`.
@@ -37,7 +36,7 @@ fn with_upper(bound: i64, a: i64, v: i64) -> i64
 // `v` lowered by every rule of the literal `z` whose other quantity, if it has one, is a later one.
 fn bounded_by(n: usize, table: &[i64], values: &[i64], z: usize, v: i64) -> i64
     requires { ⌜ Ready n (z / 2) (now table) × Valued n (z / 2) (now values) ⌝ }
-    ensures { λ r. ⌜ r ≡ boundedBy (literalValue (assignmentOf (now (values .entry)))) (pairWord (now (table .entry)) z) (loneWord (now (table .entry)) z) (2 * (z / 2) + 2) (2 * n - (2 * (z / 2) + 2)) v ⌝ }
+    ensures { λ r. ⌜ r ≡ boundedIn n (now (table .entry)) (now (values .entry)) z v ⌝ }
 {
     let j = z / 2;
     let lone = table[2 * (j * j) + z % 2];
@@ -52,10 +51,10 @@ fn bounded_by(n: usize, table: &[i64], values: &[i64], z: usize, v: i64) -> i64
     best
 }
 
-// The integer nearest to 0 that the rules of quantity `j + 1` with later ones leave.
+// The integer nearest to 0 that the rules of quantity `j + 1`, alone and with later ones, leave, where they leave one.
 pub fn choose(n: usize, table: &[i64], values: &[i64], j: usize) -> i64
     requires { ⌜ Ready n j (now table) × Valued n j (now values) ⌝ }
-    ensures { λ r. ⌜ r ≡ chosen (literalValue (assignmentOf (now (values .entry)))) (pairWord (now (table .entry)) (2 * j)) (pairWord (now (table .entry)) (2 * j + 1)) (loneWord (now (table .entry)) (2 * j)) (loneWord (now (table .entry)) (2 * j + 1)) (2 * j + 2) (2 * n - (2 * j + 2)) ⌝ }
+    ensures { λ r. ⌜ r ≡ choice n (now (table .entry)) j (now (values .entry)) ⌝ }
 {
     let above = bounded_by(n, table, values, 2 * j, 0);
     let below = bounded_by(n, table, values, 2 * j + 1, 0 - above);

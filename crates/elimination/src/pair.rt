@@ -1,5 +1,5 @@
 // Pairing: every rule with a quantity and + is added to every rule with it and -, and the sums go in by minimum. The table is walked once in place
-// order, each word written once.
+// order; no word is written twice, and blocks to which no sum goes are passed over.
 use crate::bare;
 use crate::row;
 use crate::word;

@@ -1,25 +1,27 @@
 -- What the calls' checks answer, and what it tells that they pass. Assumes nothing.
 use mathlib.Core.Path.{_≡_, refl, sym, _∙_}
 use mathlib.Core.Bool.{Bool, true, false, cond, _&&_, and-false}
-use mathlib.Core.List.{List}
+use mathlib.Core.List.{List, [], _∷_}
 use Prim.Native.Nat.{ℕ, _≤_, _<_}
 use native.Mathlib.Omega.{arith}
-use lib.Dec.{ltb}
+use lib.Dec.{ltb, eqb}
 use lib.IntN.{ℤ, pos}
 use lib.ListN.{length}
 use borrow.Author.Tests.{ltb-false, lt-ltb, le-ltb}
 use Rattle.places.specs.Numbering.{blockStart}
 use Rattle.rules.specs.declared.refusal.Refusal.{Refusal}
-use Rattle.rules.specs.declared.refusal.Refusal.the-variants.{Size, OutOfLimit, TooShort}
+use Rattle.rules.specs.declared.refusal.Refusal.the-variants.{Size, OutOfLimit, NoAssignment, TooShort}
 use Rattle.rules.specs.Hidden.{setWithin}
 use Rattle.rules.specs.Limits.{maxBound}
 use Rattle.tables.specs.declared.reply.Reply.{Reply}
 use Rattle.tables.specs.declared.reply.Reply.the-variants.{Done, Refused}
-use Rattle.tables.specs.Tables.{tableSize, serves}
+use Rattle.tables.specs.Tables.{tableSize, serves, replyNumber, replyValues}
+use Rattle.tables.specs.Meaning.{WordsWithin}
 use Rattle.tables.specs.Promises.{InLimit}
 use Rattle.tables.proofs.Tests.{passed, not-refused, both-true, refused-done}
+use Rattle.tables.proofs.Limits.{wordsInLimit-within}
 use Rattle.tables.proofs.Sizes.{Served, serves-tells}
-use Rattle.keys.specs.Keys.{andThen, longEnough, withinLimit, lentChecks, sheetWords, keyChecks, assignmentChecks}
+use Rattle.keys.specs.Keys.{refuted, andThen, lengthReply, limitReply, orNoAssignment, lentChecks, inSheetLimit, keyChecks, keyReply, keyValues, assignmentChecks, assignmentReply, assignmentValues}
 use Rattle.keys.specs.Reducing.{Fits}
 use Rattle.keys.proofs.Fitting.{sheet-fits}
 
@@ -46,14 +48,14 @@ lent-size n words workspace e = rw e
 
 pub lent-short : (n words workspace needed : ℕ) → serves n words ≡ true → needed ≡ tableSize n → workspace < needed
     → Refused (TooShort needed) ≡ lentChecks n words workspace
-unfolding lentChecks longEnough
+unfolding lentChecks lengthReply
 lent-short n words workspace needed e d h =
     let s = serves-tells n words e in
     let p : needed ≡ blockStart n = d ∙ s .size in
     rw (e, p, lt-ltb workspace (blockStart n) (omega arith))
 
 pub lent-done : (n words workspace needed : ℕ) → serves n words ≡ true → needed ≡ tableSize n → needed ≤ workspace → Done ≡ lentChecks n words workspace
-unfolding lentChecks longEnough
+unfolding lentChecks lengthReply
 lent-done n words workspace needed e d h =
     let s = serves-tells n words e in
     let p : needed ≡ blockStart n = d ∙ s .size in
@@ -65,84 +67,132 @@ pub record Lending (n words workspace : ℕ) : Type 0 where
   pub long : blockStart n ≤ workspace
 
 pub lent-tells : (n words workspace : ℕ) → lentChecks n words workspace ≡ Done → Lending n words workspace
-unfolding lentChecks longEnough
+unfolding lentChecks lengthReply
 lent-tells n words workspace e =
-    let p = passed (serves n words) (longEnough workspace (blockStart n)) Size e in
+    let p = passed (serves n words) (lengthReply workspace (blockStart n)) Size e in
     let q = not-refused (ltb workspace (blockStart n)) Done (TooShort (blockStart n)) (p .1) in
     record { served = serves-tells n words (p .0); long = ltb-false workspace (blockStart n) (q .0) }
 
 -- the test of a served table's words is that of the sheet's
 pub sheet-test : (n m workspace : ℕ) (t : List ℤ) (r : Bool) → lentChecks n (length t) workspace ≡ Done → m ≡ tableSize n → InLimit m (pos maxBound) t r
-    → sheetWords n t ≡ r
+    → inSheetLimit n t ≡ r
 sheet-test n m workspace t r e d i =
     let p : m ≡ blockStart n = d ∙ lent-tells n (length t) workspace e .served .size in sym (rw p at (i .reply))
 
 -- ---- the key call
 
-limit-passed : (b : Bool) → withinLimit b ≡ Done → b ≡ true
-unfolding withinLimit
+limit-passed : (b : Bool) → limitReply b ≡ Done → b ≡ true
+unfolding limitReply
 limit-passed b e = passed b Done (OutOfLimit 0) e .0
 
 pub key-set : (n set workspace : ℕ) (t : List ℤ) → lentChecks n (length t) workspace ≡ Done → setWithin n set ≡ false
     → Refused (OutOfLimit 0) ≡ keyChecks n set t workspace
-unfolding keyChecks withinLimit
-key-set n set workspace t e d = rw (then-passed (lentChecks n (length t) workspace) (withinLimit (setWithin n set && sheetWords n t)) e, d)
+unfolding keyChecks limitReply
+key-set n set workspace t e d = rw (then-passed (lentChecks n (length t) workspace) (limitReply (setWithin n set && inSheetLimit n t)) e, d)
 
-pub key-words : (n set workspace : ℕ) (t : List ℤ) → lentChecks n (length t) workspace ≡ Done → sheetWords n t ≡ false
+pub key-words : (n set workspace : ℕ) (t : List ℤ) → lentChecks n (length t) workspace ≡ Done → inSheetLimit n t ≡ false
     → Refused (OutOfLimit 0) ≡ keyChecks n set t workspace
-unfolding keyChecks withinLimit
+unfolding keyChecks limitReply
 key-words n set workspace t e f =
-    rw (then-passed (lentChecks n (length t) workspace) (withinLimit (setWithin n set && sheetWords n t)) e, f, and-false (setWithin n set))
+    rw (then-passed (lentChecks n (length t) workspace) (limitReply (setWithin n set && inSheetLimit n t)) e, f, and-false (setWithin n set))
 
-pub key-passed : (n set workspace : ℕ) (t : List ℤ) → lentChecks n (length t) workspace ≡ Done → setWithin n set ≡ true → sheetWords n t ≡ true
+pub key-passed : (n set workspace : ℕ) (t : List ℤ) → lentChecks n (length t) workspace ≡ Done → setWithin n set ≡ true → inSheetLimit n t ≡ true
     → Done ≡ keyChecks n set t workspace
-unfolding keyChecks withinLimit
+unfolding keyChecks limitReply
 key-passed n set workspace t e d f =
-    rw (then-passed (lentChecks n (length t) workspace) (withinLimit (setWithin n set && sheetWords n t)) e, d, f)
+    rw (then-passed (lentChecks n (length t) workspace) (limitReply (setWithin n set && inSheetLimit n t)) e, d, f)
 
 pub key-lent : (n set workspace : ℕ) (t : List ℤ) (r : Reply) (f : Refusal) → r ≡ lentChecks n (length t) workspace → r ≡ Refused f
     → r ≡ keyChecks n set t workspace
 unfolding keyChecks
 key-lent n set workspace t r f e d =
-    e ∙ sym (then-refused (lentChecks n (length t) workspace) (withinLimit (setWithin n set && sheetWords n t)) f (sym e ∙ d))
+    e ∙ sym (then-refused (lentChecks n (length t) workspace) (limitReply (setWithin n set && inSheetLimit n t)) f (sym e ∙ d))
 
-pub key-tells : (n set workspace : ℕ) (t : List ℤ) → keyChecks n set t workspace ≡ Done → Lending n (length t) workspace × Fits n t
+pub key-tells : (n set workspace : ℕ) (t : List ℤ) → keyChecks n set t workspace ≡ Done
+    → Lending n (length t) workspace × Fits n t × WordsWithin (blockStart n) (pos maxBound) t
 unfolding keyChecks
 key-tells n set workspace t e =
-    let p = then-tells (lentChecks n (length t) workspace) (withinLimit (setWithin n set && sheetWords n t)) e in
+    let p = then-tells (lentChecks n (length t) workspace) (limitReply (setWithin n set && inSheetLimit n t)) e in
     let l = lent-tells n (length t) workspace (p .0) in
-    let q = both-true (setWithin n set) (sheetWords n t) (limit-passed (setWithin n set && sheetWords n t) (p .1)) in
-    (l, sheet-fits n t (l .served .most) (l .served .room) (q .1))
+    let q = both-true (setWithin n set) (inSheetLimit n t) (limit-passed (setWithin n set && inSheetLimit n t) (p .1)) in
+    (l, sheet-fits n t (l .served .most) (l .served .room) (q .1), wordsInLimit-within (blockStart n) (pos maxBound) t .0 (q .1))
 
 -- ---- the assignment call
 
 pub values-short : (n workspace values : ℕ) (t : List ℤ) → lentChecks n (length t) workspace ≡ Done → values < n
     → Refused (TooShort n) ≡ assignmentChecks n t workspace values
-unfolding assignmentChecks longEnough andThen
+unfolding assignmentChecks lengthReply andThen
 values-short n workspace values t e h = rw (e, lt-ltb values n h)
 
-pub values-words : (n workspace values : ℕ) (t : List ℤ) → lentChecks n (length t) workspace ≡ Done → n ≤ values → sheetWords n t ≡ false
+pub values-words : (n workspace values : ℕ) (t : List ℤ) → lentChecks n (length t) workspace ≡ Done → n ≤ values → inSheetLimit n t ≡ false
     → Refused (OutOfLimit 0) ≡ assignmentChecks n t workspace values
-unfolding assignmentChecks longEnough andThen withinLimit
+unfolding assignmentChecks lengthReply andThen limitReply
 values-words n workspace values t e h f = rw (e, le-ltb values n h, f)
 
-pub values-passed : (n workspace values : ℕ) (t : List ℤ) → lentChecks n (length t) workspace ≡ Done → n ≤ values → sheetWords n t ≡ true
+pub values-passed : (n workspace values : ℕ) (t : List ℤ) → lentChecks n (length t) workspace ≡ Done → n ≤ values → inSheetLimit n t ≡ true
     → Done ≡ assignmentChecks n t workspace values
-unfolding assignmentChecks longEnough andThen withinLimit
+unfolding assignmentChecks lengthReply andThen limitReply
 values-passed n workspace values t e h f = rw (e, le-ltb values n h, f)
 
 pub values-lent : (n workspace values : ℕ) (t : List ℤ) (r : Reply) (f : Refusal) → r ≡ lentChecks n (length t) workspace → r ≡ Refused f
     → r ≡ assignmentChecks n t workspace values
 unfolding assignmentChecks
 values-lent n workspace values t r f e d =
-    e ∙ sym (then-refused (lentChecks n (length t) workspace) (andThen (longEnough values n) (withinLimit (sheetWords n t))) f (sym e ∙ d))
+    e ∙ sym (then-refused (lentChecks n (length t) workspace) (andThen (lengthReply values n) (limitReply (inSheetLimit n t))) f (sym e ∙ d))
 
 pub assignment-tells : (n workspace values : ℕ) (t : List ℤ) → assignmentChecks n t workspace values ≡ Done
     → Lending n (length t) workspace × (n ≤ values) × Fits n t
-unfolding assignmentChecks longEnough
+unfolding assignmentChecks lengthReply
 assignment-tells n workspace values t e =
-    let p = then-tells (lentChecks n (length t) workspace) (andThen (longEnough values n) (withinLimit (sheetWords n t))) e in
+    let p = then-tells (lentChecks n (length t) workspace) (andThen (lengthReply values n) (limitReply (inSheetLimit n t))) e in
     let l = lent-tells n (length t) workspace (p .0) in
-    let q = then-tells (longEnough values n) (withinLimit (sheetWords n t)) (p .1) in
+    let q = then-tells (lengthReply values n) (limitReply (inSheetLimit n t)) (p .1) in
     let v = not-refused (ltb values n) Done (TooShort n) (q .0) in
-    (l, ltb-false values n (v .0), sheet-fits n t (l .served .most) (l .served .room) (limit-passed (sheetWords n t) (q .1)))
+    (l, ltb-false values n (v .0), sheet-fits n t (l .served .most) (l .served .room) (limit-passed (inSheetLimit n t) (q .1)))
+
+-- ---- what is returned beside a number
+
+key-values : (n set workspace : ℕ) (t : List ℤ) → replyValues (keyReply n set t workspace) ≡ keyValues n (replyNumber (keyReply n set t workspace))
+unfolding keyReply keyChecks lentChecks lengthReply limitReply orNoAssignment andThen keyValues
+key-values n set workspace t = go (serves n (length t)) (ltb workspace (blockStart n)) (setWithin n set && inSheetLimit n t) (refuted n t)
+  where
+    reply : Bool → Bool → Bool → Bool → Reply
+    reply a b c d =
+        andThen (andThen (cond a (cond b (Refused (TooShort (blockStart n))) Done) (Refused Size)) (cond c Done (Refused (OutOfLimit 0))))
+        (cond d (Refused NoAssignment) Done)
+
+    go : (a b c d : Bool) → replyValues (reply a b c d) ≡ keyValues n (replyNumber (reply a b c d))
+    go false b c d = refl
+    go true true c d = refl
+    go true false false d = refl
+    go true false true true = refl
+    go true false true false = refl
+
+assignment-values : (n workspace values : ℕ) (t : List ℤ)
+    → replyValues (assignmentReply n t workspace values) ≡ assignmentValues n workspace (replyNumber (assignmentReply n t workspace values))
+unfolding assignmentReply assignmentChecks lentChecks lengthReply limitReply orNoAssignment andThen assignmentValues
+assignment-values n workspace values t = go (serves n (length t)) (ltb workspace (blockStart n)) (ltb values n) (inSheetLimit n t) (refuted n t)
+  where
+    reply : Bool → Bool → Bool → Bool → Bool → Reply
+    reply a b v c d =
+        andThen (andThen (cond a (cond b (Refused (TooShort (blockStart n))) Done) (Refused Size))
+        (andThen (cond v (Refused (TooShort n)) Done) (cond c Done (Refused (OutOfLimit 0)))))
+        (cond d (Refused NoAssignment) Done)
+
+    told : Bool → ℕ → List ℕ
+    told b number = cond (eqb number 3) (0 ∷ []) (cond (eqb number 6) (cond b (blockStart n) n ∷ []) [])
+
+    go : (a b v c d : Bool) → replyValues (reply a b v c d) ≡ told b (replyNumber (reply a b v c d))
+    go false b v c d = refl
+    go true true v c d = refl
+    go true false true c d = refl
+    go true false false false d = refl
+    go true false false true true = refl
+    go true false false true false = refl
+
+pub key-told : (n set workspace : ℕ) (t : List ℤ) (r : Reply) → r ≡ keyReply n set t workspace → replyValues r ≡ keyValues n (replyNumber r)
+key-told n set workspace t r e = rw e (key-values n set workspace t)
+
+pub assignment-told : (n workspace values : ℕ) (t : List ℤ) (r : Reply) → r ≡ assignmentReply n t workspace values
+    → replyValues r ≡ assignmentValues n workspace (replyNumber r)
+assignment-told n workspace values t r e = rw e (assignment-values n workspace values t)

@@ -16,14 +16,14 @@ use Rattle.places.specs.Numbering.{blockStart}
 use Rattle.rules.specs.Meaning.{Assignment, literalValue}
 use Rattle.tables.specs.Meaning.{Satisfies, assignmentOf}
 use Rattle.elimination.specs.Hiding.{pairWord, loneWord}
-use Rattle.elimination.specs.Choosing.{chosen}
+use Rattle.elimination.specs.Choosing.{choice}
 use Rattle.elimination.specs.Promises.{Valued}
 use Rattle.elimination.specs.Magnitude.{valueLimit, Past}
 use Rattle.elimination.proofs.Projection.{chosen-within}
 use Rattle.elimination.proofs.Terms.{TermsMet, satisfies-met}
 use Rattle.elimination.proofs.Exact.{upward-choose}
 use Rattle.elimination.proofs.Values.{literal-within}
-use Rattle.keys.specs.Reducing.{choice, fillDown, Layered}
+use Rattle.keys.specs.Reducing.{fillDown, Layered}
 use Rattle.keys.proofs.Fitting.{limit-rises}
 use Rattle.keys.proofs.Reducing.{Closed}
 
@@ -144,12 +144,6 @@ fill-more n j t values u v h g e d = rw (next, place, ← e, d)
 
     place : n - suc (n - j) ≡ j - 1
     place = omega arith
-
-pub choice-is : (n j : ℕ) (t values : List ℤ) (v : ℤ)
-    → v ≡ chosen (literalValue (assignmentOf values)) (pairWord t (2 * j)) (pairWord t (2 * j + 1)) (loneWord t (2 * j)) (loneWord t (2 * j + 1)) (2 * j + 2) (2 * n - (2 * j + 2))
-    → v ≡ choice n t j values
-unfolding choice
-choice-is n j t values v e = e
 
 pub fill-valued : (n j : ℕ) (t values u : List ℤ) → Layered n t → n ≤ length values → 0 < j → j ≤ n → u ≡ fillDown n t (n - j) values → Valued n (j - 1) u
 fill-valued n j t values u f l h g e = rw e (record {

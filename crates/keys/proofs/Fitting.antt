@@ -21,7 +21,7 @@ use Rattle.elimination.specs.Promises.{Ready}
 use Rattle.elimination.specs.Magnitude.{Unnamed}
 use Rattle.elimination.proofs.Growth.{eliminated-within, eliminated-unnamed-within}
 use Rattle.elimination.proofs.Unnamed.{unnamed-eliminated}
-use Rattle.keys.specs.Keys.{hideUpTo, keyOf, sheetWords}
+use Rattle.keys.specs.Keys.{hideUpTo, keyOf, hiddenCount, inSheetLimit}
 use Rattle.keys.specs.Reducing.{Grows, Fits}
 use Rattle.keys.proofs.Several.{Ample, AmpleUpTo, hideUpTo-length}
 
@@ -82,11 +82,6 @@ hide-within hidden n (suc j) limit t h f = go (hide-within hidden n j limit t (o
     go w true e = step w (f .doubles j (omega arith) e)
     go w false e = words-mono (blockStart n) (limit j) (limit (suc j)) u (f .rises j (omega arith)) w
 
--- how many of the first m quantities are hidden
-unfoldable pub hiddenCount : (ℕ → Bool) → ℕ → ℕ
-hiddenCount hidden zero = 0
-hiddenCount hidden (suc j) = cond (hidden (suc j)) (suc (hiddenCount hidden j)) (hiddenCount hidden j)
-
 doubled : (B c : ℕ) → B * 2 ^ suc c ≡ B * 2 ^ c + B * 2 ^ c
 doubled B c = rw (two-pow-succ c) (mul-add B (2 ^ c) (2 ^ c))
 
@@ -139,7 +134,7 @@ sheetLimit j = maxBound * 2 ^ j
 sheet-step : (n j : ℕ) → j < n → (sheetLimit j ≤ sheetLimit j) × (sheetLimit j + sheetLimit j ≤ sheetLimit (suc j))
 sheet-step n j h = (omega arith, omega arith)
 
-pub sheet-fits : (n : ℕ) (t : List ℤ) → n ≤ maxQuantities → blockStart n ≤ length t → sheetWords n t ≡ true → Fits n t
+pub sheet-fits : (n : ℕ) (t : List ℤ) → n ≤ maxQuantities → blockStart n ≤ length t → inSheetLimit n t ≡ true → Fits n t
 sheet-fits n t h l e = record {
   most = h;
   limit = sheetLimit;

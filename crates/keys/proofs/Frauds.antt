@@ -51,12 +51,12 @@ pub others-blanked : keyTable chain ≡ cleared 3 2 (eliminated 3 0 (sheetTable 
 unfolding steps
 others-blanked = differ (keyTable chain) (cleared 3 2 (eliminated 3 0 (sheetTable chain))) 8 refl
 
--- 5 decided on the hidden quantities only: hiding the one hidden quantity meets no contradiction, yet the reply is 5
+-- 5 orNoAssignment on the hidden quantities only: hiding the one hidden quantity meets no contradiction, yet the reply is 5
 pub hidden-only : (contradicts 0 2 0 (sheetTable seenLate) ≡ false) × (replyTo seenLate ≡ 5)
 unfolding steps
 hidden-only = (refl, refl)
 
--- 5 decided before any pair is added: as the sheet stands, no two of its rules contradict each other over either quantity, yet no integers satisfy it
+-- 5 orNoAssignment before any pair is added: as the sheet stands, no two of its rules contradict each other over either quantity, yet no integers satisfy it
 pub before-pairs :
     (contradicts 0 2 0 (sheetTable seenLate) ≡ false) × (contradicts 0 2 1 (sheetTable seenLate) ≡ false)
     × (refuted 2 (sheetTable seenLate) ≡ true)

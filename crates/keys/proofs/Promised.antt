@@ -11,25 +11,27 @@ use Rattle.words.specs.Change.{change, copying}
 use Rattle.words.proofs.Change.{change-drop}
 use Rattle.places.specs.Numbering.{blockStart}
 use Rattle.rules.specs.declared.refusal.Refusal.{Refusal}
-use Rattle.rules.specs.declared.refusal.Refusal.the-variants.{NoAssignment}
+use Rattle.rules.specs.declared.refusal.Refusal.the-variants.{Size, Malformed, OutOfLimit, Cancelling, NoAssignment, TooShort, Mismatch}
+use Rattle.rules.specs.Refusal.{refusalNumber}
+use Rattle.rules.specs.Limits.{maxBound}
 use Rattle.rules.specs.Hidden.{hiddenIn}
 use Rattle.rules.specs.Meaning.{Assignment}
 use Rattle.tables.specs.declared.reply.Reply.{Reply}
 use Rattle.tables.specs.declared.reply.Reply.the-variants.{Done, Refused}
-use Rattle.tables.specs.Tables.{tableSize, cleared}
+use Rattle.tables.specs.Tables.{cleared, replyNumber}
 use Rattle.tables.proofs.Tests.{refused-done, clash}
 use Rattle.tables.specs.Meaning.{Satisfies, assignmentOf}
 use Rattle.elimination.specs.Hiding.{paired, eliminated}
-use Rattle.keys.specs.Keys.{every, hideUpTo, keyOf, refuted, decided, keyChecks, keyReply, assignmentChecks, assignmentReply}
+use Rattle.keys.specs.Keys.{every, hideUpTo, keyOf, refuted, orNoAssignment, keyChecks, keyReply, assignmentChecks, assignmentReply}
 use Rattle.keys.specs.Reducing.{reduceUpTo, fillDown, Fits, Layered}
 use Rattle.keys.specs.Promises.{Lent, Keyed, Assigned, Decided}
 use Rattle.keys.proofs.Several.{key-exact, key-visible, refuted-false}
-use Rattle.keys.proofs.Fitting.{hide-ample}
+use Rattle.keys.proofs.Fitting.{hide-ample, key-within}
 use Rattle.keys.proofs.Copying.{SameTable, copied, same-back, same-satisfies, same-fits}
 use Rattle.keys.proofs.Reducing.{reduce-layered}
 use Rattle.keys.proofs.Filling.{fillDown-length, fillDown-rest, filled-range}
 use Rattle.keys.proofs.Deciding.{clash-some, clash-refuted}
-use Rattle.keys.proofs.Checking.{then-passed, then-refused, Lending, key-tells, assignment-tells}
+use Rattle.keys.proofs.Checking.{then-passed, then-refused, key-tells, key-told, assignment-tells, assignment-told}
 
 -- ---- words past the table's
 
@@ -55,50 +57,82 @@ rest-key hidden n t = rest-hidden hidden n n t
 untouched : (m : ℕ) (free : Bool) (w : List ℤ) → Lent m free w w
 untouched m free w = record { size = refl; rest = refl; kept = λ e. refl }
 
+-- a refusal's number is not 0
+refused-number : (f : Refusal) → refusalNumber f ≡ 0 → ⊥
+refused-number Size e = omega arith
+refused-number (Malformed l) e = omega arith
+refused-number (OutOfLimit l) e = omega arith
+refused-number (Cancelling l) e = omega arith
+refused-number NoAssignment e = omega arith
+refused-number (TooShort m) e = omega arith
+refused-number Mismatch e = omega arith
+
+zero-five : _≡_ {A = ℕ} 0 5 → ⊥
+zero-five e = omega arith
+
+not-done : (r : Reply) (f : Refusal) → r ≡ Refused f → replyNumber r ≡ 0 → ⊥
+not-done r f d e = refused-number f (rw d at e)
+
 -- ---- the key call
 
 pub key-refused : (n set : ℕ) (t w : List ℤ) (r : Reply) (f : Refusal) → r ≡ keyChecks n set t (length w) → r ≡ Refused f → Keyed n set t w r t w
 unfolding keyReply
 key-refused n set t w r f e d = record {
-  reply = e ∙ sym (then-refused (keyChecks n set t (length w)) (decided (refuted n t)) f (sym e ∙ d));
+  reply = reply;
+  told = key-told n set (length w) t _ reply;
   words = rw d;
   rest = refl;
   lent = untouched (blockStart n) _ w;
-  meaning = λ c. absurd (refused-done (sym d ∙ c));
-  visible = λ c. absurd (refused-done (sym d ∙ c));
-  some = λ c. absurd (refused-done (sym d ∙ c));
+  meaning = λ c. absurd (not-done r f d c);
+  some = λ c. absurd (not-done r f d c);
   none = λ c. absurd (refused-done (sym d ∙ e ∙ c));
+  visible = λ c. absurd (not-done r f d c);
+  growth = λ c. absurd (not-done r f d c);
 }
+  where
+    reply : r ≡ keyReply n set t (length w)
+    reply = e ∙ sym (then-refused (keyChecks n set t (length w)) (orNoAssignment (refuted n t)) f (sym e ∙ d))
 
 pub key-none : (n set : ℕ) (t w w' : List ℤ) → keyChecks n set t (length w) ≡ Done → Decided n t w true w' → Keyed n set t w (Refused NoAssignment) t w'
-unfolding keyReply decided
+unfolding keyReply orNoAssignment
 key-none n set t w w' e d = record {
-  reply = sym (then-passed (keyChecks n set t (length w)) (decided (refuted n t)) e ∙ rw (← d .reply));
+  reply = reply;
+  told = key-told n set (length w) t _ reply;
   words = refl;
   rest = refl;
   lent = d .lent;
-  meaning = λ c. absurd (refused-done c);
-  visible = λ c. absurd (refused-done c);
-  some = λ c. absurd (refused-done c);
+  meaning = λ c. absurd (refused-number NoAssignment c);
+  some = λ c. absurd (refused-number NoAssignment c);
   none = λ c. (λ g. d .meaning .0 refl, λ u. refl);
+  visible = λ c. absurd (refused-number NoAssignment c);
+  growth = λ c. absurd (refused-number NoAssignment c);
 }
+  where
+    reply : Refused NoAssignment ≡ keyReply n set t (length w)
+    reply = sym (then-passed (keyChecks n set t (length w)) (orNoAssignment (refuted n t)) e ∙ rw (← d .reply))
 
 pub key-done : (n set : ℕ) (t w t' w' : List ℤ) → keyChecks n set t (length w) ≡ Done → Decided n t w false w' → t' ≡ keyOf (hiddenIn set) n t
     → Keyed n set t w Done t' w'
-unfolding keyReply decided
+unfolding keyReply orNoAssignment
 key-done n set t w t' w' e d k =
-    let f = key-tells n set (length w) t e .1 in
+    let p = key-tells n set (length w) t e in
+    let f = p .1 in
     let s = refuted-false n t (f .grows .room) (hide-ample every n t f) (sym (d .reply)) in
     record {
-      reply = sym (then-passed (keyChecks n set t (length w)) (decided (refuted n t)) e ∙ rw (← d .reply));
+      reply = reply;
+      told = key-told n set (length w) t _ reply;
       words = k;
       rest = rw k (rest-key (hiddenIn set) n t);
       lent = d .lent;
       meaning = λ c σ. rw k (key-exact (hiddenIn set) n t (s .assignment) (hide-ample (hiddenIn set) n t f) (s .satisfies) σ);
-      visible = λ c. rw k (key-visible (hiddenIn set) n t (f .grows .room));
       some = λ c. s;
-      none = λ c. (λ g. absurd (refused-done (sym g)), λ u. absurd (u (s .assignment) (s .satisfies)));
+      none = λ c. (λ g. absurd (zero-five g), λ u. absurd (u (s .assignment) (s .satisfies)));
+      visible = λ c. rw k (key-visible (hiddenIn set) n t (f .grows .room));
+      growth = λ c. rw k (key-within (hiddenIn set) n maxBound t (f .grows .room) (p .2));
     }
+  where
+    reply : Done ≡ keyReply n set t (length w)
+    reply = sym (then-passed (keyChecks n set t (length w)) (orNoAssignment (refuted n t)) e ∙ rw (← d .reply))
 
 -- ---- the assignment call
 
@@ -106,25 +140,33 @@ pub assignment-refused : (n : ℕ) (t w v : List ℤ) (r : Reply) (f : Refusal) 
     → Assigned n t w v r w v
 unfolding assignmentReply
 assignment-refused n t w v r f e d = record {
-  reply = e ∙ sym (then-refused (assignmentChecks n t (length w) (length v)) (decided (refuted n t)) f (sym e ∙ d));
+  reply = reply;
+  told = assignment-told n (length w) (length v) t _ reply;
   lent = untouched (blockStart n) _ w;
   written = untouched n _ v;
-  meaning = λ c. absurd (refused-done (sym d ∙ c));
-  range = λ c. absurd (refused-done (sym d ∙ c));
+  meaning = λ c. absurd (not-done r f d c);
+  range = λ c. absurd (not-done r f d c);
   none = λ c. absurd (refused-done (sym d ∙ e ∙ c));
 }
+  where
+    reply : r ≡ assignmentReply n t (length w) (length v)
+    reply = e ∙ sym (then-refused (assignmentChecks n t (length w) (length v)) (orNoAssignment (refuted n t)) f (sym e ∙ d))
 
 pub assignment-none : (n : ℕ) (t w v w' : List ℤ) → assignmentChecks n t (length w) (length v) ≡ Done → Decided n t w true w'
     → Assigned n t w v (Refused NoAssignment) w' v
-unfolding assignmentReply decided
+unfolding assignmentReply orNoAssignment
 assignment-none n t w v w' e d = record {
-  reply = sym (then-passed (assignmentChecks n t (length w) (length v)) (decided (refuted n t)) e ∙ rw (← d .reply));
+  reply = reply;
+  told = assignment-told n (length w) (length v) t _ reply;
   lent = d .lent;
   written = untouched n _ v;
-  meaning = λ c. absurd (refused-done c);
-  range = λ c. absurd (refused-done c);
+  meaning = λ c. absurd (refused-number NoAssignment c);
+  range = λ c. absurd (refused-number NoAssignment c);
   none = λ c. (λ g. d .meaning .0 refl, λ u. refl);
 }
+  where
+    reply : Refused NoAssignment ≡ assignmentReply n t (length w) (length v)
+    reply = sym (then-passed (assignmentChecks n t (length w) (length v)) (orNoAssignment (refuted n t)) e ∙ rw (← d .reply))
 
 -- the table that the values are read from
 pub decided-layered : (n : ℕ) (t w w' : List ℤ) (r : Bool) → Fits n t → blockStart n ≤ length w → r ≡ false → Decided n t w r w' → Layered n w'
@@ -134,7 +176,7 @@ decided-layered n t w w' r f l e d =
 
 pub assignment-done : (n : ℕ) (t w v w' v' : List ℤ) → assignmentChecks n t (length w) (length v) ≡ Done → Decided n t w false w' → v' ≡ fillDown n w' n v
     → Assigned n t w v Done w' v'
-unfolding assignmentReply decided
+unfolding assignmentReply orNoAssignment
 assignment-done n t w v w' v' e d k =
     let p = assignment-tells n (length w) (length v) t e in
     let u : List ℤ = change (blockStart n) (copying t) w in
@@ -143,7 +185,8 @@ assignment-done n t w v w' v' e d k =
     let filled : v' ≡ fillDown n (reduceUpTo n n u) n v = k ∙ rw (d .words refl) in
     let s = clash-some n u v f (p .1) (clash-refuted n t u same (p .2) ∙ sym (d .reply)) in
     record {
-      reply = sym (then-passed (assignmentChecks n t (length w) (length v)) (decided (refuted n t)) e ∙ rw (← d .reply));
+      reply = reply;
+      told = assignment-told n (length w) (length v) t _ reply;
       lent = d .lent;
       written = record {
         size = rw filled (fillDown-length n n (reduceUpTo n n u) v);
@@ -152,5 +195,8 @@ assignment-done n t w v w' v' e d k =
       };
       meaning = λ c. rw filled (same-satisfies n u t (assignmentOf (fillDown n (reduceUpTo n n u) n v)) (same-back n t u same) s);
       range = λ c i h. rw filled (filled-range n (reduceUpTo n n u) v (reduce-layered n u f) (p .1) i h);
-      none = λ c. (λ g. absurd (refused-done (sym g)), λ z. absurd (z _ (same-satisfies n u t _ (same-back n t u same) s)));
+      none = λ c. (λ g. absurd (zero-five g), λ z. absurd (z _ (same-satisfies n u t _ (same-back n t u same) s)));
     }
+  where
+    reply : Done ≡ assignmentReply n t (length w) (length v)
+    reply = sym (then-passed (assignmentChecks n t (length w) (length v)) (orNoAssignment (refuted n t)) e ∙ rw (← d .reply))

@@ -14,7 +14,7 @@ use Rattle.rules.specs.Steps.{ruleOf, halvedOf}
 use Rattle.tables.specs.Places.{ruleAt, findPlace}
 use Rattle.tables.specs.Tables.{tableSize, serves, putAt, putHalved, putRule, putAll, tableOf, cleared, replyNumber, inLimit, wordsInLimit}
 use Rattle.elimination.specs.Hiding.{withSum, withHalf, bareBelow, pairWord, onOne, onTwo, lowestAt, pairing, anyBare, paired, contradicts, eliminated}
-use Rattle.keys.specs.Keys.{hideUpTo, keyOf, refutedUpTo, refuted, andThen, longEnough, withinLimit, lentChecks, keyChecks, decided, keyReply}
+use Rattle.keys.specs.Keys.{hideUpTo, keyOf, refutedUpTo, refuted, andThen, lengthReply, limitReply, lentChecks, keyChecks, orNoAssignment, keyReply}
 
 -- a sheet of n quantities with its hidden set, bit q - 1 for quantity q, and its rules as written; the paper's number of the reply, 0 where the
 -- key is made; and the key's rules as written, none where the call is refused
@@ -120,7 +120,7 @@ unfolding
     blockStart placeOfOne placeOfPair placeOfTwo findTwo blockUpTo blockOf offsetOf isOne higherAt lowerAt
     names ruleOf halvedOf ruleAt findPlace tableSize serves putAt putHalved putRule putAll cleared inLimit wordsInLimit
     withSum withHalf bareBelow pairWord onOne onTwo lowestAt pairing anyBare paired contradicts eliminated
-    hideUpTo keyOf refutedUpTo refuted andThen longEnough withinLimit lentChecks keyChecks decided keyReply
+    hideUpTo keyOf refutedUpTo refuted andThen lengthReply limitReply lentChecks keyChecks orNoAssignment keyReply
 steps = tt
 
 -- every case passes, by computing

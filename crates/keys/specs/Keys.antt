@@ -1,9 +1,9 @@
 -- The key of a sheet, 'no assignment', and the replies of the two calls (document 01, 'Hiding', 'Finding an assignment', 'Returned to the
 -- caller').
 use mathlib.Core.Bool.{Bool, true, false, cond, _&&_, _||_}
-use mathlib.Core.List.{List}
+use mathlib.Core.List.{List, [], _∷_}
 use Prim.Native.Nat.{ℕ, zero, suc}
-use lib.Dec.{ltb}
+use lib.Dec.{ltb, eqb}
 use lib.IntN.{ℤ, pos}
 use lib.ListN.{length}
 use Rattle.places.specs.Numbering.{blockStart}
@@ -21,9 +21,14 @@ unfoldable pub hideUpTo : (ℕ → Bool) → ℕ → ℕ → List ℤ → List �
 hideUpTo hidden n zero t = t
 hideUpTo hidden n (suc j) t = cond (hidden (suc j)) (eliminated n j (hideUpTo hidden n j t)) (hideUpTo hidden n j t)
 
--- the key: every hidden quantity is
+-- the key: the table with every hidden quantity hidden
 unfoldable pub keyOf : (ℕ → Bool) → ℕ → List ℤ → List ℤ
 keyOf hidden n t = hideUpTo hidden n n t
+
+-- how many of the first m quantities are hidden
+unfoldable pub hiddenCount : (ℕ → Bool) → ℕ → ℕ
+hiddenCount hidden zero = 0
+hiddenCount hidden (suc j) = cond (hidden (suc j)) (suc (hiddenCount hidden j)) (hiddenCount hidden j)
 
 -- all quantities, hidden and visible
 abbrev pub every : ℕ → Bool
@@ -34,51 +39,62 @@ unfoldable pub refutedUpTo : ℕ → ℕ → List ℤ → Bool
 refutedUpTo n zero t = false
 refutedUpTo n (suc j) t = refutedUpTo n j t || contradicts 0 n j (hideUpTo every n j t)
 
--- 'no assignment' is decided for all quantities
+-- 'no assignment' is orNoAssignment for all quantities
 unfoldable pub refuted : ℕ → List ℤ → Bool
 refuted n t = refutedUpTo n n t
 
 -- ---- replies
 
--- a table's words are in the sheet's limit
-abbrev pub sheetWords : ℕ → List ℤ → Bool
-sheetWords n t = wordsInLimit (blockStart n) (pos maxBound) t
+-- are all words of a table in the sheet's limit?
+abbrev pub inSheetLimit : ℕ → List ℤ → Bool
+inSheetLimit n t = wordsInLimit (blockStart n) (pos maxBound) t
 
 -- checks one after the other: the first refusal stands
 unfoldable pub andThen : Reply → Reply → Reply
 andThen Done next = next
 andThen (Refused r) next = Refused r
 
--- a lent slice of so many words is long enough, or 6 with the length needed
-unfoldable pub longEnough : ℕ → ℕ → Reply
-longEnough words needed = cond (ltb words needed) (Refused (TooShort needed)) Done
+-- the reply to a lent slice of so many words: done where they are enough, else 6 with the length needed
+unfoldable pub lengthReply : ℕ → ℕ → Reply
+lengthReply words needed = cond (ltb words needed) (Refused (TooShort needed)) Done
 
--- a number is in its limit, or 3
-unfoldable pub withinLimit : Bool → Reply
-withinLimit b = cond b Done (Refused (OutOfLimit 0))
+-- the reply to a number: done where it is in its limit, else 3
+unfoldable pub limitReply : Bool → Reply
+limitReply b = cond b Done (Refused (OutOfLimit 0))
 
--- a table and a workspace of so many words serve n quantities, or 1 for n and the table, 6 for the workspace
+-- the reply to n, a table and a workspace of so many words: 1 for n and the table, 6 for the workspace
 unfoldable pub lentChecks : ℕ → ℕ → ℕ → Reply
-lentChecks n table workspace = cond (serves n table) (longEnough workspace (blockStart n)) (Refused Size)
+lentChecks n table workspace = cond (serves n table) (lengthReply workspace (blockStart n)) (Refused Size)
 
 -- the key call's checks before 5: 1, 6, 3
 unfoldable pub keyChecks : ℕ → ℕ → List ℤ → ℕ → Reply
-keyChecks n set t workspace = andThen (lentChecks n (length t) workspace) (withinLimit (setWithin n set && sheetWords n t))
+keyChecks n set t workspace = andThen (lentChecks n (length t) workspace) (limitReply (setWithin n set && inSheetLimit n t))
 
 -- the assignment call's: 1, 6 for the workspace, 6 for the assignment, 3
 unfoldable pub assignmentChecks : ℕ → List ℤ → ℕ → ℕ → Reply
 assignmentChecks n t workspace values =
-    andThen (lentChecks n (length t) workspace) (andThen (longEnough values n) (withinLimit (sheetWords n t)))
+    andThen (lentChecks n (length t) workspace) (andThen (lengthReply values n) (limitReply (inSheetLimit n t)))
 
--- then 5
-unfoldable pub decided : Bool → Reply
-decided none = cond none (Refused NoAssignment) Done
+-- the last check: 5 where no integers satisfy
+unfoldable pub orNoAssignment : Bool → Reply
+orNoAssignment none = cond none (Refused NoAssignment) Done
 
+-- the key call's reply
 unfoldable pub keyReply : ℕ → ℕ → List ℤ → ℕ → Reply
-keyReply n set t workspace = andThen (keyChecks n set t workspace) (decided (refuted n t))
+keyReply n set t workspace = andThen (keyChecks n set t workspace) (orNoAssignment (refuted n t))
 
+-- the assignment call's reply
 unfoldable pub assignmentReply : ℕ → List ℤ → ℕ → ℕ → Reply
-assignmentReply n t workspace values = andThen (assignmentChecks n t workspace values) (decided (refuted n t))
+assignmentReply n t workspace values = andThen (assignmentChecks n t workspace values) (orNoAssignment (refuted n t))
+
+-- what the key call returns beside a number: line 0 with 3, the workspace's length with 6
+unfoldable pub keyValues : ℕ → ℕ → List ℕ
+keyValues n number = cond (eqb number 3) (0 ∷ []) (cond (eqb number 6) (blockStart n ∷ []) [])
+
+-- what the assignment call does: line 0 with 3, with 6 the length of the first that is too short
+unfoldable pub assignmentValues : ℕ → ℕ → ℕ → List ℕ
+assignmentValues n workspace number =
+    cond (eqb number 3) (0 ∷ []) (cond (eqb number 6) (cond (ltb workspace (blockStart n)) (blockStart n) n ∷ []) [])
 
 -- the replies after which the workspace is free: success and 5
 abbrev pub freesWorkspace : Reply → Bool

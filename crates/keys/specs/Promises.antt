@@ -3,21 +3,21 @@ use mathlib.Core.Bool.{Bool, true, false, cond}
 use mathlib.Core.Path.{_≡_}
 use mathlib.Core.Logic.{_↔_}
 use mathlib.Core.List.{List}
-use Prim.Native.Nat.{ℕ, _<_}
-use lib.IntN.{ℤ}
+use Prim.Native.Nat.{ℕ, _*_, _^_, _<_}
+use lib.IntN.{ℤ, pos}
 use lib.ListN.{length, drop}
 use Rattle.integers.specs.Bound.{Within}
 use Rattle.words.specs.Change.{wordAt, change, copying}
 use Rattle.places.specs.Numbering.{blockStart}
-use Rattle.rules.specs.declared.refusal.Refusal.the-variants.{NoAssignment}
+use Rattle.rules.specs.Limits.{maxBound}
 use Rattle.rules.specs.Hidden.{hiddenIn}
 use Rattle.rules.specs.Meaning.{Assignment}
 use Rattle.tables.specs.declared.reply.Reply.{Reply}
-use Rattle.tables.specs.declared.reply.Reply.the-variants.{Done, Refused}
-use Rattle.tables.specs.Tables.{isDone}
-use Rattle.tables.specs.Meaning.{Satisfies, Satisfiable, Unsatisfiable, SheetAllows, NamesVisible, assignmentOf}
+use Rattle.tables.specs.declared.reply.Reply.the-variants.{Done}
+use Rattle.tables.specs.Tables.{isDone, replyNumber, replyValues}
+use Rattle.tables.specs.Meaning.{Satisfies, Satisfiable, Unsatisfiable, SheetAllows, NamesVisible, assignmentOf, WordsWithin}
 use Rattle.elimination.specs.Magnitude.{valueLimit}
-use Rattle.keys.specs.Keys.{keyOf, refuted, keyChecks, keyReply, assignmentChecks, assignmentReply, freesWorkspace}
+use Rattle.keys.specs.Keys.{keyOf, hiddenCount, refuted, keyChecks, keyReply, keyValues, assignmentChecks, assignmentReply, assignmentValues, freesWorkspace}
 use Rattle.keys.specs.Reducing.{reduceUpTo, clashUpTo}
 
 -- a lent slice of which the first m words are the program's choice where `free`, and stay where not; words past them always stay
@@ -26,27 +26,31 @@ pub record Lent (m : ℕ) (free : Bool) (before after : List ℤ) : Type 0 where
   pub rest : drop m after ≡ drop m before
   pub kept : free ≡ false → after ≡ before
 
--- the key call on n quantities and a hidden set. Demand 2: the key allows integers for the visible quantities, and names these alone, exactly when some
--- integers for the hidden ones satisfy the whole sheet with them; past the earlier checks the reply is 5 exactly when no integers satisfy the sheet
+-- the key call on n quantities and a hidden set, by the paper's numbers and values. Demand 2: the key allows integers for the visible quantities exactly
+-- when some integers for the hidden ones satisfy the whole sheet with them; past the earlier checks the reply is 5 exactly when no integers satisfy
+-- the sheet. The key names visible quantities alone, and its bounds double at most with each hidden one
 pub record Keyed (n set : ℕ) (table workspace : List ℤ) (r : Reply) (table' workspace' : List ℤ) : Type 0 where
   pub reply : r ≡ keyReply n set table (length workspace)
+  pub told : replyValues r ≡ keyValues n (replyNumber r)
   pub words : table' ≡ cond (isDone r) (keyOf (hiddenIn set) n table) table
   pub rest : drop (blockStart n) table' ≡ drop (blockStart n) table
   pub lent : Lent (blockStart n) (freesWorkspace r) workspace workspace'
-  pub meaning : r ≡ Done → (σ : Assignment) → Satisfies n table' σ ↔ SheetAllows (hiddenIn set) (Satisfies n table) σ
-  pub visible : r ≡ Done → NamesVisible n (hiddenIn set) table'
-  pub some : r ≡ Done → Satisfiable n table
-  pub none : keyChecks n set table (length workspace) ≡ Done → (r ≡ Refused NoAssignment) ↔ Unsatisfiable n table
+  pub meaning : replyNumber r ≡ 0 → (σ : Assignment) → Satisfies n table' σ ↔ SheetAllows (hiddenIn set) (Satisfies n table) σ
+  pub some : replyNumber r ≡ 0 → Satisfiable n table
+  pub none : keyChecks n set table (length workspace) ≡ Done → (replyNumber r ≡ 5) ↔ Unsatisfiable n table
+  pub visible : replyNumber r ≡ 0 → NamesVisible n (hiddenIn set) table'
+  pub growth : replyNumber r ≡ 0 → WordsWithin (blockStart n) (pos (maxBound * 2 ^ hiddenCount (hiddenIn set) n)) table'
 
--- the assignment call on n quantities: where it succeeds, the first n words written satisfy every rule and lie between -2 ^ 62 and 2 ^ 62, which is
--- what all choices have in common; past the earlier checks the reply is 5 exactly when no integers satisfy the table
+-- the assignment call on n quantities. Where it succeeds, the first n words written satisfy every rule and lie between -2 ^ 62 and 2 ^ 62, which is what
+-- all choices have in common; past the earlier checks the reply is 5 exactly when no integers satisfy the table. The table is lent to be read alone
 pub record Assigned (n : ℕ) (table workspace values : List ℤ) (r : Reply) (workspace' values' : List ℤ) : Type 0 where
   pub reply : r ≡ assignmentReply n table (length workspace) (length values)
+  pub told : replyValues r ≡ assignmentValues n (length workspace) (replyNumber r)
   pub lent : Lent (blockStart n) (freesWorkspace r) workspace workspace'
   pub written : Lent n (isDone r) values values'
-  pub meaning : r ≡ Done → Satisfies n table (assignmentOf values')
-  pub range : r ≡ Done → (k : ℕ) → k < n → Within valueLimit (wordAt values' k)
-  pub none : assignmentChecks n table (length workspace) (length values) ≡ Done → (r ≡ Refused NoAssignment) ↔ Unsatisfiable n table
+  pub meaning : replyNumber r ≡ 0 → Satisfies n table (assignmentOf values')
+  pub range : replyNumber r ≡ 0 → (k : ℕ) → k < n → Within valueLimit (wordAt values' k)
+  pub none : assignmentChecks n table (length workspace) (length values) ≡ Done → (replyNumber r ≡ 5) ↔ Unsatisfiable n table
 
 -- a table reduced: whether a contradiction is met, and where not, every word
 pub record Reduced (n : ℕ) (before : List ℤ) (r : Bool) (after : List ℤ) : Type 0 where
@@ -54,7 +58,7 @@ pub record Reduced (n : ℕ) (before : List ℤ) (r : Bool) (after : List ℤ) :
   pub table : r ≡ false → after ≡ reduceUpTo n n before
   pub rest : drop (blockStart n) after ≡ drop (blockStart n) before
 
--- 'no assignment' decided of a table: true exactly when no integers satisfy it. Where some do, the workspace has its copy of the table reduced
+-- 'no assignment' orNoAssignment of a table: true exactly when no integers satisfy it. Where some do, the workspace has its copy of the table reduced
 pub record Decided (n : ℕ) (table workspace : List ℤ) (r : Bool) (workspace' : List ℤ) : Type 0 where
   pub reply : r ≡ refuted n table
   pub meaning : (r ≡ true) ↔ Unsatisfiable n table

@@ -7,33 +7,24 @@ use mathlib.Core.List.{List}
 use Prim.Native.Nat.{ℕ, zero, suc, _+_, _-_, _*_, _/_, _≤_, _<_, _^_}
 use lib.IntN.{ℤ, pos}
 use lib.ListN.{length, set}
-use Rattle.integers.specs.Bound.{Within}
 use Rattle.places.specs.Numbering.{blockStart}
 use Rattle.rules.specs.Limits.{maxQuantities}
-use Rattle.rules.specs.Meaning.{literalValue, names}
-use Rattle.tables.specs.Meaning.{HoldsRule, ruleIn, assignmentOf, WordsWithin}
-use Rattle.tables.specs.Tables.{hasRule}
-use Rattle.elimination.specs.Hiding.{pairWord, loneWord, paired, contradicts}
+use Rattle.tables.specs.Meaning.{WordsWithin}
+use Rattle.elimination.specs.Hiding.{paired, contradicts}
 use Rattle.elimination.specs.Magnitude.{Past, OwnWithin, Unnamed}
-use Rattle.elimination.specs.Choosing.{chosen}
+use Rattle.elimination.specs.Choosing.{choice}
 
 -- the first m quantities of n paired, each with later ones alone
 unfoldable pub reduceUpTo : ℕ → ℕ → List ℤ → List ℤ
 reduceUpTo n zero t = t
 reduceUpTo n (suc j) t = paired (suc j) n j (reduceUpTo n j t)
 
--- and a contradiction is met
+-- pairing them meets a contradiction
 unfoldable pub clashUpTo : ℕ → ℕ → List ℤ → Bool
 clashUpTo n zero t = false
 clashUpTo n (suc j) t = clashUpTo n j t || contradicts (suc j) n j (reduceUpTo n j t)
 
 -- ---- an assignment, read back from a reduced table: values for the quantities of n, the last first
-
--- the value chosen for quantity j + 1, given those of later ones
-unfoldable pub choice : ℕ → List ℤ → ℕ → List ℤ → ℤ
-choice n t j values =
-    chosen (literalValue (assignmentOf values)) (pairWord t (2 * j)) (pairWord t (2 * j + 1)) (loneWord t (2 * j)) (loneWord t (2 * j + 1))
-    (2 * j + 2) (2 * n - (2 * j + 2))
 
 -- the last m quantities chosen
 unfoldable pub fillDown : ℕ → List ℤ → ℕ → List ℤ → List ℤ
@@ -42,8 +33,8 @@ fillDown n t (suc m) values = set (fillDown n t m values) (n - suc m) (choice n 
 
 -- ---- the sums fit
 
--- `limit j` bounds the magnitudes when the first j quantities are paired or hidden, for any n. A step on a quantity at most doubles them; on one
--- that no rule names it enlarges nothing, and the quantity's reach may be 0
+-- `limit j` bounds the magnitudes when the first j quantities are paired or hidden, and `reach j` those of the rules of quantity j + 1 at its turn. A
+-- step at most doubles the magnitudes; on a quantity that no rule names it enlarges nothing, and the quantity's reach may be 0
 pub record Grows (n : ℕ) (limit reach : ℕ → ℕ) (t : List ℤ) : Type 0 where
   pub room : blockStart n ≤ length t
   pub start : WordsWithin (blockStart n) (pos (limit 0)) t

@@ -1,4 +1,4 @@
-// 'No assignment', decided for all quantities in a copy of the table: the rules of each quantity are paired with those of later ones.
+// 'No assignment', orNoAssignment for all quantities in a copy of the table: the rules of each quantity are paired with those of later ones.
 ghost use Prim.Native.Nat.{_≤_};
 ghost use lib.ListN.{length};
 ghost use Rattle.places.specs.Numbering.{blockStart};
@@ -21,7 +21,7 @@ fn reduce(n: usize, table: &mut [i64]) -> bool
 }
 
 // Whether no integers satisfy the table. Where some do, the workspace has the table reduced, from which `assignment` reads them.
-pub fn decide(n: usize, table: &[i64], workspace: &mut [i64]) -> bool
+pub(crate) fn decide(n: usize, table: &[i64], workspace: &mut [i64]) -> bool
     requires { ⌜ Fits n (now table) × (blockStart n ≤ length (now workspace)) ⌝ }
     ensures { λ r. ⌜ Decided n (now (table .entry)) (now (workspace .entry)) r (now (workspace .exit)) ⌝ }
 {

@@ -1,4 +1,4 @@
-// The answer of a call that changes a table.
+// The answer of a call on a table.
 use rules::refusal::Refusal;
 ghost use mathlib.Core.Path.{_≡_};
 ghost use Rattle.tables.specs.Tables.{replyNumber};

@@ -15,7 +15,7 @@ use Rattle.rules.specs.Meaning.{literalValue}
 use Rattle.tables.specs.Meaning.{assignmentOf}
 use Rattle.elimination.specs.Hiding.{pairWord, loneWord}
 use Rattle.elimination.specs.Magnitude.{addable}
-use Rattle.elimination.specs.Choosing.{boundedBy, chosen}
+use Rattle.elimination.specs.Choosing.{boundedBy, chosen, choice}
 use Rattle.elimination.specs.Promises.{Ready, Valued}
 use Rattle.elimination.proofs.Projection.{bounded-within}
 use Rattle.elimination.proofs.TermWords.{lone-within, pair-within}
@@ -99,7 +99,7 @@ sub-result : tie.Need-sub-result
 sub-result c = rw (below-value c) (zero-less-word (omega arith) (below-small (c .before .before)))
 
 returns : tie.Need-returns
-unfolding chosen
+unfolding choice chosen
 returns c = let s = c .before .before in
     ap (λ (z : ℤ). toZ w64 (ofZ w64 (pos 0 +ℤ negℤ z))) (below-value c)
     ∙ word-value (zero-less-word (omega arith) (below-small s)) ∙ zero-less (below s)

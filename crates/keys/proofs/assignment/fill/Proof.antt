@@ -9,7 +9,7 @@ use borrow.Author.Needs.{needs}
 use Rattle.integers.proofs.Parts.{held-value}
 use Rattle.keys.specs.Reducing.{fillDown}
 use Rattle.keys.proofs.Reducing.{layered-ready}
-use Rattle.keys.proofs.Filling.{fill-none, fill-more, choice-is, fill-valued}
+use Rattle.keys.proofs.Filling.{fill-none, fill-more, fill-valued}
 use Rattle.keys.proofs.assignment.fill.Statement.{statement}
 use Rattle.keys.proofs.assignment.fill.Tie as tie
 
@@ -50,7 +50,7 @@ loop-again c =
       rw (length-set) (l .inv .1),
       rw (held-value (c .choose .ok))
           (fill-more (s .args .n) (l .j) (now (s .args .table)) (now (s .args .values)) (l .values) _ (omega arith) (l .inv .0) (l .inv .2)
-          (choice-is (s .args .n) (l .j - 1) (now (s .args .table)) (l .values) _ (c .choose .ensures))),
+          (c .choose .ensures)),
     )
 
 same-length : tie.Need-same-length Inv-loop μ-loop

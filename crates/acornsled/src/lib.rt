@@ -1,30 +1,36 @@
-// The calls for hosts in C and Rust: numbers and slices go in, the paper's number of the reply comes out, 0 where the call is not refused.
-ghost use Rattle.acornsled.specs.Promises.{KeyNumber, AssignmentNumber};
+// The calls for hosts in C and Rust. A call answers with the paper's number of its reply, 0 where it is not refused, and writes to `value` what document 01
+// returns beside it, a line or the length needed, 0 where there is nothing. C sees a slice as a pointer and its length in words. The slices that a call
+// may change do not overlap others.
+ghost use Rattle.acornsled.specs.Promises.{KeyAnswer, AssignmentAnswer};
 
-// The key call. The table's first 2n² words become the key; the workspace needs as many.
+// The key call: where it answers 0, the table's first 2n² words have become the key. The workspace needs as many.
 #[no_mangle]
 pub extern "C" fn acornsled_key(
     n: usize,
     hidden: u32,
     table: &mut [i64],
     workspace: &mut [i64],
+    value: &mut usize,
 ) -> u32
-    ensures { λ r. ⌜ KeyNumber n hidden (now (table .entry)) (now (workspace .entry)) r (now (table .exit)) (now (workspace .exit)) ⌝ }
+    ensures { λ r. ⌜ KeyAnswer n hidden (now (table .entry)) (now (workspace .entry)) r (now (value .exit)) (now (table .exit)) (now (workspace .exit)) ⌝ }
 {
     let reply = keys::key::key(n, hidden, table, workspace);
+    *value = reply.value();
     reply.number()
 }
 
-// The assignment call. The first `n` words of `values` become integers that satisfy the table.
+// The assignment call: where it answers 0, the first `n` words of `values` have become integers that satisfy the table.
 #[no_mangle]
 pub extern "C" fn acornsled_assignment(
     n: usize,
     table: &[i64],
     workspace: &mut [i64],
     values: &mut [i64],
+    value: &mut usize,
 ) -> u32
-    ensures { λ r. ⌜ AssignmentNumber n (now (table .entry)) (now (workspace .entry)) (now (values .entry)) r (now (workspace .exit)) (now (values .exit)) ⌝ }
+    ensures { λ r. ⌜ AssignmentAnswer n (now (table .entry)) (now (workspace .entry)) (now (values .entry)) r (now (value .exit)) (now (workspace .exit)) (now (values .exit)) ⌝ }
 {
     let reply = keys::assignment::assignment(n, table, workspace, values);
+    *value = reply.value();
     reply.number()
 }

@@ -9,3 +9,4 @@ pub mod Checking
 pub mod Promised
 pub mod Starred
 pub mod Frauds
+pub mod FraudMeanings

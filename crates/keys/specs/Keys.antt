@@ -39,7 +39,7 @@ unfoldable pub refutedUpTo : ℕ → ℕ → List ℤ → Bool
 refutedUpTo n zero t = false
 refutedUpTo n (suc j) t = refutedUpTo n j t || contradicts 0 n j (hideUpTo every n j t)
 
--- 'no assignment' is orNoAssignment for all quantities
+-- 'no assignment' is decided for all quantities
 unfoldable pub refuted : ℕ → List ℤ → Bool
 refuted n t = refutedUpTo n n t
 

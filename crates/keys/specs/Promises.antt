@@ -58,7 +58,7 @@ pub record Reduced (n : ℕ) (before : List ℤ) (r : Bool) (after : List ℤ) :
   pub table : r ≡ false → after ≡ reduceUpTo n n before
   pub rest : drop (blockStart n) after ≡ drop (blockStart n) before
 
--- 'no assignment' orNoAssignment of a table: true exactly when no integers satisfy it. Where some do, the workspace has its copy of the table reduced
+-- 'no assignment' decided of a table: true exactly when no integers satisfy it. Where some do, the workspace has its copy of the table reduced
 pub record Decided (n : ℕ) (table workspace : List ℤ) (r : Bool) (workspace' : List ℤ) : Type 0 where
   pub reply : r ≡ refuted n table
   pub meaning : (r ≡ true) ↔ Unsatisfiable n table

@@ -1,4 +1,4 @@
-// 'No assignment', orNoAssignment for all quantities in a copy of the table: the rules of each quantity are paired with those of later ones.
+// 'No assignment', decided for all quantities in a copy of the table: the rules of each quantity are paired with those of later ones.
 ghost use Prim.Native.Nat.{_≤_};
 ghost use lib.ListN.{length};
 ghost use Rattle.places.specs.Numbering.{blockStart};

@@ -55,7 +55,7 @@ fn check(n: usize, set: u32, table: &[i64], workspace: usize) -> Reply
     Reply::Done
 }
 
-// Replaces the sheet's table over `n` quantities by its key, the quantities of the set `hidden` hidden. 'No assignment' is orNoAssignment in the workspace
+// Replaces the sheet's table over `n` quantities by its key, the quantities of the set `hidden` hidden. 'No assignment' is decided in the workspace
 // first, for all quantities.
 pub fn key(n: usize, hidden: u32, table: &mut [i64], workspace: &mut [i64]) -> Reply
     ensures { λ r. ⌜ Keyed n hidden (now (table .entry)) (now (workspace .entry)) r (now (table .exit)) (now (workspace .exit)) ⌝ }

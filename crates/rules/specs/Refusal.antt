@@ -1,6 +1,7 @@
 -- The paper's number and values for each refusal (document 01, 'Returned to the caller').
 use Prim.Native.Nat.{ℕ}
 use mathlib.Core.List.{List, [], _∷_}
+use lib.ListN.{getD}
 use Rattle.rules.specs.declared.refusal.Refusal.{Refusal}
 use Rattle.rules.specs.declared.refusal.Refusal.the-variants.{Size, Malformed, OutOfLimit, Cancelling, NoAssignment, TooShort, Mismatch}
 
@@ -23,3 +24,7 @@ refusalValues (Cancelling l) = l ∷ []
 refusalValues NoAssignment = []
 refusalValues (TooShort m) = m ∷ []
 refusalValues Mismatch = []
+
+-- the same as one number, 0 where there is none
+abbrev pub refusalValue : Refusal → ℕ
+refusalValue r = getD (refusalValues r) 0 0

@@ -1,6 +1,6 @@
 // Document 01's refusals. Their numbers, and what is returned beside them, are in specs/Refusal.antt.
 ghost use mathlib.Core.Path.{_≡_};
-ghost use Rattle.rules.specs.Refusal.{refusalNumber};
+ghost use Rattle.rules.specs.Refusal.{refusalNumber, refusalValue};
 
 pub enum Refusal {
     // 1: n, a table's length or a text's size
@@ -31,5 +31,20 @@ pub fn number(r: Refusal) -> u32
         Refusal::NoAssignment => 5,
         Refusal::TooShort { needed: _ } => 6,
         Refusal::Mismatch => 7,
+    }
+}
+
+// What is returned beside the number, a line or the length needed; 0 where there is nothing.
+pub fn value(r: Refusal) -> usize
+    ensures { λ k. ⌜ k ≡ refusalValue r ⌝ }
+{
+    match r {
+        Refusal::Size => 0,
+        Refusal::Malformed { line } => line,
+        Refusal::OutOfLimit { line } => line,
+        Refusal::Cancelling { line } => line,
+        Refusal::NoAssignment => 0,
+        Refusal::TooShort { needed } => needed,
+        Refusal::Mismatch => 0,
     }
 }

@@ -5,7 +5,7 @@ use mathlib.Core.Path.{_≡_}
 use Prim.Native.Nat.{ℕ, zero, suc, _*_}
 use lib.Dec.{leb, ltb, eqb}
 use lib.IntN.{ℤ, pos, negℤ}
-use lib.ListN.{replicate}
+use lib.ListN.{replicate, getD}
 use lib.Signed.{ltZ, leZ}
 use Rattle.words.specs.Change.{change, lowered}
 use Rattle.places.specs.declared.Place.{Place}
@@ -105,6 +105,10 @@ replyNumber (Refused r) = refusalNumber r
 abbrev pub replyValues : Reply → List ℕ
 replyValues Done = []
 replyValues (Refused r) = refusalValues r
+
+-- the same as one number, 0 where there is none
+abbrev pub replyValue : Reply → ℕ
+replyValue r = getD (replyValues r) 0 0
 
 -- a word is no rule, or a bound of at most B in magnitude
 unfoldable pub inLimit : ℤ → ℤ → Bool

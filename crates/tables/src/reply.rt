@@ -1,7 +1,7 @@
 // The answer of a call on a table.
 use rules::refusal::Refusal;
 ghost use mathlib.Core.Path.{_≡_};
-ghost use Rattle.tables.specs.Tables.{replyNumber};
+ghost use Rattle.tables.specs.Tables.{replyNumber, replyValue};
 
 pub enum Reply {
     Done,
@@ -16,6 +16,16 @@ impl Reply {
         match self {
             Reply::Done => 0,
             Reply::Refused(refusal) => rules::refusal::number(refusal),
+        }
+    }
+
+    // What is returned beside the number; 0 where there is nothing.
+    pub fn value(self) -> usize
+        ensures { λ r. ⌜ r ≡ replyValue self ⌝ }
+    {
+        match self {
+            Reply::Done => 0,
+            Reply::Refused(refusal) => rules::refusal::value(refusal),
         }
     }
 }

@@ -1,7 +1,7 @@
 //! A call on lent memory, and which words each reply may have changed (document 01, 'Returned to the caller').
 
 use crate::lent::Lent;
-use crate::library::{Library, DONE, NO_ASSIGNMENT};
+use crate::library::{Library, Reply, DONE, NO_ASSIGNMENT};
 use crate::meaning::size;
 
 pub struct KeyCall {
@@ -12,13 +12,13 @@ pub struct KeyCall {
 }
 
 impl KeyCall {
-    pub fn run(&mut self, library: &dyn Library) -> u32 {
+    pub fn run(&mut self, library: &dyn Library) -> Reply {
         let (table, workspace) = (self.table.slice(), self.workspace.slice());
         library.key(self.n, self.hidden, table, workspace)
     }
 
     /// Has the call changed no word but those that its reply leaves free?
-    pub fn memory(&self, reply: u32) -> Result<(), String> {
+    pub fn memory(&self, reply: Reply) -> Result<(), String> {
         let (table, workspace) = match reply {
             DONE => (size(self.n), size(self.n)),
             NO_ASSIGNMENT => (0, size(self.n)),
@@ -37,13 +37,13 @@ pub struct AssignmentCall {
 }
 
 impl AssignmentCall {
-    pub fn run(&mut self, library: &dyn Library) -> u32 {
+    pub fn run(&mut self, library: &dyn Library) -> Reply {
         let (workspace, values) = (self.workspace.slice(), self.values.slice());
         library.assignment(self.n, self.table.left(), workspace, values)
     }
 
     /// As for a key; the table is never changed.
-    pub fn memory(&self, reply: u32) -> Result<(), String> {
+    pub fn memory(&self, reply: Reply) -> Result<(), String> {
         let (workspace, values) = match reply {
             DONE => (size(self.n), self.n),
             NO_ASSIGNMENT => (size(self.n), 0),
@@ -55,8 +55,8 @@ impl AssignmentCall {
     }
 }
 
-/// The reply against the one that was due.
-pub fn same_reply(reply: u32, due: u32) -> Result<(), String> {
+/// The reply against the one that was due: its number and its value.
+pub fn same_reply(reply: Reply, due: Reply) -> Result<(), String> {
     if reply != due {
         return Err(format!("reply {reply}, due {due}"));
     }

@@ -4,8 +4,8 @@ use crate::brute;
 use crate::calls::{same_reply, AssignmentCall, KeyCall};
 use crate::counts::Counts;
 use crate::graph::{self, Closure};
-use crate::lent::Lent;
-use crate::library::{Library, DONE, NO_ASSIGNMENT};
+use crate::lent::{further, Lent};
+use crate::library::{Library, Reply, DONE, NO_ASSIGNMENT};
 use crate::meaning::{broken, largest_bound, rules, size, Rule};
 use crate::plain;
 use crate::random::Random;
@@ -33,7 +33,7 @@ pub fn sheet(library: &dyn Library, sheet: &Sheet, random: &mut Random, counts: 
 }
 
 /// The reply that is due where the call is not refused.
-pub fn due(satisfiable: bool) -> u32 {
+pub fn due(satisfiable: bool) -> Reply {
     if satisfiable {
         DONE
     } else {
@@ -124,14 +124,14 @@ fn assignment(
 
 /// A table, at times with further words, which are of any value and no part of it.
 fn lent_table(table: &[i64], random: &mut Random) -> Lent {
-    let further = random.pick(&[0, 0, 1, 9]);
-    let content = [table, &random.words(further)].concat();
+    let behind = further(random);
+    let content = [table, &random.words(behind)].concat();
     Lent::new(&content, random)
 }
 
 /// Words to be written to, as many as needed or a few more.
 fn lent_free(needed: usize, random: &mut Random) -> Lent {
-    let further = random.pick(&[0, 0, 1, 9]);
-    let content = random.words(needed + further);
+    let length = needed + further(random);
+    let content = random.words(length);
     Lent::new(&content, random)
 }

@@ -5,8 +5,8 @@ use crate::calls::{same_reply, AssignmentCall, KeyCall};
 use crate::check::due;
 use crate::counts::Counts;
 use crate::graph::Closure;
-use crate::lent::Lent;
-use crate::library::{Library, PAST_LIMIT, SIZE, TOO_SHORT};
+use crate::lent::{further, Lent};
+use crate::library::{too_short, Library, Reply, PAST_LIMIT, SIZE};
 use crate::meaning::{rules, size, LIMIT, MOST_QUANTITIES, NO_RULE};
 use crate::random::Random;
 use crate::sheets::Sheet;
@@ -30,13 +30,13 @@ pub fn both_calls(
 ) -> Result<(), String> {
     let damaged = Damaged::from(sheet, random);
     let reply = key(library, &damaged, random).map_err(|e| format!("key: {e}\n{damaged}"))?;
-    counts.damaged[reply as usize] += 1;
+    counts.damaged[reply.number as usize] += 1;
     let reply = assignment(library, &damaged, random).map_err(|e| format!("assignment: {e}\n{damaged}"))?;
-    counts.damaged[reply as usize] += 1;
+    counts.damaged[reply.number as usize] += 1;
     Ok(())
 }
 
-fn key(library: &dyn Library, damaged: &Damaged, random: &mut Random) -> Result<u32, String> {
+fn key(library: &dyn Library, damaged: &Damaged, random: &mut Random) -> Result<Reply, String> {
     let (n, hidden) = (damaged.n, damaged.hidden);
     let table = Lent::new(&damaged.table, random);
     let workspace = Lent::new(&random.words(damaged.workspace), random);
@@ -47,7 +47,7 @@ fn key(library: &dyn Library, damaged: &Damaged, random: &mut Random) -> Result<
     Ok(reply)
 }
 
-fn assignment(library: &dyn Library, damaged: &Damaged, random: &mut Random) -> Result<u32, String> {
+fn assignment(library: &dyn Library, damaged: &Damaged, random: &mut Random) -> Result<Reply, String> {
     let n = damaged.n;
     let table = Lent::new(&damaged.table, random);
     let workspace = Lent::new(&random.words(damaged.workspace), random);
@@ -61,10 +61,9 @@ fn assignment(library: &dyn Library, damaged: &Damaged, random: &mut Random) -> 
 
 impl Damaged {
     fn from(sheet: &Sheet, random: &mut Random) -> Damaged {
-        let n = sheet.n;
-        let mut damaged =
-            Damaged { n, hidden: sheet.hidden, table: sheet.table.clone(), workspace: size(n), values: n };
+        let mut damaged = Damaged::sound(sheet, random);
         let certain = random.below(6);
+        // n comes last: the other ways go by the sheet's
         let ways = [Damaged::word, Damaged::hidden, Damaged::table, Damaged::workspace, Damaged::values, Damaged::n];
         for (i, way) in ways.iter().enumerate() {
             if i == certain || random.chance(10) {
@@ -74,10 +73,20 @@ impl Damaged {
         damaged
     }
 
+    /// Nothing damaged yet. At times more is lent than needed, so that the length needed is not that of another slice.
+    fn sound(sheet: &Sheet, random: &mut Random) -> Damaged {
+        let (n, hidden) = (sheet.n, sheet.hidden);
+        let behind = further(random);
+        let table = [&sheet.table[..], &random.words(behind)].concat();
+        let workspace = size(n) + further(random);
+        let values = n + further(random);
+        Damaged { n, hidden, table, workspace, values }
+    }
+
     /// A word past the limit, by one or by far.
     fn word(&mut self, random: &mut Random) {
         let words = [LIMIT + 1, -LIMIT - 1, i64::MIN, i64::MIN + 1, NO_RULE - 1, 1 << 62, -(1 << 62)];
-        let place = random.edge(self.table.len());
+        let place = random.edge(size(self.n));
         self.table[place] = random.pick(&words);
     }
 
@@ -90,16 +99,16 @@ impl Damaged {
     }
 
     fn table(&mut self, random: &mut Random) {
-        let length = random.edge(self.table.len());
+        let length = random.edge(size(self.n));
         self.table.truncate(length);
     }
 
     fn workspace(&mut self, random: &mut Random) {
-        self.workspace = random.edge(self.workspace);
+        self.workspace = random.edge(size(self.n));
     }
 
     fn values(&mut self, random: &mut Random) {
-        self.values = random.edge(self.values);
+        self.values = random.edge(self.n);
     }
 
     /// A number of quantities that is none or too large. At some of them 2n² wraps to 0 or to something small. Half of the
@@ -113,11 +122,11 @@ impl Damaged {
         }
     }
 
-    fn due_of_key(&self) -> u32 {
+    fn due_of_key(&self) -> Reply {
         if self.table_refused() {
             SIZE
         } else if self.workspace < size(self.n) {
-            TOO_SHORT
+            too_short(size(self.n))
         } else if u64::from(self.hidden) >= 1 << self.n || self.word_refused() {
             PAST_LIMIT
         } else {
@@ -125,11 +134,13 @@ impl Damaged {
         }
     }
 
-    fn due_of_assignment(&self) -> u32 {
+    fn due_of_assignment(&self) -> Reply {
         if self.table_refused() {
             SIZE
-        } else if self.workspace < size(self.n) || self.values < self.n {
-            TOO_SHORT
+        } else if self.workspace < size(self.n) {
+            too_short(size(self.n))
+        } else if self.values < self.n {
+            too_short(self.n)
         } else if self.word_refused() {
             PAST_LIMIT
         } else {
@@ -147,7 +158,7 @@ impl Damaged {
     }
 
     /// The damage may be one that this call does not see, as short values in the call for a key.
-    fn due_of_rules(&self) -> u32 {
+    fn due_of_rules(&self) -> Reply {
         due(Closure::of(self.n, &rules(self.n, &self.table)).is_some())
     }
 }

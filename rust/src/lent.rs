@@ -5,6 +5,11 @@ use crate::random::Random;
 /// Words on either side, enough to see a call that counts wrong by a few words or by a block.
 const MARGIN: usize = 64;
 
+/// How many words are lent beyond those needed: none half of the time, so that a call that goes too far meets the margin.
+pub fn further(random: &mut Random) -> usize {
+    random.pick(&[0, 0, 1, 9])
+}
+
 pub struct Lent {
     words: Vec<i64>,
     /// the same words before the call

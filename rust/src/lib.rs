@@ -1,4 +1,5 @@
-//! Judges Acornsled's static library from Rust: every reply and every lent word of its two calls, against document 01.
+//! Judges Acornsled's static library from Rust: every reply of its two calls, its number and its value, and every lent
+//! word, against document 01.
 //!
 //! What a sheet means is decided twice, and neither way eliminates a quantity as the library does: by enumeration on small
 //! sheets (`brute`) and by shortest paths on all (`graph`). The key's words are compared with the same steps in

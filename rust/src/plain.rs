@@ -7,12 +7,12 @@
 mod choose;
 mod step;
 
-use crate::library::{DONE, NO_ASSIGNMENT, PAST_LIMIT, SIZE, TOO_SHORT};
+use crate::library::{too_short, Reply, DONE, NO_ASSIGNMENT, PAST_LIMIT, SIZE};
 use crate::meaning::{LIMIT, MOST_QUANTITIES, NO_RULE};
 
-pub fn key(n: usize, hidden: u32, table: &mut [i64], workspace: &mut [i64]) -> u32 {
-    if let Err(number) = lengths(n, table, workspace) {
-        return number;
+pub fn key(n: usize, hidden: u32, table: &mut [i64], workspace: &mut [i64]) -> Reply {
+    if let Err(refusal) = lengths(n, table, workspace) {
+        return refusal;
     }
     let (table, workspace) = (&mut table[..2 * n * n], &mut workspace[..2 * n * n]);
     // as 64 bits, for a 32-bit number cannot be shifted by 32
@@ -29,12 +29,12 @@ pub fn key(n: usize, hidden: u32, table: &mut [i64], workspace: &mut [i64]) -> u
     DONE
 }
 
-pub fn assignment(n: usize, table: &[i64], workspace: &mut [i64], values: &mut [i64]) -> u32 {
-    if let Err(number) = lengths(n, table, workspace) {
-        return number;
+pub fn assignment(n: usize, table: &[i64], workspace: &mut [i64], values: &mut [i64]) -> Reply {
+    if let Err(refusal) = lengths(n, table, workspace) {
+        return refusal;
     }
     if values.len() < n {
-        return TOO_SHORT;
+        return too_short(n);
     }
     let (table, workspace) = (&table[..2 * n * n], &mut workspace[..2 * n * n]);
     if !within_limits(table) {
@@ -49,12 +49,12 @@ pub fn assignment(n: usize, table: &[i64], workspace: &mut [i64], values: &mut [
 }
 
 /// The refusals that both calls begin with. n is tested first, so that 2n² cannot wrap.
-fn lengths(n: usize, table: &[i64], workspace: &[i64]) -> Result<(), u32> {
+fn lengths(n: usize, table: &[i64], workspace: &[i64]) -> Result<(), Reply> {
     if n == 0 || n > MOST_QUANTITIES || table.len() < 2 * n * n {
         return Err(SIZE);
     }
     if workspace.len() < 2 * n * n {
-        return Err(TOO_SHORT);
+        return Err(too_short(2 * n * n));
     }
     Ok(())
 }

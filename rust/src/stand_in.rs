@@ -12,11 +12,14 @@ unsafe extern "C" fn acornsled_key(
     table_len: usize,
     workspace: *mut i64,
     workspace_len: usize,
+    value: *mut usize,
 ) -> u32 {
-    // SAFETY: `sys` passes each slice's pointer with its length.
-    let (table, workspace) =
-        unsafe { (from_raw_parts_mut(table, table_len), from_raw_parts_mut(workspace, workspace_len)) };
-    plain::key(n, hidden, table, workspace)
+    // SAFETY: `sys` passes each slice's pointer with its length, and its own variable for the value.
+    let (table, workspace, value) =
+        unsafe { (from_raw_parts_mut(table, table_len), from_raw_parts_mut(workspace, workspace_len), &mut *value) };
+    let reply = plain::key(n, hidden, table, workspace);
+    *value = reply.value;
+    reply.number
 }
 
 #[no_mangle]
@@ -28,14 +31,18 @@ unsafe extern "C" fn acornsled_assignment(
     workspace_len: usize,
     values: *mut i64,
     values_len: usize,
+    value: *mut usize,
 ) -> u32 {
     // SAFETY: as above.
-    let (table, workspace, values) = unsafe {
+    let (table, workspace, values, value) = unsafe {
         (
             from_raw_parts(table, table_len),
             from_raw_parts_mut(workspace, workspace_len),
             from_raw_parts_mut(values, values_len),
+            &mut *value,
         )
     };
-    plain::assignment(n, table, workspace, values)
+    let reply = plain::assignment(n, table, workspace, values);
+    *value = reply.value;
+    reply.number
 }

@@ -1,7 +1,7 @@
 //! The static library's exported functions, declared as C sees them, and a safe wrapper for each.
 //! Nothing compares these declarations with the library's source, so they are kept to the two that are judged.
 
-use crate::library::Library;
+use crate::library::{Library, Reply};
 
 extern "C" {
     fn acornsled_key(
@@ -11,6 +11,7 @@ extern "C" {
         table_len: usize,
         workspace: *mut i64,
         workspace_len: usize,
+        value: *mut usize,
     ) -> u32;
 
     fn acornsled_assignment(
@@ -21,22 +22,31 @@ extern "C" {
         workspace_len: usize,
         values: *mut i64,
         values_len: usize,
+        value: *mut usize,
     ) -> u32;
 }
+
+/// What the value is before a call. No reply has it, so that a call which leaves the value unwritten is seen.
+const UNWRITTEN: usize = usize::MAX;
 
 /// The library that this program is linked with.
 pub struct Linked;
 
 impl Library for Linked {
-    fn key(&self, n: usize, hidden: u32, table: &mut [i64], workspace: &mut [i64]) -> u32 {
-        // SAFETY: each pointer goes with its slice's own length and the slices do not overlap; the function requires
-        // nothing of n and hidden.
-        unsafe { acornsled_key(n, hidden, table.as_mut_ptr(), table.len(), workspace.as_mut_ptr(), workspace.len()) }
+    fn key(&self, n: usize, hidden: u32, table: &mut [i64], workspace: &mut [i64]) -> Reply {
+        let (table_len, workspace_len) = (table.len(), workspace.len());
+        let (table, workspace) = (table.as_mut_ptr(), workspace.as_mut_ptr());
+        let mut value = UNWRITTEN;
+        // SAFETY: each pointer goes with its slice's own length, and no slice overlaps the other or the value; the
+        // function requires nothing of n and hidden.
+        let number = unsafe { acornsled_key(n, hidden, table, table_len, workspace, workspace_len, &mut value) };
+        Reply { number, value }
     }
 
-    fn assignment(&self, n: usize, table: &[i64], workspace: &mut [i64], values: &mut [i64]) -> u32 {
+    fn assignment(&self, n: usize, table: &[i64], workspace: &mut [i64], values: &mut [i64]) -> Reply {
+        let mut value = UNWRITTEN;
         // SAFETY: as above; the table is only read.
-        unsafe {
+        let number = unsafe {
             acornsled_assignment(
                 n,
                 table.as_ptr(),
@@ -45,7 +55,9 @@ impl Library for Linked {
                 workspace.len(),
                 values.as_mut_ptr(),
                 values.len(),
+                &mut value,
             )
-        }
+        };
+        Reply { number, value }
     }
 }

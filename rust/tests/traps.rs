@@ -35,6 +35,12 @@ fn each_trap_is_seen() {
         Trap::WorkspaceLostAtThree,
         Trap::Zeros,
         Trap::ValuesLostAtFive,
+        Trap::AssignmentBeforeWorkspace,
+        Trap::TableLengthAsNeeded,
+        Trap::ValueBeside(0),
+        Trap::ValueBeside(1),
+        Trap::ValueBeside(3),
+        Trap::ValueBeside(5),
     ];
     for trap in traps {
         let seen = run::all(&Naive(trap), 1, SHEETS).is_err();

@@ -19,11 +19,10 @@ use Rattle.rules.specs.declared.rule.Rule.{Rule}
 use Rattle.rules.specs.declared.rule.Rule.the-variants.{Nothing}
 use Rattle.rules.specs.Literal.{quantityOf}
 use Rattle.rules.specs.Meaning.{boundOf, names}
-use Rattle.rules.specs.Steps.{partnerOf, restRule}
-use Rattle.rules.specs.Promises.{Stands}
+use Rattle.rules.specs.Steps.{partnerOf}
 use Rattle.tables.specs.Places.{findPlace, HasPlace}
 use Rattle.tables.specs.Tables.{hasRule}
-use Rattle.tables.specs.Meaning.{HoldsRule, ruleIn}
+use Rattle.tables.specs.Meaning.{ruleIn}
 use Rattle.elimination.specs.Hiding.{pairWord, loneWord, paired, contradicts}
 use Rattle.elimination.specs.ByRules.{RuleWith, IsSum, SumAt, BareSum}
 use Rattle.elimination.proofs.TermWords.{pair-first, pair-second, pair-apart}

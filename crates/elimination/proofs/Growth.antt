@@ -12,14 +12,14 @@ use lib.ListN.{length}
 use Rattle.integers.specs.Bound.{Within}
 use Rattle.integers.proofs.Within.{within-mono, within-add, within-half}
 use Rattle.words.specs.Change.{wordAt}
-use Rattle.words.proofs.Change.{change-below, change-past, change-nothing}
+use Rattle.words.proofs.Change.{change-past, change-nothing}
 use Rattle.places.specs.Numbering.{blockStart, placeOfOne, placeOfPair, isOne, higherAt, lowerAt}
 use Rattle.places.proofs.Numbering.{one-below, pair-below, one-block, pair-block, pair-offset, at-one, at-lower, at-pair, at-below}
 use Rattle.rules.specs.Limits.{noRule}
 use Rattle.rules.specs.Meaning.{names}
 use Rattle.tables.specs.Places.{ruleAt}
 use Rattle.tables.specs.Tables.{hasRule, clearing, cleared}
-use Rattle.tables.specs.Meaning.{HoldsRule, ruleIn, WordsWithin}
+use Rattle.tables.specs.Meaning.{ruleIn, WordsWithin}
 use Rattle.tables.proofs.Tests.{clash}
 use Rattle.tables.proofs.Without.{cleared-word}
 use Rattle.tables.proofs.Places.{own-named, four-named}

@@ -1,24 +1,23 @@
 -- Pairing the rules of one quantity, word by word: what a sum put in does to a word, and which word the paired table has at the place of each term.
 -- Assumes nothing.
-use mathlib.Core.Path.{_≡_, refl, sym, _∙_}
+use mathlib.Core.Path.{_≡_, refl, _∙_}
 use mathlib.Core.Bool.{Bool, true, false, cond, _&&_, and-false}
 use mathlib.Core.List.{List}
 use Prim.Native.Nat.{ℕ, _+_, _*_, _/_, _≤_, _<_}
 use native.Mathlib.Omega.{arith}
-use lib.Dec.{ltb, eqb}
+use lib.Dec.{ltb}
 use lib.IntN.{ℤ, _+ℤ_}
 use lib.ListN.{length}
 use lib.Signed.{_≤ℤ_, ≤ℤ-refl}
-use borrow.Author.Tests.{ltb-true, ltb-false, lt-ltb, le-ltb, eqb-true, eqb-false, eq-eqb, ne-eqb}
-use Rattle.integers.specs.Bound.{half, smaller, Within}
+use borrow.Author.Tests.{ltb-true, ltb-false, lt-ltb, le-ltb}
+use Rattle.integers.specs.Bound.{half, smaller}
 use Rattle.integers.proofs.Parts.{linear, ltZ-true, lt-ltZ, parts-add, smaller-left, smaller-right, smaller-either}
 use Rattle.words.specs.Change.{wordAt}
 use Rattle.words.proofs.Change.{change-below}
-use Rattle.places.specs.Numbering.{blockStart, placeOfOne, placeOfPair, placeOfTwo}
+use Rattle.places.specs.Numbering.{blockStart, placeOfOne, placeOfPair}
 use Rattle.places.proofs.Numbering.{one-below, pair-below, one-isOne, one-higher, pair-isOne, pair-higher, pair-lower}
 use Rattle.rules.specs.Limits.{noRule}
 use Rattle.tables.specs.Tables.{hasRule}
-use Rattle.tables.specs.Meaning.{WordsWithin}
 use Rattle.tables.proofs.Tests.{clash}
 use Rattle.elimination.proofs.TermWords.{quantity-cases, pair-same, pair-first, pair-second}
 use Rattle.elimination.specs.Hiding.{withSum, withHalf, pairWord, loneWord, onOne, onTwo, lowestAt, pairing, paired}

@@ -9,12 +9,11 @@ use lib.Dec.{ltb, eqb}
 use lib.IntN.{ℤ, negℤ, _+ℤ_, +ℤ-comm}
 use lib.ListN.{length}
 use lib.Signed.{_≤ℤ_}
-use borrow.Author.Tests.{ltb-true, ltb-false, lt-ltb, le-ltb, eq-eqb, ne-eqb}
+use borrow.Author.Tests.{ltb-true, ltb-false}
 use Rattle.words.specs.Change.{wordAt}
-use Rattle.places.specs.Numbering.{blockStart, placeOfOne, placeOfPair, placeOfTwo, isOne, higherAt, lowerAt, offsetOf}
+use Rattle.places.specs.Numbering.{blockStart, placeOfOne, placeOfPair, isOne, higherAt, lowerAt, offsetOf}
 use Rattle.places.proofs.Numbering.{one-below, pair-below, one-isOne, one-higher, pair-isOne, pair-higher, pair-lower, higher-half, at-one, at-lower, at-pair, at-below}
 use Rattle.rules.specs.declared.rule.Rule.the-variants.{One, Two}
-use Rattle.rules.specs.Limits.{noRule}
 use Rattle.rules.specs.Literal.{quantityOf}
 use Rattle.rules.specs.Meaning.{Assignment, literalValue, Meets, names}
 use Rattle.rules.proofs.Literals.{sign-cases, value-plus, value-minus}

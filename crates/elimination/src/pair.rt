@@ -6,7 +6,6 @@ use crate::word;
 use rules::sheet::Sheet;
 ghost use mathlib.Core.Path.{_≡_};
 ghost use Prim.Native.Nat.{suc, _+_, _*_, _<_, _≤_};
-ghost use lib.IntN.{ℤ};
 ghost use lib.ListN.{length, set};
 ghost use Rattle.words.specs.Change.{wordAt, change, startingAt};
 ghost use Rattle.places.specs.Numbering.{blockStart};

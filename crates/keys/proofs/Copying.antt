@@ -1,8 +1,7 @@
 -- A copy of a table means the same and fits alike. Assumes nothing.
-use mathlib.Core.Path.{_≡_, refl, sym, _∙_}
-use mathlib.Core.Bool.{true, false}
+use mathlib.Core.Path.{_≡_, sym, _∙_}
 use mathlib.Core.List.{List}
-use mathlib.Core.Logic.{_↔_, _⊎_, inl, inr}
+use mathlib.Core.Logic.{_⊎_, inl, inr}
 use Prim.Native.Nat.{ℕ, _≤_, _<_}
 use native.Mathlib.Omega.{arith}
 use lib.IntN.{ℤ, pos}
@@ -14,7 +13,7 @@ use Rattle.places.specs.Numbering.{blockStart}
 use Rattle.rules.specs.Meaning.{Assignment}
 use Rattle.tables.specs.Meaning.{HoldsRule, Satisfies, WordsWithin}
 use Rattle.elimination.specs.Magnitude.{Unnamed}
-use Rattle.keys.specs.Reducing.{Grows, Fits}
+use Rattle.keys.specs.Reducing.{Fits}
 
 -- two tables over n quantities hold the same words
 pub record SameTable (n : ℕ) (t u : List ℤ) : Type 0 where

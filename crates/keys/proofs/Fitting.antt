@@ -23,7 +23,7 @@ use Rattle.elimination.proofs.Growth.{eliminated-within, eliminated-unnamed-wit
 use Rattle.elimination.proofs.Unnamed.{unnamed-eliminated}
 use Rattle.keys.specs.Keys.{hideUpTo, keyOf, hiddenCount, inSheetLimit}
 use Rattle.keys.specs.Reducing.{Grows, Fits}
-use Rattle.keys.proofs.Several.{Ample, AmpleUpTo, hideUpTo-length}
+use Rattle.keys.proofs.Several.{AmpleUpTo, hideUpTo-length}
 
 -- limits that each step raises do not fall
 pub limit-rises : (n : ℕ) (limit reach : ℕ → ℕ) → ((j : ℕ) → j < n → (reach j ≤ limit j) × (limit j + reach j ≤ limit (suc j)))

@@ -2,8 +2,7 @@
 use mathlib.Core.Path.{_≡_, refl, sym, _∙_}
 use mathlib.Core.Bool.{Bool, true, false, cond}
 use mathlib.Core.List.{List}
-use mathlib.Core.Logic.{_↔_}
-use Prim.Native.Nat.{ℕ, zero, suc, _≤_, _<_}
+use Prim.Native.Nat.{ℕ, zero, suc, _≤_}
 use native.Mathlib.Omega.{arith}
 use lib.IntN.{ℤ}
 use lib.ListN.{length, drop}
@@ -15,12 +14,11 @@ use Rattle.rules.specs.declared.refusal.Refusal.the-variants.{Size, Malformed, 
 use Rattle.rules.specs.Refusal.{refusalNumber}
 use Rattle.rules.specs.Limits.{maxBound}
 use Rattle.rules.specs.Hidden.{hiddenIn}
-use Rattle.rules.specs.Meaning.{Assignment}
 use Rattle.tables.specs.declared.reply.Reply.{Reply}
 use Rattle.tables.specs.declared.reply.Reply.the-variants.{Done, Refused}
 use Rattle.tables.specs.Tables.{cleared, replyNumber}
 use Rattle.tables.proofs.Tests.{refused-done, clash}
-use Rattle.tables.specs.Meaning.{Satisfies, assignmentOf}
+use Rattle.tables.specs.Meaning.{assignmentOf}
 use Rattle.elimination.specs.Hiding.{paired, eliminated}
 use Rattle.keys.specs.Keys.{every, hideUpTo, keyOf, refuted, orNoAssignment, keyChecks, keyReply, assignmentChecks, assignmentReply}
 use Rattle.keys.specs.Reducing.{reduceUpTo, fillDown, Fits, Layered}

@@ -1,10 +1,10 @@
 -- A table reduced: it is satisfied by the same integers, its sums have fitted, and where no contradiction was met the rules of each quantity leave room
 -- for a value, whatever values later ones have. Assumes nothing.
-use mathlib.Core.Path.{_≡_, refl, _∙_, sym, ap}
-use mathlib.Core.Bool.{Bool, true, false, _||_}
+use mathlib.Core.Path.{_≡_, refl, _∙_, sym}
+use mathlib.Core.Bool.{Bool, true, false}
 use mathlib.Core.List.{List}
-use mathlib.Core.Logic.{_↔_, _⊎_, inl, inr}
-use Prim.Native.Nat.{ℕ, zero, suc, _+_, _-_, _*_, _/_, _≤_, _<_, _^_}
+use mathlib.Core.Logic.{_⊎_, inl, inr}
+use Prim.Native.Nat.{ℕ, zero, suc, _+_, _-_, _*_, _/_, _≤_, _<_}
 use native.Mathlib.Nat.{zero-add, suc-add}
 use native.Mathlib.Omega.{arith}
 use lib.Dec.{ltb, eqb}
@@ -15,21 +15,20 @@ use Rattle.integers.specs.Bound.{Within}
 use Rattle.integers.proofs.Within.{within-mono}
 use Rattle.words.proofs.Change.{change-drop}
 use Rattle.places.specs.Numbering.{blockStart}
-use Rattle.rules.specs.Meaning.{Assignment, literalValue}
+use Rattle.rules.specs.Meaning.{Assignment}
 use Rattle.tables.specs.Tables.{hasRule}
-use Rattle.tables.specs.Meaning.{Satisfies, WordsWithin}
+use Rattle.tables.specs.Meaning.{Satisfies}
 use Rattle.tables.proofs.Tests.{clash}
 use Rattle.elimination.specs.Hiding.{pairWord, loneWord, paired, contradicts}
 use Rattle.elimination.specs.Promises.{Ready, Paired}
 use Rattle.elimination.specs.Magnitude.{Past, OwnWithin, Unnamed}
-use Rattle.elimination.proofs.Projection.{Sums}
 use Rattle.elimination.proofs.Terms.{TermsMet}
 use Rattle.elimination.proofs.TermWords.{quantity-cases, pair-sym, pair-apart}
 use Rattle.elimination.proofs.Step.{SumsOf, neither, paired-length, pair-early, lone-early, step-lower}
 use Rattle.elimination.proofs.Exact.{upward-room, upward-met, upward-lower}
 use Rattle.elimination.proofs.Growth.{TermsWithin, terms-mono, terms-own, words-terms, upward-within, unnamed-lone, unnamed-pair}
 use Rattle.elimination.proofs.Unnamed.{unnamed-paired}
-use Rattle.keys.specs.Reducing.{reduceUpTo, clashUpTo, Grows, Fits, Layered}
+use Rattle.keys.specs.Reducing.{reduceUpTo, clashUpTo, Fits, Layered}
 use Rattle.keys.specs.Promises.{Reduced}
 use Rattle.keys.proofs.Fitting.{limit-rises}
 use Rattle.keys.proofs.Several.{Ample, or-either}

@@ -7,7 +7,6 @@ use lib.Dec.{ltb, eqb}
 use lib.IntN.{ℤ, pos}
 use lib.ListN.{length}
 use Rattle.places.specs.Numbering.{blockStart}
-use Rattle.rules.specs.declared.refusal.Refusal.{Refusal}
 use Rattle.rules.specs.declared.refusal.Refusal.the-variants.{Size, Malformed, OutOfLimit, Cancelling, NoAssignment, TooShort, Mismatch}
 use Rattle.rules.specs.Limits.{maxBound}
 use Rattle.rules.specs.Hidden.{setWithin}

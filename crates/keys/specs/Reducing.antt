@@ -1,10 +1,10 @@
 -- How the program decides 'no assignment', in one table and without clearing places: step after step the rules of a quantity are paired with those of
 -- later quantities alone. So the places of each quantity with later ones stay as they were at its turn, and an assignment can be read back.
-use mathlib.Core.Bool.{Bool, true, false, _||_}
+use mathlib.Core.Bool.{Bool, false, _||_}
 use mathlib.Core.Path.{_≡_}
 use mathlib.Core.Logic.{_⊎_}
 use mathlib.Core.List.{List}
-use Prim.Native.Nat.{ℕ, zero, suc, _+_, _-_, _*_, _/_, _≤_, _<_, _^_}
+use Prim.Native.Nat.{ℕ, zero, suc, _+_, _-_, _≤_, _<_, _^_}
 use lib.IntN.{ℤ, pos}
 use lib.ListN.{length, set}
 use Rattle.places.specs.Numbering.{blockStart}

@@ -1,6 +1,5 @@
 // Slices of words: a run of words set to one or copied, and a word put in by minimum.
 ghost use mathlib.Core.Path.{_≡_};
-ghost use lib.IntN.{ℤ};
 ghost use Rattle.words.specs.Change.{change, fillFrom, copying, lowered};
 
 // Sets the words from place `from` up to, and without, place `to` to `w`; past the end there is nothing to set.

@@ -1,59 +1,30 @@
 //! Hiding by document 01's words, on a list of rules and with two loops over it: slow, and written apart from
 //! `judge::plain`. It can be made to fall into one of the traps that the judge has to see.
 
-use judge::library::{Library, DONE, NO_ASSIGNMENT, PAST_LIMIT, SIZE, TOO_SHORT};
-use judge::meaning::{is_in, rules, size, Literal, Rule, LIMIT, NO_RULE};
+mod trap;
 
-/// The mistake that a library makes.
-#[derive(Clone, Copy, PartialEq, Debug)]
-pub enum Trap {
-    Nothing,
-    /// -1 halved is 0
-    RoundsTowardZero,
-    /// one-quantity rules are forgotten when pairing
-    ForgetsLoneRules,
-    /// the hidden quantity's lone rules stay
-    KeepsLoneRules,
-    /// 'no assignment' is decided on the hidden quantities only
-    DecidesOnHiddenOnly,
-    /// the first hidden quantity is removed, the others are merely blanked
-    HidesFirstOnly,
-    /// the key has no rules
-    EmptyKey,
-    /// the key is the sheet
-    SheetAsKey,
-    /// 5 before any pair is added
-    AlwaysWithout,
-    /// no sheet is without an assignment
-    NeverWithout,
-    /// hiding goes from the last quantity to the first: the same meaning, other words
-    HidesDownward,
-    /// the limit is tested before the lengths
-    LimitFirst,
-    /// the limit is not tested on the last word
-    LimitSkipsLast,
-    /// a hidden quantity past n is let through
-    HiddenUntested,
-    /// the table is changed though the reply is 5
-    TableLostAtFive,
-    /// one word past the table's own is written
-    WritesPastTable,
-    /// one word past the workspace is written
-    WritesPastWorkspace,
-    /// the workspace is written before the limit is tested
-    WorkspaceLostAtThree,
-    /// an assignment of zeros
-    Zeros,
-    /// values are written though the reply is 5
-    ValuesLostAtFive,
-}
+use judge::library::{too_short, Library, Reply, DONE, NO_ASSIGNMENT, PAST_LIMIT, SIZE};
+use judge::meaning::{is_in, rules, size, Literal, Rule, LIMIT, NO_RULE};
+pub use trap::Trap;
 
 pub struct Naive(pub Trap);
 
 impl Library for Naive {
-    fn key(&self, n: usize, hidden: u32, table: &mut [i64], workspace: &mut [i64]) -> u32 {
-        if let Err(number) = self.refusal(n, hidden, table, workspace, n) {
-            return number;
+    fn key(&self, n: usize, hidden: u32, table: &mut [i64], workspace: &mut [i64]) -> Reply {
+        let reply = self.keyed(n, hidden, table, workspace);
+        self.told(reply)
+    }
+
+    fn assignment(&self, n: usize, table: &[i64], workspace: &mut [i64], values: &mut [i64]) -> Reply {
+        let reply = self.assigned(n, table, workspace, values);
+        self.told(reply)
+    }
+}
+
+impl Naive {
+    fn keyed(&self, n: usize, hidden: u32, table: &mut [i64], workspace: &mut [i64]) -> Reply {
+        if let Err(refusal) = self.refusal(n, hidden, table, workspace, n) {
+            return refusal;
         }
         if !self.satisfiable(n, hidden, table) {
             if self.0 == Trap::TableLostAtFive {
@@ -72,9 +43,9 @@ impl Library for Naive {
         DONE
     }
 
-    fn assignment(&self, n: usize, table: &[i64], workspace: &mut [i64], values: &mut [i64]) -> u32 {
-        if let Err(number) = self.refusal(n, 0, table, workspace, values.len()) {
-            return number;
+    fn assigned(&self, n: usize, table: &[i64], workspace: &mut [i64], values: &mut [i64]) -> Reply {
+        if let Err(refusal) = self.refusal(n, 0, table, workspace, values.len()) {
+            return refusal;
         }
         if !self.satisfiable(n, u32::MAX, table) {
             if self.0 == Trap::ValuesLostAtFive {
@@ -89,10 +60,16 @@ impl Library for Naive {
         }
         DONE
     }
-}
 
-impl Naive {
-    fn refusal(&self, n: usize, hidden: u32, table: &[i64], workspace: &mut [i64], values: usize) -> Result<(), u32> {
+    /// The reply as it reaches the caller.
+    fn told(&self, reply: Reply) -> Reply {
+        match self.0 == Trap::ValueBeside(reply.number) {
+            true => Reply { value: 1, ..reply },
+            false => reply,
+        }
+    }
+
+    fn refusal(&self, n: usize, hidden: u32, table: &[i64], workspace: &mut [i64], values: usize) -> Result<(), Reply> {
         if n == 0 || n > 32 || table.len() < size(n) {
             return Err(SIZE);
         }
@@ -106,15 +83,29 @@ impl Naive {
         if past && self.0 == Trap::LimitFirst {
             return Err(PAST_LIMIT);
         }
-        if workspace.len() < size(n) || values < n {
-            return Err(TOO_SHORT);
-        }
+        self.lengths(n, table.len(), workspace.len(), values)?;
         if past && self.0 == Trap::WorkspaceLostAtThree {
             workspace[0] = 0;
         }
         match past {
             true => Err(PAST_LIMIT),
             false => Ok(()),
+        }
+    }
+
+    /// 6 with the length of the first that is too short, workspace before assignment.
+    fn lengths(&self, n: usize, table: usize, workspace: usize, values: usize) -> Result<(), Reply> {
+        let of_workspace = match self.0 {
+            Trap::TableLengthAsNeeded => table,
+            _ => size(n),
+        };
+        let mut order = [(workspace < size(n), of_workspace), (values < n, n)];
+        if self.0 == Trap::AssignmentBeforeWorkspace {
+            order.reverse();
+        }
+        match order.iter().find(|(short, _)| *short) {
+            Some(&(_, needed)) => Err(too_short(needed)),
+            None => Ok(()),
         }
     }
 

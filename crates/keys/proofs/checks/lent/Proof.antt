@@ -2,7 +2,6 @@
 use mathlib.Core.Path.{sym, _∙_}
 use borrow.Author.Needs.{needs}
 use borrow.Author.Tests.{not-true, not-false}
-use native.Mathlib.Omega.{arith}
 use Rattle.keys.proofs.Checking.{lent-size, lent-short, lent-done}
 use Rattle.keys.proofs.checks.lent.Statement.{statement}
 use Rattle.keys.proofs.checks.lent.Tie as tie

@@ -1,13 +1,12 @@
 -- `decide::reduce` meets its contract. The loop's invariant: the first j quantities are paired, with no contradiction. The measure is the quantities left.
 -- Assumes nothing.
-use mathlib.Core.Path.{_≡_, refl, sym, _∙_}
+use mathlib.Core.Path.{_≡_, refl, _∙_}
 use mathlib.Core.Bool.{false}
-use Prim.Native.Nat.{suc, _-_, _≤_}
+use Prim.Native.Nat.{_-_, _≤_}
 use native.Mathlib.Numerals.{add-one}
 use native.Mathlib.Omega.{arith}
 use lib.ListN.{length}
 use denote.Ref.{now}
-use borrow.Author.Needs.{needs}
 use Rattle.keys.specs.Reducing.{reduceUpTo, clashUpTo}
 use Rattle.keys.proofs.Reducing.{reduce-ready, reduce-none, reduce-more, clash-more, reduced-clash, reduced-clear}
 use Rattle.keys.proofs.decide.reduce.Statement.{statement}

@@ -35,7 +35,7 @@ hideUpTo-length hidden n (suc j) t = go (hideUpTo-length hidden n j t) (hidden (
     go ih true = eliminate-length n j (hideUpTo hidden n j t) ∙ ih
     go ih false = ih
 
--- one quantity more
+-- no quantity, one more, and all
 pub hide-none : (hidden : ℕ → Bool) (n : ℕ) (t : List ℤ) → t ≡ hideUpTo hidden n 0 t
 unfolding hideUpTo
 hide-none hidden n t = refl
@@ -116,7 +116,7 @@ one-joined : (a b : Bool) (x z : ℤ) → cond (a || b) x z ≡ cond a x (cond b
 one-joined true b x z = refl
 one-joined false b x z = refl
 
--- the magnitude to which two bounds of a table add up
+-- a table whose bounds add, two by two
 abbrev pub Ample : ℕ → List ℤ → Type 0
 Ample n t = Adds n 4611686018427387903 t
 

@@ -7,12 +7,12 @@ use lib.Dec.{ltb, eqb}
 use lib.IntN.{ℤ, pos}
 use lib.ListN.{length}
 use Rattle.places.specs.Numbering.{blockStart}
-use Rattle.rules.specs.declared.refusal.Refusal.the-variants.{Size, Malformed, OutOfLimit, Cancelling, NoAssignment, TooShort, Mismatch}
+use Rattle.rules.specs.declared.refusal.Refusal.the-variants.{Size, OutOfLimit, NoAssignment, TooShort}
 use Rattle.rules.specs.Limits.{maxBound}
 use Rattle.rules.specs.Hidden.{setWithin}
 use Rattle.tables.specs.declared.reply.Reply.{Reply}
 use Rattle.tables.specs.declared.reply.Reply.the-variants.{Done, Refused}
-use Rattle.tables.specs.Tables.{serves, wordsInLimit}
+use Rattle.tables.specs.Tables.{serves, wordsInLimit, replyNumber}
 use Rattle.elimination.specs.Hiding.{contradicts, eliminated}
 
 -- of the first m quantities those that are hidden, hidden in increasing number, in a table over n quantities
@@ -97,11 +97,4 @@ assignmentValues n workspace number =
 
 -- the replies after which the workspace is free: success and 5
 abbrev pub freesWorkspace : Reply → Bool
-freesWorkspace Done = true
-freesWorkspace (Refused Size) = false
-freesWorkspace (Refused (Malformed l)) = false
-freesWorkspace (Refused (OutOfLimit l)) = false
-freesWorkspace (Refused (Cancelling l)) = false
-freesWorkspace (Refused NoAssignment) = true
-freesWorkspace (Refused (TooShort m)) = false
-freesWorkspace (Refused Mismatch) = false
+freesWorkspace r = eqb (replyNumber r) 0 || eqb (replyNumber r) 5

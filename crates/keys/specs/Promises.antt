@@ -42,7 +42,7 @@ pub record Keyed (n set : ℕ) (table workspace : List ℤ) (r : Reply) (table' 
   pub growth : replyNumber r ≡ 0 → WordsWithin (blockStart n) (pos (maxBound * 2 ^ hiddenCount (hiddenIn set) n)) table'
 
 -- the assignment call on n quantities. Where it succeeds, the first n words written satisfy every rule and lie between -2 ^ 62 and 2 ^ 62, which is what
--- all choices have in common; past the earlier checks the reply is 5 exactly when no integers satisfy the table. The table is lent to be read alone
+-- all choices have in common; past the earlier checks the reply is 5 exactly when no integers satisfy the table. The table is only read
 pub record Assigned (n : ℕ) (table workspace values : List ℤ) (r : Reply) (workspace' values' : List ℤ) : Type 0 where
   pub reply : r ≡ assignmentReply n table (length workspace) (length values)
   pub told : replyValues r ≡ assignmentValues n (length workspace) (replyNumber r)

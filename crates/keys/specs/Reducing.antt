@@ -1,5 +1,6 @@
--- How the program decides 'no assignment', in one table and without clearing places: step after step the rules of a quantity are paired with those of
--- later quantities alone. So the places of each quantity with later ones stay as they were at its turn, and an assignment can be read back.
+-- How the program decides 'no assignment' in one table, reads an assignment back, and why its sums fit. Quantity after quantity is paired, of its
+-- rules those alone whose other quantity is a later one, and nothing is cleared. So the places of each quantity with later ones stay as they were at
+-- its turn.
 use mathlib.Core.Bool.{Bool, false, _||_}
 use mathlib.Core.Path.{_≡_}
 use mathlib.Core.Logic.{_⊎_}
@@ -14,7 +15,7 @@ use Rattle.elimination.specs.Hiding.{paired, contradicts}
 use Rattle.elimination.specs.Magnitude.{Past, OwnWithin, Unnamed}
 use Rattle.elimination.specs.Choosing.{choice}
 
--- the first m quantities of n paired, each with later ones alone
+-- the first m quantities of n paired, of each the rules with later quantities alone
 unfoldable pub reduceUpTo : ℕ → ℕ → List ℤ → List ℤ
 reduceUpTo n zero t = t
 reduceUpTo n (suc j) t = paired (suc j) n j (reduceUpTo n j t)

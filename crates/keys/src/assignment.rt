@@ -23,7 +23,7 @@ fn fill(n: usize, table: &[i64], values: &mut [i64])
     }
 }
 
-// The first refusal of the assignment call that is not 5.
+// The assignment call's reply before 5 is decided: its first refusal, or done.
 fn check(n: usize, table: &[i64], workspace: usize, values: usize) -> Reply
     ensures { λ r. ⌜ r ≡ assignmentChecks n (now (table .entry)) workspace values ⌝ }
 {

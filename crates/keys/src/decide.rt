@@ -1,11 +1,12 @@
-// 'No assignment', decided for all quantities in a copy of the table: the rules of each quantity are paired with those of later ones.
+// 'No assignment', decided for all quantities in a copy of the table: quantity after quantity is paired, and of its rules only those take part whose
+// other quantity is a later one.
 ghost use Prim.Native.Nat.{_≤_};
 ghost use lib.ListN.{length};
 ghost use Rattle.places.specs.Numbering.{blockStart};
 ghost use Rattle.keys.specs.Reducing.{Fits};
 ghost use Rattle.keys.specs.Promises.{Reduced, Decided};
 
-// Pairs the rules of each of `n` quantities with those of later ones and answers whether a contradiction is met, at which it stops.
+// Pairs the rules of each of `n` quantities that have a later one beside it or none, and answers whether a contradiction is met, at which it stops.
 fn reduce(n: usize, table: &mut [i64]) -> bool
     requires { ⌜ Fits n (now table) ⌝ }
     ensures { λ r. ⌜ Reduced n (now (table .entry)) r (now (table .exit)) ⌝ }

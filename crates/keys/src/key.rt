@@ -38,7 +38,7 @@ fn hide_set(n: usize, set: u32, table: &mut [i64])
     }
 }
 
-// The first refusal of the key call that is not 5.
+// The key call's reply before 5 is decided: its first refusal, or done.
 fn check(n: usize, set: u32, table: &[i64], workspace: usize) -> Reply
     ensures { λ r. ⌜ r ≡ keyChecks n set (now (table .entry)) workspace ⌝ }
 {

@@ -1,4 +1,4 @@
--- What the exported functions promise: the paper's number and value of a call's reply, and what the call promises of every lent word.
+-- What the exported functions promise: document 01's number and value of a call's reply, and what the call promises of every lent word.
 use mathlib.Core.Path.{_≡_}
 use mathlib.Core.List.{List}
 use Prim.Native.Nat.{ℕ}

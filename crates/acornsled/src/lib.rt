@@ -1,6 +1,6 @@
-// The calls for hosts in C and Rust. A call answers with the paper's number of its reply, 0 where it is not refused, and writes to `value` what document 01
-// returns beside it, a line or the length needed, 0 where there is nothing. C sees a slice as a pointer and its length in words. The slices that a call
-// may change do not overlap others.
+// The calls for hosts in C and Rust. A call answers with document 01's number of its reply, 0 where it is not refused, and writes to `value` what document 01
+// returns beside it, a line or the length needed, 0 where there is nothing. C sees a slice as a pointer and its length in words. The host passes
+// true lengths, and no slice overlaps another.
 ghost use Rattle.acornsled.specs.Promises.{KeyAnswer, AssignmentAnswer};
 
 // The key call: where it answers 0, the table's first 2n² words have become the key. The workspace needs as many.

@@ -16,7 +16,7 @@ use Rattle.tables.specs.Tables.{tableSize, serves, putAt, putHalved, putRule, p
 use Rattle.elimination.specs.Hiding.{withSum, withHalf, bareBelow, pairWord, onOne, onTwo, lowestAt, pairing, anyBare, paired, contradicts, eliminated}
 use Rattle.keys.specs.Keys.{hideUpTo, keyOf, refutedUpTo, refuted, andThen, lengthReply, limitReply, lentChecks, keyChecks, orNoAssignment, keyReply}
 
--- a sheet of n quantities with its hidden set, bit q - 1 for quantity q, and its rules as written; the paper's number of the reply, 0 where the
+-- a sheet of n quantities with its hidden set, bit q - 1 for quantity q, and its rules as written; document 01's number of the reply, 0 where the
 -- key is made; and the key's rules as written, none where the call is refused
 pub record Case : Type 0 where
   pub n : ℕ

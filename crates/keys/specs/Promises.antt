@@ -26,7 +26,7 @@ pub record Lent (m : ℕ) (free : Bool) (before after : List ℤ) : Type 0 where
   pub rest : drop m after ≡ drop m before
   pub kept : free ≡ false → after ≡ before
 
--- the key call on n quantities and a hidden set, by the paper's numbers and values. Demand 2: the key allows integers for the visible quantities exactly
+-- the key call on n quantities and a hidden set, by document 01's numbers and values. Demand 2: the key allows integers for the visible quantities exactly
 -- when some integers for the hidden ones satisfy the whole sheet with them; past the earlier checks the reply is 5 exactly when no integers satisfy
 -- the sheet. The key names visible quantities alone, and its bounds double at most with each hidden one
 pub record Keyed (n set : ℕ) (table workspace : List ℤ) (r : Reply) (table' workspace' : List ℤ) : Type 0 where

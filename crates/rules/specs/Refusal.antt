@@ -1,4 +1,4 @@
--- The paper's number and values for each refusal (document 01, 'Returned to the caller').
+-- Document 01's number and values for each refusal (document 01, 'Returned to the caller').
 use Prim.Native.Nat.{ℕ}
 use mathlib.Core.List.{List, [], _∷_}
 use lib.ListN.{getD}

@@ -19,7 +19,7 @@ pub enum Refusal {
     Mismatch,
 }
 
-// The paper's number of a refusal.
+// Document 01's number of a refusal.
 pub fn number(r: Refusal) -> u32
     ensures { λ k. ⌜ k ≡ refusalNumber r ⌝ }
 {

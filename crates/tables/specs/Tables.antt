@@ -96,7 +96,7 @@ cleared n q t = change (blockStart n) (clearing q) t
 unfoldable pub clearReply : ℕ → ℕ → ℕ → Reply
 clearReply n words q = cond (serves n words) (cond (leb 1 q && leb q n) Done (Refused (OutOfLimit 0))) (Refused Size)
 
--- the paper's number of a reply; 0 where the call is not refused
+-- document 01's number of a reply; 0 where the call is not refused
 abbrev pub replyNumber : Reply → ℕ
 replyNumber Done = 0
 replyNumber (Refused r) = refusalNumber r

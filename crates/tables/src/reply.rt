@@ -9,7 +9,7 @@ pub enum Reply {
 }
 
 impl Reply {
-    // The paper's number of a refusal; 0 where there is none.
+    // Document 01's number of a refusal; 0 where there is none.
     pub fn number(self) -> u32
         ensures { λ r. ⌜ r ≡ replyNumber self ⌝ }
     {

@@ -1,4 +1,4 @@
--- Which sums `pairing` puts in at each place of a block, and the walk over a block in the order of its places. Assumes nothing.
+-- The walk of `pairing` over the blocks of a table in the order of their places. Assumes nothing.
 use mathlib.Core.Path.{_≡_, refl, sym, _∙_, ap}
 use mathlib.Core.Bool.{Bool, true, false, cond}
 use mathlib.Core.List.{List}
@@ -8,14 +8,15 @@ use native.Mathlib.Omega.{arith}
 use lib.Dec.{ltb, eqb}
 use lib.IntN.{ℤ}
 use lib.ListN.{length, set}
-use borrow.Author.Tests.{ltb-false, lt-ltb, le-ltb, eqb-true, eqb-false}
+use borrow.Author.Tests.{ltb-false, le-ltb, eqb-true, eqb-false}
 use Rattle.words.specs.Change.{wordAt, change, startingAt}
 use Rattle.words.proofs.Change.{change-nothing, change-same}
 use Rattle.places.specs.Numbering.{blockStart, placeOfOne, placeOfPair, blockOf, offsetOf, isOne, higherAt, lowerAt}
-use Rattle.places.proofs.Numbering.{blockStart-suc, block-unique, offset-place, one-isOne, one-higher, pair-isOne, pair-higher, pair-lower, higher-half, at-lower, at-below}
+use Rattle.places.proofs.Numbering.{blockStart-suc, block-unique, offset-place, higher-half, at-lower, at-below}
 use Rattle.elimination.specs.Hiding.{withSum, withHalf, pairWord, loneWord, onOne, onTwo, lowestAt, pairing, paired}
 use Rattle.tables.specs.Tables.{hasRule}
-use Rattle.elimination.proofs.PairedWords.{withSum-left, withSum-right, withHalf-left}
+use Rattle.elimination.proofs.SumWords.{withSum-left, withSum-right, withHalf-left}
+use Rattle.elimination.proofs.PairedWords.{pairing-one, pairing-two, pairing-low}
 use Rattle.elimination.proofs.Rows.{starting-none, starting-more, starting-on, Gathered}
 
 -- ---- the places of a block
@@ -59,29 +60,12 @@ module _ (from : ℕ) (plus minus : ℕ → ℤ) (p m : ℤ) where
   abbrev f : ℕ → ℤ → ℤ
   f = pairing from plus minus p m
 
-  -- ---- what is put in at a place
-
-  -- at the place of a literal past the first quantities,
-  pub pairing-one : (x : ℕ) (w : ℤ) → 2 * from ≤ x → pairing from plus minus p m (placeOfOne x) w ≡ onOne plus minus p m x w
-  unfolding pairing lowestAt
-  pairing-one x w h = rw (one-isOne x, one-higher x, le-ltb x (2 * from) h)
-
-  -- at the place of two,
-  pub pairing-two : (x y : ℕ) (w : ℤ) → 2 * from ≤ x → x / 2 < y / 2 → pairing from plus minus p m (placeOfPair x y) w ≡ onTwo plus minus x y w
-  unfolding pairing lowestAt
-  pairing-two x y w h l = rw (pair-isOne x y l, pair-lower x y l, pair-higher x y l, le-ltb x (2 * from) h)
-
-  -- and nothing at the place of a literal of the first quantities
-  pub pairing-low : (k : ℕ) (w : ℤ) → lowestAt k < 2 * from → pairing from plus minus p m k w ≡ w
-  unfolding pairing
-  pairing-low k w h = rw (lt-ltb (lowestAt k) (2 * from) h)
-
   -- ---- the walk
 
   -- before the block of quantity from + 1 nothing is put in
   pub blocks-none : (t : List ℤ) → t ≡ change (blockStart from) (pairing from plus minus p m) t
   blocks-none t =
-      sym (change-nothing (blockStart from) (pairing from plus minus p m) t (λ k h. pairing-low k (wordAt t k) (lowest-before from k h)))
+      sym (change-nothing (blockStart from) (pairing from plus minus p m) t (λ k h. pairing-low from plus minus p m k (wordAt t k) (lowest-before from k h)))
 
   -- in a block nothing is put in with the first quantities
   pub twos-none : (b : ℕ) (t : List ℤ) → from ≤ b → t ≡ change (blockStart b + 2 + 4 * from) (startingAt (blockStart b + 2) (pairing from plus minus p m)) t
@@ -92,18 +76,18 @@ module _ (from : ℕ) (plus minus : ℕ → ℤ) (p m : ℤ) where
 
       go : (k : ℕ) → k < blockStart b + 2 + 4 * from → (c : Bool) → ltb k i ≡ c → startingAt i f k (wordAt t k) ≡ wordAt t k
       go k l true e = rw e
-      go k l false e = rw e (pairing-low k (wordAt t k) (lowest-first b from k h (ltb-false k i e) l))
+      go k l false e = rw e (pairing-low from plus minus p m k (wordAt t k) (lowest-first b from k h (ltb-false k i e) l))
 
   -- one place more
   one-more : (i k x : ℕ) (t u : List ℤ) → k ≡ placeOfOne x → 2 * from ≤ x → i ≤ k → k < length t → u ≡ change k (startingAt i f) t
       → set u k (onOne plus minus p m x (wordAt u k)) ≡ change (suc k) (startingAt i f) t
   one-more i k x t u e h r s q =
-      ap (λ (z : ℤ). set u k z) (sym (rw (← e) at (pairing-one x (wordAt u k) h))) ∙ starting-more i k f t u r s q
+      ap (λ (z : ℤ). set u k z) (sym (rw (← e) at (pairing-one from plus minus p m x (wordAt u k) h))) ∙ starting-more i k f t u r s q
 
   two-more : (i k x y : ℕ) (t u : List ℤ) → k ≡ placeOfPair x y → 2 * from ≤ x → x / 2 < y / 2 → i ≤ k → k < length t
       → u ≡ change k (startingAt i f) t → set u k (onTwo plus minus x y (wordAt u k)) ≡ change (suc k) (startingAt i f) t
   two-more i k x y t u e h l r s q =
-      ap (λ (z : ℤ). set u k z) (sym (rw (← e) at (pairing-two x y (wordAt u k) h l))) ∙ starting-more i k f t u r s q
+      ap (λ (z : ℤ). set u k z) (sym (rw (← e) at (pairing-two from plus minus p m x y (wordAt u k) h l))) ∙ starting-more i k f t u r s q
 
   -- the two places of a lower literal
   pub twos-more : (b x k : ℕ) (t u v : List ℤ) → 2 * from ≤ x → x < 2 * b → k ≡ blockStart b + 2 + 2 * x → k + 1 < length t

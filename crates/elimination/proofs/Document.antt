@@ -1,4 +1,5 @@
--- The step of hiding a quantity, defined place by place, does just what document 01 says under 'Hiding' of sums of rules. Assumes nothing.
+-- The step of hiding a quantity, defined place by place, does just what document 01 says under 'Hiding' of sums of rules, and then of the quantity's
+-- places. Assumes nothing.
 use mathlib.Core.Path.{_≡_, refl, sym, _∙_}
 use mathlib.Core.Bool.{Bool, true, false}
 use mathlib.Core.List.{List}
@@ -6,7 +7,7 @@ use mathlib.Core.Logic.{_⊎_, inl, inr}
 use Prim.Native.Nat.{ℕ, suc, _+_, _*_, _/_, _≤_, _<_}
 use native.Mathlib.Omega.{arith}
 use lib.Dec.{eqb}
-use lib.IntN.{ℤ, pos, _+ℤ_, +ℤ-comm}
+use lib.IntN.{ℤ, pos, +ℤ-comm}
 use lib.ListN.{length}
 use lib.Signed.{_≤ℤ_, _<ℤ_}
 use borrow.Author.Tests.{ne-eqb}
@@ -17,16 +18,20 @@ use Rattle.places.specs.Numbering.{blockStart, placeOfOne, placeOfPair, isOne, 
 use Rattle.places.proofs.Numbering.{at-one, at-lower, at-pair, at-below}
 use Rattle.rules.specs.declared.rule.Rule.{Rule}
 use Rattle.rules.specs.declared.rule.Rule.the-variants.{Nothing}
+use Rattle.rules.specs.Limits.{noRule}
 use Rattle.rules.specs.Literal.{quantityOf}
 use Rattle.rules.specs.Meaning.{boundOf, names}
 use Rattle.rules.specs.Steps.{partnerOf}
-use Rattle.tables.specs.Places.{findPlace, HasPlace}
+use Rattle.tables.specs.Places.{placeOf, findPlace, HasPlace}
 use Rattle.tables.specs.Tables.{hasRule}
 use Rattle.tables.specs.Meaning.{ruleIn}
-use Rattle.elimination.specs.Hiding.{pairWord, loneWord, paired, contradicts}
-use Rattle.elimination.specs.ByRules.{RuleWith, IsSum, SumAt, BareSum}
+use Rattle.tables.proofs.Places.{hasPlace-found, hasPlace-below, names-bound, place-names}
+use Rattle.tables.proofs.Without.{cleared-word}
+use Rattle.elimination.specs.Hiding.{pairWord, loneWord, paired, contradicts, eliminated}
+use Rattle.elimination.specs.ByRules.{RuleWith, IsSum, SumAt, BareSum, HiddenByRules}
 use Rattle.elimination.proofs.TermWords.{pair-first, pair-second, pair-apart}
 use Rattle.elimination.proofs.PairedWords.{lone-elim, lone-lowered, lone-plus, lone-minus, lone-half, pair-elim, pair-lowered, pair-sum}
+use Rattle.elimination.proofs.Step.{paired-length}
 use Rattle.elimination.proofs.DocumentTerms.{found-one, found-pair, Left, place-left, left-place, ListedOf, EveryRest, listed-rest, rest-listed, NotBelow, clear-listed, bare-found}
 
 -- ---- the sums, listed by words
@@ -60,12 +65,17 @@ listed-sum n j t l h = rest-listed n j t (IsSum n j t) sum
 at-same : (a k : ℕ) → At a ≡ At k → a ≡ k
 at-same a k e = cc
 
-pub nowhere-at : (k : ℕ) → Nowhere ≡ At k → ⊥
+nowhere-at : (k : ℕ) → Nowhere ≡ At k → ⊥
 nowhere-at k e = let z : _≡_ {A = ℕ} 0 1 = cc in omega arith
+
+-- as a bare rule does
+bare-nowhere : (u : Rule) (k : ℕ) → u ≡ Nothing (boundOf u) → findPlace u ≡ At k → ⊥
+unfolding findPlace
+bare-nowhere u k q p = nowhere-at k (rw q at p)
 
 module _ (n j : ℕ) (t : List ℤ) (l : blockStart n ≤ length t) (h : j < n) where
   -- 'Sums go in by minimum': the word at a sum's place is at most its bound
-  pub sum-goes-in : (u : Rule) → IsSum n j t u → (k : ℕ) → findPlace u ≡ At k → wordAt (paired 0 n j t) k ≤ℤ boundOf u
+  sum-goes-in : (u : Rule) → IsSum n j t u → (k : ℕ) → findPlace u ≡ At k → wordAt (paired 0 n j t) k ≤ℤ boundOf u
   unfolding findPlace
   sum-goes-in = sum-listed n j t (λ (u : Rule). (k : ℕ) → findPlace u ≡ At k → wordAt (paired 0 n j t) k ≤ℤ boundOf u) (record {
     nothing = λ f g k e. absurd (nowhere-at k e);
@@ -80,7 +90,7 @@ module _ (n j : ℕ) (t : List ℤ) (l : blockStart n ≤ length t) (h : j < n) 
   })
 
   -- and nothing else goes in: a word is the one before or the bound of a sum that goes there,
-  pub word-from : (k : ℕ) → k < blockStart n → (wordAt (paired 0 n j t) k ≡ wordAt t k) ⊎ SumAt n j t k (wordAt (paired 0 n j t) k)
+  word-from : (k : ℕ) → k < blockStart n → (wordAt (paired 0 n j t) k ≡ wordAt t k) ⊎ SumAt n j t k (wordAt (paired 0 n j t) k)
   word-from k b = go (isOne k) refl
     where
       From : ℕ → ℤ → Type 0
@@ -109,7 +119,7 @@ module _ (n j : ℕ) (t : List ℤ) (l : blockStart n ≤ length t) (h : j < n) 
           (two (lowerAt k) (higherAt k) (at-lower k e) (at-below n k b))
 
   -- and is at most the one before. So it is the least of that one and the bounds of all sums that go there
-  pub word-lowered : (k : ℕ) → k < blockStart n → wordAt (paired 0 n j t) k ≤ℤ wordAt t k
+  word-lowered : (k : ℕ) → k < blockStart n → wordAt (paired 0 n j t) k ≤ℤ wordAt t k
   word-lowered k b = go (isOne k) refl
     where
       go : (c : Bool) → isOne k ≡ c → wordAt (paired 0 n j t) k ≤ℤ wordAt t k
@@ -123,7 +133,7 @@ module _ (n j : ℕ) (t : List ℤ) (l : blockStart n ≤ length t) (h : j < n) 
   -- ---- what a sum is
 
   -- a sum has a place in the table or is bare,
-  pub sum-places : (u : Rule) → IsSum n j t u → HasPlace n u ⊎ (u ≡ Nothing (boundOf u))
+  sum-places : (u : Rule) → IsSum n j t u → HasPlace n u ⊎ (u ≡ Nothing (boundOf u))
   sum-places = sum-listed n j t (λ (u : Rule). HasPlace n u ⊎ (u ≡ Nothing (boundOf u))) (record {
     nothing = λ f g. inr refl;
     cancels = λ x b f g. inr refl;
@@ -135,7 +145,7 @@ module _ (n j : ℕ) (t : List ℤ) (l : blockStart n ≤ length t) (h : j < n) 
   })
 
   -- and 'q drops out': it does not name the quantity
-  pub sum-drops : (u : Rule) → IsSum n j t u → names (suc j) u ≡ false
+  sum-drops : (u : Rule) → IsSum n j t u → names (suc j) u ≡ false
   unfolding names
   sum-drops = sum-listed n j t (λ (u : Rule). names (suc j) u ≡ false) (record {
     nothing = λ f g. refl;
@@ -153,7 +163,7 @@ module _ (n j : ℕ) (t : List ℤ) (l : blockStart n ≤ length t) (h : j < n) 
   -- ---- contradictions
 
   -- 'A bare 0 ≤ c with c below 0 is a contradiction',
-  pub bare-contradicts : (c : ℤ) → IsSum n j t (Nothing c) → c <ℤ pos 0 → contradicts 0 n j t ≡ true
+  bare-contradicts : (c : ℤ) → IsSum n j t (Nothing c) → c <ℤ pos 0 → contradicts 0 n j t ≡ true
   bare-contradicts c i b = go (contradicts 0 n j t) refl
     where
       go : (d : Bool) → contradicts 0 n j t ≡ d → contradicts 0 n j t ≡ true
@@ -163,6 +173,39 @@ module _ (n j : ℕ) (t : List ℤ) (l : blockStart n ≤ length t) (h : j < n) 
           let z : ⊥ = omega linear in absurd z
 
   -- and nothing else is one
-  pub contradicts-bare : contradicts 0 n j t ≡ true → BareSum n j t
+  contradicts-bare : contradicts 0 n j t ≡ true → BareSum n j t
   contradicts-bare =
       bare-found n j t (IsSum n j t) (BareSum n j t) (listed-sum n j t l h) (λ c i b. record { bound = c; is = i; below = b })
+
+  -- ---- the whole step
+
+  -- a hidden table's words: those of the paired one where the place does not name the quantity, no rule where it does
+  hidden-word : (k : ℕ) → k < blockStart n → names (suc j) (ruleIn t k) ≡ false → wordAt (eliminated n j t) k ≡ wordAt (paired 0 n j t) k
+  unfolding eliminated
+  hidden-word k b e =
+      cleared-word n (suc j) (paired 0 n j t) k (rw (paired-length 0 n j t) l) b
+      ∙ rw (names-bound (suc j) k (wordAt (paired 0 n j t) k) (wordAt t k) ∙ e)
+
+  hidden-blank : (k : ℕ) → k < blockStart n → names (suc j) (ruleIn t k) ≡ true → wordAt (eliminated n j t) k ≡ noRule
+  unfolding eliminated
+  hidden-blank k b e =
+      cleared-word n (suc j) (paired 0 n j t) k (rw (paired-length 0 n j t) l) b
+      ∙ rw (names-bound (suc j) k (wordAt (paired 0 n j t) k) (wordAt t k) ∙ e)
+
+  -- so the step is document 01's
+  pub by-rules : (v : List ℤ) (r : Bool) → r ≡ contradicts 0 n j t → v ≡ eliminated n j t → HiddenByRules n j t r v
+  by-rules v r e d = rw d (record {
+    each = λ u s k p. at-sum u s k p (sum-places u s);
+    lowered = λ k g q. rw (hidden-word k g q) (word-lowered k g);
+    some = λ k g q. rw (hidden-word k g q) (word-from k g);
+    blank = hidden-blank;
+    bare = (λ c. contradicts-bare (sym e ∙ c), λ b. e ∙ bare-contradicts (b .bound) (b .is) (b .below));
+  })
+    where
+      at-sum : (u : Rule) → IsSum n j t u → (k : ℕ) → findPlace u ≡ At k → HasPlace n u ⊎ (u ≡ Nothing (boundOf u)) → wordAt (eliminated n j t) k ≤ℤ boundOf u
+      at-sum u s k p (inl q) =
+          let place : placeOf u ≡ k = cc (hasPlace-found n u q) in
+          let inside : k < blockStart n = rw (← place) (hasPlace-below n u q) in
+          let out : names (suc j) (ruleIn t k) ≡ false = rw (← place) (place-names n (suc j) u (wordAt t (placeOf u)) q ∙ sum-drops u s) in
+          rw (hidden-word k inside out) (sum-goes-in u s k p)
+      at-sum u s k p (inr q) = absurd (bare-nowhere u k q p)

@@ -85,7 +85,6 @@ sums-keep In s i j t σ τ has range same value sums =
     rw value
     (own-agree In (literalValue σ) (literalValue τ) plus minus p m (chosen (literalValue σ) plus minus p m s i) (λ x k. literal-agree σ τ x (same x k))
     (sums-own In (literalValue σ) plus minus p m s i
-    (λ x l h r. has x l h (λ e. pair-apart t (2 * j) x r (omega arith)))
     (λ x l h r. has x l h (λ e. pair-apart t (2 * j + 1) x r (omega arith)))
     range sums))
   where
@@ -144,7 +143,7 @@ eliminate-exact n j B t σ a h c = Iff·trans (eliminated-met n j t σ (a .room)
             (joined-own j σ (λ q. v)) (step-sums 0 n j B t σ a h m c)
 
     of : SheetAllows (eqb (suc j)) (Satisfies n t) σ → TermsMet (Others 0 n j) (paired 0 n j t) σ
-    of s = step-met 0 n j t σ (a .room) h
+    of s = step-met 0 n j t σ (a .room)
         (met-agree In t τ σ same (met-some In (Past 0 n) t τ (λ x i. (i .0, i .1)) met))
         (sums-agree In (literalValue τ) (literalValue σ) (pairWord t (2 * j)) (pairWord t (2 * j + 1)) (loneWord t (2 * j)) (loneWord t (2 * j + 1))
         (λ x i. literal-agree τ σ x (same x i))
@@ -162,7 +161,7 @@ eliminate-exact n j B t σ a h c = Iff·trans (eliminated-met n j t σ (a .room)
 -- where one is, nothing satisfied the table
 pub eliminate-none : (n j : ℕ) (t : List ℤ) (σ : Assignment) → blockStart n ≤ length t → j < n → contradicts 0 n j t ≡ true → Satisfies n t σ → ⊥
 eliminate-none n j t σ l h c s =
-    clash c (step-clear 0 n j t σ h (met-sums (Others 0 n j) n j t σ h (λ x i. (i .0, i .1)) (satisfies-met n t σ l .0 s)))
+    clash c (step-clear 0 n j t σ (met-sums (Others 0 n j) n j t σ h (λ x i. (i .0, i .1)) (satisfies-met n t σ l .0 s)))
 
 -- ---- upwards: the sums of quantity j + 1 on the quantities after it alone
 
@@ -178,7 +177,7 @@ upward-room n j B t σ a h c m =
 pub upward-met : (n j : ℕ) (t : List ℤ) (σ : Assignment) → blockStart n ≤ length t → j < n → Satisfies n t σ
     → Satisfies n (paired (suc j) n j t) σ × (contradicts (suc j) n j t ≡ false)
 upward-met n j t σ l h s =
-    (satisfies-met n u σ (rw (paired-length (suc j) n j t) l) .1 (record { one = one-of; two = two-of }), step-clear (suc j) n j t σ h sums)
+    (satisfies-met n u σ (rw (paired-length (suc j) n j t) l) .1 (record { one = one-of; two = two-of }), step-clear (suc j) n j t σ sums)
   where
     u : List ℤ
     u = paired (suc j) n j t
@@ -190,7 +189,7 @@ upward-met n j t σ l h s =
     sums = met-sums (Others (suc j) n j) n j t σ h (λ x i. (omega arith, i .1)) met
 
     after : TermsMet (Others (suc j) n j) u σ
-    after = step-met (suc j) n j t σ l h (met-some (Others (suc j) n j) (Past 0 n) t σ (λ x i. (omega arith, i .1)) met) sums
+    after = step-met (suc j) n j t σ l (met-some (Others (suc j) n j) (Past 0 n) t σ (λ x i. (omega arith, i .1)) met) sums
 
     late : (x : ℕ) → Past 0 n x → ltb x (2 * suc j) ≡ false → Others (suc j) n j x
     late x a e = past-others n j x (ltb-false x (2 * suc j) e, a .1)
@@ -218,20 +217,20 @@ upward-met n j t σ l h s =
         go false e false f r = after .two x y (late x a e) (late y b f) r
 
 -- and what satisfies it with the sums put in satisfied it before
-pub upward-lower : (n j : ℕ) (t : List ℤ) (σ : Assignment) → blockStart n ≤ length t → j < n → Satisfies n (paired (suc j) n j t) σ → Satisfies n t σ
-upward-lower n j t σ l h s =
+pub upward-lower : (n j : ℕ) (t : List ℤ) (σ : Assignment) → blockStart n ≤ length t → Satisfies n (paired (suc j) n j t) σ → Satisfies n t σ
+upward-lower n j t σ l s =
     satisfies-met n t σ l .1
     (step-lower (suc j) n j t (Past 0 n) σ l (λ x i. i .1)
     (satisfies-met n (paired (suc j) n j t) σ (rw (paired-length (suc j) n j t) l) .0 s))
 
 -- where the table is met on the quantities after and every sum holds, the chosen integer meets it on the quantity too
-pub upward-choose : (n j : ℕ) (t : List ℤ) (σ : Assignment) → blockStart n ≤ length t → j < n → TermsMet (Past (suc j) n) t σ
+pub upward-choose : (n j : ℕ) (t : List ℤ) (σ : Assignment) → j < n → TermsMet (Past (suc j) n) t σ
     → SumsOf (Past (suc j) n) j t σ → (τ : Assignment) → ((q : ℕ) → (q ≡ suc j → ⊥) → τ q ≡ σ q)
     → τ (suc j)
     ≡ chosen (literalValue σ) (pairWord t (2 * j)) (pairWord t (2 * j + 1)) (loneWord t (2 * j)) (loneWord t (2 * j + 1)) (2 * j + 2)
     (2 * n - (2 * j + 2))
     → TermsMet (Past j n) t τ
-upward-choose n j t σ l h m sums τ rest value =
+upward-choose n j t σ h m sums τ rest value =
     met-join In (Past j n) t τ j (past-or-own n j) (met-agree In t σ τ same m)
     (sums-keep In (2 * j + 2) (2 * n - (2 * j + 2)) j t σ τ (λ x a b d. (omega arith, omega arith)) (λ x i. (omega (arith, i .0), omega (arith, i .0, i .1)))
     same value sums)

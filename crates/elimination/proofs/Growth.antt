@@ -1,32 +1,29 @@
--- How much a step enlarges bounds, so that its sums fit: at most to the sum of two of the quantity's own, so the largest magnitude at most doubles, and
--- not at all where no rule names the quantity. Assumes nothing.
-use mathlib.Core.Path.{_≡_, refl, _∙_}
+-- How much a step enlarges bounds, so that its sums fit: at most to the sum of two of the quantity's own, so the largest magnitude at most doubles.
+-- Assumes nothing.
+use mathlib.Core.Path.{_≡_, refl}
 use mathlib.Core.Bool.{Bool, true, false, cond}
 use mathlib.Core.List.{List}
 use mathlib.Core.Logic.{_↔_}
-use Prim.Native.Nat.{ℕ, suc, _+_, _*_, _/_, _≤_, _<_}
+use Prim.Native.Nat.{ℕ, suc, _+_, _*_, _≤_, _<_}
 use native.Mathlib.Omega.{arith}
-use lib.Dec.{ltb}
 use lib.IntN.{ℤ, pos}
 use lib.ListN.{length}
 use Rattle.integers.specs.Bound.{Within}
 use Rattle.integers.proofs.Within.{within-mono, within-add, within-half}
 use Rattle.words.specs.Change.{wordAt}
-use Rattle.words.proofs.Change.{change-past, change-nothing}
-use Rattle.places.specs.Numbering.{blockStart, placeOfOne, placeOfPair, isOne, higherAt, lowerAt}
-use Rattle.places.proofs.Numbering.{one-below, pair-below, one-block, pair-block, pair-offset, at-one, at-lower, at-pair, at-below}
+use Rattle.places.specs.Numbering.{blockStart, isOne, higherAt, lowerAt}
+use Rattle.places.proofs.Numbering.{at-one, at-lower, at-pair, at-below}
 use Rattle.rules.specs.Limits.{noRule}
 use Rattle.rules.specs.Meaning.{names}
 use Rattle.tables.specs.Places.{ruleAt}
-use Rattle.tables.specs.Tables.{hasRule, clearing, cleared}
-use Rattle.tables.specs.Meaning.{ruleIn, WordsWithin}
+use Rattle.tables.specs.Tables.{hasRule, cleared}
+use Rattle.tables.specs.Meaning.{WordsWithin}
 use Rattle.tables.proofs.Tests.{clash}
 use Rattle.tables.proofs.Without.{cleared-word}
-use Rattle.tables.proofs.Places.{own-named, four-named}
-use Rattle.elimination.specs.Hiding.{pairWord, loneWord, onOne, onTwo, lowestAt, pairing, paired, eliminated}
-use Rattle.elimination.specs.Magnitude.{Past, OwnWithin, Unnamed}
-use Rattle.elimination.proofs.TermWords.{quantity-cases, pair-same, pair-first, pair-second, lone-within, pair-within}
-use Rattle.elimination.proofs.PairedWords.{onOne-elim, onTwo-elim, lone-elim, pair-elim}
+use Rattle.elimination.specs.Hiding.{pairWord, loneWord, paired, eliminated}
+use Rattle.elimination.specs.Magnitude.{Past, OwnWithin}
+use Rattle.elimination.proofs.TermWords.{pair-first, lone-within, pair-within}
+use Rattle.elimination.proofs.PairedWords.{lone-elim, pair-elim}
 use Rattle.elimination.proofs.Step.{paired-length}
 
 -- ---- bounds by terms
@@ -117,77 +114,3 @@ pub eliminated-within : (n j B : ℕ) (t : List ℤ) → blockStart n ≤ length
 unfolding eliminated
 eliminated-within n j B t l h w =
     cleared-within n (suc j) (pos (B + B)) (paired 0 n j t) (omega (arith, paired-length 0 n j t)) (paired-within 0 n j B t l h w)
-
--- ---- a quantity that no rule names
-
-module _ (n j : ℕ) (t : List ℤ) (l : blockStart n ≤ length t) (u : Unnamed n j t) where
-  -- a place that names it holds no rule
-  pub unnamed-none : (k : ℕ) → k < blockStart n → names (suc j) (ruleIn t k) ≡ true → hasRule (wordAt t k) ≡ false
-  unnamed-none k h e = go (hasRule (wordAt t k)) refl
-    where
-      go : (b : Bool) → hasRule (wordAt t k) ≡ b → b ≡ false
-      go true r = clash e (u .each k (record { inside = h; there = omega arith; rule = r }))
-      go false r = refl
-
-  -- so its literals have none, alone or with another
-  pub unnamed-lone : (z : ℕ) → z < 2 * n → z / 2 ≡ j → hasRule (loneWord t z) ≡ false
-  unnamed-lone z h e = unnamed-none (placeOfOne z) (one-below n z h) (own-named j (placeOfOne z) _ (one-block z ∙ e))
-
-  pub unnamed-pair : (z x : ℕ) → z < 2 * n → x < 2 * n → z / 2 ≡ j → hasRule (pairWord t z x) ≡ false
-  unnamed-pair z x h g e =
-      quantity-cases (hasRule (pairWord t z x) ≡ false) z x
-      (λ s. rw (pair-same t z x s))
-      (λ o. rw (pair-first t z x o)
-      (unnamed-none (placeOfPair z x) (pair-below n z x o g) (four-named j (placeOfPair z x) _ (omega (arith, pair-offset z x o)) (omega (arith, pair-offset z x o)))))
-      (λ o. rw (pair-second t x z o)
-      (unnamed-none (placeOfPair x z) (pair-below n x z o h) (own-named j (placeOfPair x z) _ (pair-block x z o ∙ e))))
-
-  -- a step on it leaves every word as it is
-  pub unnamed-same : (from : ℕ) → j < n → paired from n j t ≡ t
-  unfolding paired pairing
-  unnamed-same from h = change-nothing (blockStart n) _ t (λ k b. go k b (ltb (lowestAt k) (2 * from)) (isOne k) refl)
-    where
-      plus : (x : ℕ) → x < 2 * n → hasRule (pairWord t (2 * j) x) ≡ false
-      plus x g = unnamed-pair (2 * j) x (omega arith) g (omega arith)
-
-      minus : (x : ℕ) → x < 2 * n → hasRule (pairWord t (2 * j + 1) x) ≡ false
-      minus x g = unnamed-pair (2 * j + 1) x (omega arith) g (omega arith)
-
-      go : (k : ℕ) → k < blockStart n → (a b : Bool) → isOne k ≡ b
-          → cond a (wordAt t k) (cond b
-          (onOne (pairWord t (2 * j)) (pairWord t (2 * j + 1)) (loneWord t (2 * j)) (loneWord t (2 * j + 1)) (higherAt k) (wordAt t k))
-          (onTwo (pairWord t (2 * j)) (pairWord t (2 * j + 1)) (lowerAt k) (higherAt k) (wordAt t k)))
-          ≡ wordAt t k
-      go k b true c e = refl
-      go k b false true e =
-          onOne-elim (pairWord t (2 * j)) (pairWord t (2 * j + 1)) (loneWord t (2 * j)) (loneWord t (2 * j + 1)) (higherAt k) (wordAt t k)
-          (λ (w : ℤ). w ≡ wordAt t k) refl
-          (λ p q. clash p (plus (higherAt k) (at-below n k b)))
-          (λ p q. clash p (minus (higherAt k) (at-below n k b)))
-          (λ p q. clash p (plus (higherAt k) (at-below n k b)))
-      go k b false false e =
-          onTwo-elim (pairWord t (2 * j)) (pairWord t (2 * j + 1)) (lowerAt k) (higherAt k) (wordAt t k) (λ (w : ℤ). w ≡ wordAt t k) refl
-          (λ p q. clash q (minus (higherAt k) (at-below n k b)))
-          (λ p q. clash q (plus (higherAt k) (at-below n k b)))
-
-  -- and hiding it leaves the word of each place that does not name it; at one that does there was no rule, and is none
-  pub eliminated-same : (k : ℕ) → j < n → k < blockStart n → names (suc j) (ruleIn t k) ≡ false → wordAt (eliminated n j t) k ≡ wordAt t k
-  unfolding eliminated
-  eliminated-same k h b e = rw (unnamed-same 0 h) (cleared-word n (suc j) t k l b ∙ rw e)
-
-  pub eliminated-none : (k : ℕ) → j < n → k < blockStart n → names (suc j) (ruleIn t k) ≡ true
-      → (wordAt (eliminated n j t) k ≡ noRule) × (hasRule (wordAt t k) ≡ false)
-  unfolding eliminated
-  eliminated-none k h b e = (rw (unnamed-same 0 h) (cleared-word n (suc j) t k l b ∙ rw e), unnamed-none k b e)
-
-  pub eliminated-past : (k : ℕ) → j < n → blockStart n ≤ k → wordAt (eliminated n j t) k ≡ wordAt t k
-  unfolding eliminated cleared
-  eliminated-past k h b = rw (unnamed-same 0 h) (change-past (blockStart n) (clearing (suc j)) t k b)
-
-  -- neither enlarges anything
-  pub paired-unnamed-within : (from B : ℕ) → j < n → WordsWithin (blockStart n) (pos B) t → WordsWithin (blockStart n) (pos B) (paired from n j t)
-  paired-unnamed-within from B h w = rw (unnamed-same from h) w
-
-  pub eliminated-unnamed-within : (B : ℕ) → j < n → WordsWithin (blockStart n) (pos B) t → WordsWithin (blockStart n) (pos B) (eliminated n j t)
-  unfolding eliminated
-  eliminated-unnamed-within B h w = rw (unnamed-same 0 h) (cleared-within n (suc j) (pos B) t l w)

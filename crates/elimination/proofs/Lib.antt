@@ -3,6 +3,7 @@
 pub mod Projection
 pub mod TermWords
 pub mod Terms
+pub mod SumWords
 pub mod PairedWords
 pub mod Step
 pub mod Exact
@@ -11,7 +12,8 @@ pub mod Unnamed
 pub mod DocumentTerms
 pub mod Document
 pub mod Values
-pub mod Sums
+pub mod Addable
 pub mod Rows
+pub mod BareSums
 pub mod Blocks
 pub mod Promised

@@ -1,7 +1,7 @@
--- Pairing the rules of one quantity, word by word: what a sum put in does to a word, and which word the paired table has at the place of each term.
--- Assumes nothing.
+-- Pairing the rules of one quantity, word by word: what is put in at the place of each term, and which word the paired table has there. Assumes
+-- nothing.
 use mathlib.Core.Path.{_≡_, refl, _∙_}
-use mathlib.Core.Bool.{Bool, true, false, cond, _&&_, and-false}
+use mathlib.Core.Bool.{Bool, true, false}
 use mathlib.Core.List.{List}
 use Prim.Native.Nat.{ℕ, _+_, _*_, _/_, _≤_, _<_}
 use native.Mathlib.Omega.{arith}
@@ -10,161 +10,44 @@ use lib.IntN.{ℤ, _+ℤ_}
 use lib.ListN.{length}
 use lib.Signed.{_≤ℤ_, ≤ℤ-refl}
 use borrow.Author.Tests.{ltb-true, ltb-false, lt-ltb, le-ltb}
-use Rattle.integers.specs.Bound.{half, smaller}
-use Rattle.integers.proofs.Parts.{linear, ltZ-true, lt-ltZ, parts-add, smaller-left, smaller-right, smaller-either}
+use Rattle.integers.specs.Bound.{half}
+use Rattle.integers.proofs.Parts.{linear, parts-add}
 use Rattle.words.specs.Change.{wordAt}
 use Rattle.words.proofs.Change.{change-below}
 use Rattle.places.specs.Numbering.{blockStart, placeOfOne, placeOfPair}
 use Rattle.places.proofs.Numbering.{one-below, pair-below, one-isOne, one-higher, pair-isOne, pair-higher, pair-lower}
 use Rattle.rules.specs.Limits.{noRule}
 use Rattle.tables.specs.Tables.{hasRule}
-use Rattle.tables.proofs.Tests.{clash}
+use Rattle.elimination.specs.Hiding.{pairWord, loneWord, onOne, onTwo, lowestAt, pairing, paired}
 use Rattle.elimination.proofs.TermWords.{quantity-cases, pair-same, pair-first, pair-second}
-use Rattle.elimination.specs.Hiding.{withSum, withHalf, pairWord, loneWord, onOne, onTwo, lowestAt, pairing, paired}
+use Rattle.elimination.proofs.SumWords.{onOne-word, onOne-plus, onOne-minus, onOne-half, onOne-elim, onTwo-word, onTwo-plus, onTwo-minus, onTwo-elim}
 
--- ---- one word
+-- ---- what is put in at a place
 
--- a word at most one that holds a rule holds a rule
-pub hasRule-mono : (w u : ℤ) → w ≤ℤ u → hasRule u ≡ true → hasRule w ≡ true
-hasRule-mono w u l e = lt-ltZ w noRule (omega (linear, ltZ-true u noRule e))
+-- the lowest literal at the place of one literal, and of two
+lowest-one : (x : ℕ) → lowestAt (placeOfOne x) ≡ x
+unfolding lowestAt
+lowest-one x = rw (one-isOne x, one-higher x)
 
-le-trans : {a b c : ℤ} → a ≤ℤ b → b ≤ℤ c → a ≤ℤ c
-le-trans {a} {b} {c} h k = omega linear
+lowest-pair : (x y : ℕ) → x / 2 < y / 2 → lowestAt (placeOfPair x y) ≡ x
+unfolding lowestAt
+lowest-pair x y o = rw (pair-isOne x y o, pair-lower x y o)
 
--- a word with c put in by minimum where a test passes: at most the word, at most c where the test passes, the word itself where it does not,
--- and with every property that both have
-put-word : (b : Bool) (c w : ℤ) → cond b (smaller w c) w ≤ℤ w
-put-word true c w = smaller-left w c
-put-word false c w = ≤ℤ-refl w
+module _ (from : ℕ) (plus minus : ℕ → ℤ) (p m : ℤ) where
+  -- the sums of a literal past the first `from` quantities at its place,
+  pub pairing-one : (x : ℕ) (w : ℤ) → 2 * from ≤ x → pairing from plus minus p m (placeOfOne x) w ≡ onOne plus minus p m x w
+  unfolding pairing
+  pairing-one x w h = rw (lowest-one x, one-isOne x, one-higher x, le-ltb x (2 * from) h)
 
-put-sum : (b : Bool) (c w : ℤ) → b ≡ true → cond b (smaller w c) w ≤ℤ c
-put-sum true c w e = smaller-right w c
-put-sum false c w e = clash e refl
+  -- those of two at theirs,
+  pub pairing-two : (x y : ℕ) (w : ℤ) → 2 * from ≤ x → x / 2 < y / 2 → pairing from plus minus p m (placeOfPair x y) w ≡ onTwo plus minus x y w
+  unfolding pairing
+  pairing-two x y w h o = rw (lowest-pair x y o, pair-isOne x y o, pair-lower x y o, pair-higher x y o, le-ltb x (2 * from) h)
 
-put-none : (b : Bool) (c w : ℤ) → b ≡ false → cond b (smaller w c) w ≡ w
-put-none true c w e = clash refl e
-put-none false c w e = refl
-
-put-elim : (P : ℤ → Type 0) (a b : Bool) (c w : ℤ) → P w → (a ≡ true → b ≡ true → P c) → P (cond (a && b) (smaller w c) w)
-put-elim P true true c w h k = smaller-either P w c h (k refl refl)
-put-elim P true false c w h k = h
-put-elim P false b c w h k = h
-
-both : {a b : Bool} → a ≡ true → b ≡ true → (a && b) ≡ true
-both {a} {b} d e = rw (d, e)
-
--- a sum put in: the word is at most itself, at most the sum where both bounds are rules, itself where either is none, and has every property that
--- it had and the sum has
-pub withSum-word : (a b w : ℤ) → withSum a b w ≤ℤ w
-unfolding withSum
-withSum-word a b w = put-word (hasRule a && hasRule b) (a +ℤ b) w
-
-pub withSum-sum : (a b w : ℤ) → hasRule a ≡ true → hasRule b ≡ true → withSum a b w ≤ℤ (a +ℤ b)
-unfolding withSum
-withSum-sum a b w d e = put-sum (hasRule a && hasRule b) (a +ℤ b) w (both d e)
-
-pub withSum-left : (a b w : ℤ) → hasRule a ≡ false → withSum a b w ≡ w
-unfolding withSum
-withSum-left a b w e = rw e
-
-pub withSum-right : (a b w : ℤ) → hasRule b ≡ false → withSum a b w ≡ w
-unfolding withSum
-withSum-right a b w e = put-none (hasRule a && hasRule b) (a +ℤ b) w (rw e (and-false (hasRule a)))
-
-pub withSum-elim : (P : ℤ → Type 0) (a b w : ℤ) → P w → (hasRule a ≡ true → hasRule b ≡ true → P (a +ℤ b)) → P (withSum a b w)
-unfolding withSum
-withSum-elim P a b w h k = put-elim P (hasRule a) (hasRule b) (a +ℤ b) w h k
-
--- the half of a sum put in, likewise
-pub withHalf-word : (a b w : ℤ) → withHalf a b w ≤ℤ w
-unfolding withHalf
-withHalf-word a b w = put-word (hasRule a && hasRule b) (half (a +ℤ b)) w
-
-pub withHalf-sum : (a b w : ℤ) → hasRule a ≡ true → hasRule b ≡ true → withHalf a b w ≤ℤ half (a +ℤ b)
-unfolding withHalf
-withHalf-sum a b w d e = put-sum (hasRule a && hasRule b) (half (a +ℤ b)) w (both d e)
-
-pub withHalf-left : (a b w : ℤ) → hasRule a ≡ false → withHalf a b w ≡ w
-unfolding withHalf
-withHalf-left a b w e = rw e
-
-pub withHalf-right : (a b w : ℤ) → hasRule b ≡ false → withHalf a b w ≡ w
-unfolding withHalf
-withHalf-right a b w e = put-none (hasRule a && hasRule b) (half (a +ℤ b)) w (rw e (and-false (hasRule a)))
-
-pub withHalf-elim : (P : ℤ → Type 0) (a b w : ℤ) → P w → (hasRule a ≡ true → hasRule b ≡ true → P (half (a +ℤ b))) → P (withHalf a b w)
-unfolding withHalf
-withHalf-elim P a b w h k = put-elim P (hasRule a) (hasRule b) (half (a +ℤ b)) w h k
-
--- ---- the sums of one literal: the word is at most itself and each of them, and has every property that it had and they have
-
-module _ (plus minus : ℕ → ℤ) (p m : ℤ) (x : ℕ) (w : ℤ) where
-  pub onOne-word : onOne plus minus p m x w ≤ℤ w
-  unfolding onOne
-  onOne-word =
-      le-trans (withHalf-word (plus x) (minus x) (withSum (plus x) m (withSum (minus x) p w)))
-      (le-trans (withSum-word (plus x) m (withSum (minus x) p w)) (withSum-word (minus x) p w))
-
-  pub onOne-plus : hasRule (plus x) ≡ true → hasRule m ≡ true → onOne plus minus p m x w ≤ℤ (plus x +ℤ m)
-  unfolding onOne
-  onOne-plus d e =
-      le-trans (withHalf-word (plus x) (minus x) (withSum (plus x) m (withSum (minus x) p w)))
-      (withSum-sum (plus x) m (withSum (minus x) p w) d e)
-
-  pub onOne-minus : hasRule (minus x) ≡ true → hasRule p ≡ true → onOne plus minus p m x w ≤ℤ (minus x +ℤ p)
-  unfolding onOne
-  onOne-minus d e =
-      le-trans (withHalf-word (plus x) (minus x) (withSum (plus x) m (withSum (minus x) p w)))
-      (le-trans (withSum-word (plus x) m (withSum (minus x) p w)) (withSum-sum (minus x) p w d e))
-
-  pub onOne-half : hasRule (plus x) ≡ true → hasRule (minus x) ≡ true → onOne plus minus p m x w ≤ℤ half (plus x +ℤ minus x)
-  unfolding onOne
-  onOne-half d e = withHalf-sum (plus x) (minus x) (withSum (plus x) m (withSum (minus x) p w)) d e
-
-  pub onOne-elim : (P : ℤ → Type 0) → P w
-      → (hasRule (plus x) ≡ true → hasRule m ≡ true → P (plus x +ℤ m))
-      → (hasRule (minus x) ≡ true → hasRule p ≡ true → P (minus x +ℤ p))
-      → (hasRule (plus x) ≡ true → hasRule (minus x) ≡ true → P (half (plus x +ℤ minus x)))
-      → P (onOne plus minus p m x w)
-  unfolding onOne
-  onOne-elim P h a b c =
-      withHalf-elim P (plus x) (minus x) (withSum (plus x) m (withSum (minus x) p w))
-      (withSum-elim P (plus x) m (withSum (minus x) p w) (withSum-elim P (minus x) p w h b) a) c
-
--- ---- the sums of two literals, likewise
-
-module _ (plus minus : ℕ → ℤ) (x y : ℕ) (w : ℤ) where
-  pub onTwo-word : onTwo plus minus x y w ≤ℤ w
-  unfolding onTwo
-  onTwo-word =
-      le-trans (withSum-word (plus x) (minus y) (withSum (minus x) (plus y) w)) (withSum-word (minus x) (plus y) w)
-
-  pub onTwo-plus : hasRule (plus x) ≡ true → hasRule (minus y) ≡ true → onTwo plus minus x y w ≤ℤ (plus x +ℤ minus y)
-  unfolding onTwo
-  onTwo-plus d e = withSum-sum (plus x) (minus y) (withSum (minus x) (plus y) w) d e
-
-  pub onTwo-minus : hasRule (minus x) ≡ true → hasRule (plus y) ≡ true → onTwo plus minus x y w ≤ℤ (minus x +ℤ plus y)
-  unfolding onTwo
-  onTwo-minus d e =
-      le-trans (withSum-word (plus x) (minus y) (withSum (minus x) (plus y) w)) (withSum-sum (minus x) (plus y) w d e)
-
-  pub onTwo-elim : (P : ℤ → Type 0) → P w
-      → (hasRule (plus x) ≡ true → hasRule (minus y) ≡ true → P (plus x +ℤ minus y))
-      → (hasRule (minus x) ≡ true → hasRule (plus y) ≡ true → P (minus x +ℤ plus y))
-      → P (onTwo plus minus x y w)
-  unfolding onTwo
-  onTwo-elim P h a b =
-      withSum-elim P (plus x) (minus y) (withSum (minus x) (plus y) w) (withSum-elim P (minus x) (plus y) w h b) a
-
--- the order of the two does not matter
-pub onTwo-sym : (plus minus : ℕ → ℤ) (x y : ℕ) (w : ℤ) → onTwo plus minus x y w ≡ onTwo plus minus y x w
-onTwo-sym plus minus x y w = let h = below x y in let k = below y x in omega linear
-  where
-    below : (x y : ℕ) → onTwo plus minus x y w ≤ℤ onTwo plus minus y x w
-    below x y =
-        onTwo-elim plus minus y x w (λ (u : ℤ). onTwo plus minus x y w ≤ℤ u) (onTwo-word plus minus x y w)
-        (λ d e. omega (linear, onTwo-minus plus minus x y w e d, parts-add (plus y) (minus x), parts-add (minus x) (plus y)))
-        (λ d e. omega (linear, onTwo-plus plus minus x y w e d, parts-add (minus y) (plus x), parts-add (plus x) (minus y)))
+  -- and nothing at the place of a literal of the first quantities
+  pub pairing-low : (k : ℕ) (w : ℤ) → lowestAt k < 2 * from → pairing from plus minus p m k w ≡ w
+  unfolding pairing
+  pairing-low k w h = rw (lt-ltb (lowestAt k) (2 * from) h)
 
 -- ---- the words of the paired table
 
@@ -178,30 +61,24 @@ module _ (from n j : ℕ) (t : List ℤ) (l : blockStart n ≤ length t) where
 
   -- at the place of one literal: unchanged where it is of the first `from` quantities
   pub paired-one-early : (x : ℕ) → x < 2 * n → x < 2 * from → wordAt (paired from n j t) (placeOfOne x) ≡ wordAt t (placeOfOne x)
-  unfolding pairing lowestAt
-  paired-one-early x h e = paired-at (placeOfOne x) (one-below n x h) ∙ rw (one-isOne x, one-higher x, lt-ltb x (2 * from) e)
+  paired-one-early x h e = paired-at (placeOfOne x) (one-below n x h) ∙ pairing-low from _ _ _ _ (placeOfOne x) _ (omega (arith, lowest-one x))
 
   -- and else its sums are put in
   pub paired-one : (x : ℕ) → x < 2 * n → 2 * from ≤ x
       → wordAt (paired from n j t) (placeOfOne x)
       ≡ onOne (pairWord t (2 * j)) (pairWord t (2 * j + 1)) (loneWord t (2 * j)) (loneWord t (2 * j + 1)) x (wordAt t (placeOfOne x))
-  unfolding pairing lowestAt
-  paired-one x h e = paired-at (placeOfOne x) (one-below n x h) ∙ rw (one-isOne x, one-higher x, le-ltb x (2 * from) e)
+  paired-one x h e = paired-at (placeOfOne x) (one-below n x h) ∙ pairing-one from _ _ _ _ x _ e
 
   -- at the place of two: unchanged where the lower one is
   pub paired-two-early : (x y : ℕ) → x / 2 < y / 2 → y < 2 * n → x < 2 * from
       → wordAt (paired from n j t) (placeOfPair x y) ≡ wordAt t (placeOfPair x y)
-  unfolding pairing lowestAt
   paired-two-early x y o h e =
-      paired-at (placeOfPair x y) (pair-below n x y o h) ∙ rw (pair-isOne x y o, pair-lower x y o, lt-ltb x (2 * from) e)
+      paired-at (placeOfPair x y) (pair-below n x y o h) ∙ pairing-low from _ _ _ _ (placeOfPair x y) _ (omega (arith, lowest-pair x y o))
 
   -- and else their sums are put in
   pub paired-two : (x y : ℕ) → x / 2 < y / 2 → y < 2 * n → 2 * from ≤ x
       → wordAt (paired from n j t) (placeOfPair x y) ≡ onTwo (pairWord t (2 * j)) (pairWord t (2 * j + 1)) x y (wordAt t (placeOfPair x y))
-  unfolding pairing lowestAt
-  paired-two x y o h e =
-      paired-at (placeOfPair x y) (pair-below n x y o h)
-      ∙ rw (pair-isOne x y o, pair-lower x y o, pair-higher x y o, le-ltb x (2 * from) e)
+  paired-two x y o h e = paired-at (placeOfPair x y) (pair-below n x y o h) ∙ pairing-two from _ _ _ _ x y _ e o
 
   -- ---- the same by terms. One literal: its word has every property that it had and its sums have,
   pub lone-elim : (P : ℤ → Type 0) (x : ℕ) → x < 2 * n → P (loneWord t x)

@@ -1,7 +1,7 @@
 -- Exact elimination of one integer (document 01, 'Hiding'; Fourier-Motzkin with unit coefficients), with no table in sight: some integer v keeps all
 -- bounds of +v and of -v exactly when every sum of a bound with +v and a bound with -v holds. The other literals x have the values `value x`.
 -- `plus x` and `minus x` bound x with +v and x with -v; p and m bound +v and -v alone. Assumes nothing.
-use mathlib.Core.Path.{_≡_, refl, ap}
+use mathlib.Core.Path.{_≡_, refl}
 use mathlib.Core.Bool.{Bool, true, false, cond}
 use Prim.Native.Nat.{ℕ, zero, suc, _+_, _≤_, _<_}
 use native.Mathlib.Omega.{arith}
@@ -106,15 +106,7 @@ uppers-either P value row s (suc i) v start low =
     (uppers-either P value row s i v start (λ x l h. low x l (omega arith)))
     (low (s + i) (omega arith) (omega arith))
 
--- by these and the bound of a literal alone: at most where it began,
-pub bounded-start : (value row : ℕ → ℤ) (lone : ℤ) (s i : ℕ) (v : ℤ) → boundedBy value row lone s i v ≤ℤ v
-unfolding boundedBy
-bounded-start value row lone s i v =
-    let h = uppers-start value row s i (withUpper lone (pos 0) v) in
-    let k = upper-start lone (pos 0) v in
-    omega linear
-
--- at most what the bound alone leaves,
+-- by these and the bound of a literal alone: at most what the bound alone leaves,
 pub bounded-lone : (value row : ℕ → ℤ) (lone : ℤ) (s i : ℕ) (v : ℤ) → hasRule lone ≡ true → boundedBy value row lone s i v ≤ℤ (lone +ℤ negℤ (pos 0))
 unfolding boundedBy
 bounded-lone value row lone s i v e =
@@ -148,15 +140,14 @@ bounded-more value row lone s i v = refl
 
 -- ---- from the sums to the integer
 
--- where every sum holds, the integer chosen keeps its bounds. The literals In are among the i from s on, and all of these that have a rule are In.
+-- where every sum holds, the integer chosen keeps its bounds. The literals In are among the i from s on, and all of these that have a rule with -v are In.
 -- The negation of the integer is at most what each bound of -v leaves, and one of these or that of what +v's bounds leave: so +v's hold too
 pub sums-own : (In : ℕ → Type 0) (value plus minus : ℕ → ℤ) (p m : ℤ) (s i : ℕ)
-    → ((x : ℕ) → s ≤ x → x < s + i → hasRule (plus x) ≡ true → In x)
     → ((x : ℕ) → s ≤ x → x < s + i → hasRule (minus x) ≡ true → In x)
     → ((x : ℕ) → In x → (s ≤ x) × (x < s + i))
     → Sums In value plus minus p m → Own In value plus minus p m (chosen value plus minus p m s i)
 unfolding chosen positivePart negativePart
-sums-own In value plus minus p m s i _ minus-in inside sums = record {
+sums-own In value plus minus p m s i minus-in inside sums = record {
   with-plus = λ x j e. bounded-either (λ (b : ℤ). (value x +ℤ negℤ b) ≤ℤ plus x) value minus m s i (negℤ a)
       (let h = bounded-each value plus p s i (pos 0) x (inside x j .0) (inside x j .1) e in
       omega (linear, parts-neg a, parts-neg (negℤ a), parts-add (value x) (negℤ (negℤ a)), parts-neg (value x), parts-add (plus x) (negℤ (value x))))
@@ -191,7 +182,7 @@ sums-own In value plus minus p m s i _ minus-in inside sums = record {
     b : ℤ
     b = boundedBy value minus m s i (negℤ a)
 
--- ---- what the integer chosen depends on, and how large it is
+-- ---- how large the integer chosen is
 
 -- an integer of at most L + W, lowered by bounds of at most L where the values are at most W, stays so in magnitude
 pub bounded-within : (L W : ℕ) (value row : ℕ → ℤ) (lone : ℤ) (s i : ℕ) (v : ℤ)
@@ -215,26 +206,3 @@ chosen-within L W value plus minus p m s i pluses minuses plus-alone minus-alone
     within-neg
     (bounded-within L W value minus m s i _ minuses minus-alone values
     (within-neg (bounded-within L W value plus p s i (pos 0) pluses plus-alone values (within-of (omega arith) (omega arith)))))
-
--- bounds and values that agree on the i literals from s on lower an integer alike
-uppers-same : (value value₂ row row₂ : ℕ → ℤ) (s i : ℕ) (v : ℤ) → ((x : ℕ) → s ≤ x → x < s + i → value x ≡ value₂ x)
-    → ((x : ℕ) → s ≤ x → x < s + i → row x ≡ row₂ x) → withUppers value row s i v ≡ withUppers value₂ row₂ s i v
-unfolding withUppers
-uppers-same value value₂ row row₂ s zero v e f = refl
-uppers-same value value₂ row row₂ s (suc i) v e f =
-    rw (
-      e (s + i) (omega arith) (omega arith),
-      f (s + i) (omega arith) (omega arith),
-      uppers-same value value₂ row row₂ s i v (λ x l h. e x l (omega arith)) (λ x l h. f x l (omega arith)),
-    )
-
--- bounds and values that agree there, and the same bounds alone, leave the same integer
-pub chosen-same : (value value₂ plus plus₂ minus minus₂ : ℕ → ℤ) (p p₂ m m₂ : ℤ) (s i : ℕ)
-    → ((x : ℕ) → s ≤ x → x < s + i → value x ≡ value₂ x)
-    → ((x : ℕ) → s ≤ x → x < s + i → plus x ≡ plus₂ x)
-    → ((x : ℕ) → s ≤ x → x < s + i → minus x ≡ minus₂ x)
-    → p ≡ p₂ → m ≡ m₂ → chosen value plus minus p m s i ≡ chosen value₂ plus₂ minus₂ p₂ m₂ s i
-unfolding chosen boundedBy
-chosen-same value value₂ plus plus₂ minus minus₂ p p₂ m m₂ s i values pluses minuses e f =
-    rw (e, f, uppers-same value value₂ plus plus₂ s i (withUpper p₂ (pos 0) (pos 0)) values pluses)
-    (ap negℤ (uppers-same value value₂ minus minus₂ s i _ values minuses))

@@ -1,28 +1,27 @@
--- The rows of a step: a change that starts at a place, the words of a row, the rows gathered from a table, and the search of two rows for a bare
--- sum below 0. Assumes nothing.
+-- The rows of a step: a change that starts at a place, the words of a row, and the rows gathered from a table. Assumes nothing.
 use mathlib.Core.Path.{_≡_, refl, sym, _∙_, ap}
-use mathlib.Core.Bool.{Bool, true, false, cond, _&&_, _||_, or-true}
+use mathlib.Core.Bool.{Bool, true, false, cond}
 use mathlib.Core.List.{List}
-use Prim.Native.Nat.{ℕ, zero, suc, _+_, _*_, _/_, _^_, _≤_, _<_}
+use Prim.Native.Nat.{ℕ, suc, _*_, _^_, _≤_, _<_}
 use native.Mathlib.Omega.{arith}
-use lib.Dec.{leb, ltb, eqb}
+use lib.Dec.{ltb}
 use lib.IntN.{ℤ, pos}
 use lib.ListN.{length, set, replicate, length-replicate, getD-replicate}
 use lib.Signed.{mag}
 use mir.Syntax.{w64}
 use mir.Val.{toZ, ofZ}
-use borrow.Author.Tests.{ltb-true, ltb-false, lt-ltb, le-ltb, leb-true, le-leb, lt-leb, eqb-true, eqb-false}
+use borrow.Author.Tests.{ltb-false, lt-ltb, le-ltb}
 use Rattle.integers.proofs.Parts.{held-value}
 use Rattle.words.specs.Change.{wordAt, change, startingAt}
 use Rattle.words.proofs.Change.{change-length, change-nothing, change-more, change-below, change-past, change-same, change-on}
-use Rattle.places.specs.Numbering.{blockStart, placeOfPair, placeOfTwo}
-use Rattle.places.proofs.Numbering.{pair-below}
+use Rattle.places.specs.Numbering.{blockStart}
 use Rattle.rules.specs.Limits.{noRule}
-use Rattle.rules.specs.Literal.{negated}
 use Rattle.tables.proofs.Tests.{clash}
-use Rattle.elimination.specs.Hiding.{pairWord, loneWord, bareBelow, anyBare, contradicts}
+use Rattle.elimination.specs.Hiding.{pairWord}
+use Rattle.elimination.specs.Magnitude.{addLimit}
 use Rattle.elimination.specs.Rows.{gathering}
 use Rattle.elimination.specs.Promises.{Addable, Ready, Row}
+use Rattle.elimination.proofs.TermWords.{pair-within}
 
 -- ---- a change that starts at a place
 
@@ -70,24 +69,6 @@ row-held n row x r h f = rw (held-value {z = wordAt row x} f) (row-adds n row x 
 pub table-adds : (n j : ℕ) (t : List ℤ) (k : ℕ) → Ready n j t → k < blockStart n → Addable (wordAt t k)
 table-adds n j t k r h = r .words .each k h (omega arith)
 
--- the place of two literals of different quantities is one of the table's
-two-below : (n x z : ℕ) → x < 2 * n → z < 2 * n → (x / 2 ≡ z / 2 → ⊥) → placeOfTwo x z < blockStart n
-unfolding placeOfTwo
-two-below n x z h g u = go (ltb x z) refl
-  where
-    go : (b : Bool) → ltb x z ≡ b → cond b (placeOfPair x z) (placeOfPair z x) < blockStart n
-    go true e = pair-below n x z (omega (arith, ltb-true x z e)) g
-    go false e = pair-below n z x (omega (arith, ltb-false x z e)) h
-
--- so the words of two literals add
-pair-adds : (n j : ℕ) (t : List ℤ) (z x : ℕ) → Ready n j t → z < 2 * n → x < 2 * n → Addable (pairWord t z x)
-unfolding pairWord
-pair-adds n j t z x r g h = go (eqb (x / 2) (z / 2)) refl
-  where
-    go : (b : Bool) → eqb (x / 2) (z / 2) ≡ b → Addable (cond b noRule (wordAt t (placeOfTwo x z)))
-    go true e = λ q. clash q refl
-    go false e = table-adds n j t (placeOfTwo x z) r (two-below n x z h g (eqb-false (x / 2) (z / 2) e))
-
 -- a row holds the bounds of z with each literal of n quantities past the first `from`, and its words add
 pub record Gathered (n from : ℕ) (t : List ℤ) (z : ℕ) (row : List ℤ) : Type 0 where
   pub bounds : (x : ℕ) → 2 * from ≤ x → x < 2 * n → wordAt row x ≡ pairWord t z x
@@ -115,81 +96,7 @@ gathered n j from t z row r g e = record { bounds = bounds; adds = record { most
 
     go : (x : ℕ) → x < 2 * n → (b : Bool) → Addable (cond b noRule (pairWord t z x))
     go x h true = λ q. clash q refl
-    go x h false = pair-adds n j t z x r g h
+    go x h false = pair-within n addLimit t z x (r .room) (r .words) g h
 
     adds : (x : ℕ) → x < 2 * n → Addable (wordAt row x)
     adds x h = rw (word x h) (go x h (ltb x (2 * from)))
-
--- ---- bare sums
-
-negated-plus : (b : ℕ) → negated (2 * b) ≡ 2 * b + 1
-negated-plus b = omega arith
-
-negated-minus : (b : ℕ) → negated (2 * b + 1) ≡ 2 * b
-negated-minus b = omega arith
-
-module _ (from : ℕ) (plus minus : ℕ → ℤ) where
-  -- the first quantities are not looked at
-  pub any-none : (x : ℕ) → x ≤ 2 * from → anyBare from plus minus x ≡ false
-  unfolding anyBare
-  any-none zero h = refl
-  any-none (suc x) h = rw (lt-leb (2 * from) x (omega arith), any-none x (omega arith))
-
-  -- one literal more whose bare sum is no contradiction
-  any-next : (x y : ℕ) → negated x ≡ y → bareBelow (plus x) (minus y) ≡ false → anyBare from plus minus x ≡ false
-      → anyBare from plus minus (suc x) ≡ false
-  unfolding anyBare
-  any-next x y n e a = rw (n, e, a) (and-false (leb (2 * from) x))
-    where
-      and-false : (b : Bool) → ((b && false) || false) ≡ false
-      and-false true = refl
-      and-false false = refl
-
-  -- one quantity more whose bare sums are no contradictions
-  pub any-more : (b : ℕ) → bareBelow (plus (2 * b)) (minus (2 * b + 1)) ≡ false → bareBelow (plus (2 * b + 1)) (minus (2 * b)) ≡ false
-      → anyBare from plus minus (2 * b) ≡ false → anyBare from plus minus (2 * (b + 1)) ≡ false
-  any-more b e f a =
-      ap (anyBare from plus minus) (omega arith)
-      ∙ any-next (2 * b + 1) (2 * b) (negated-minus b) f
-      (ap (anyBare from plus minus) (omega arith) ∙ any-next (2 * b) (2 * b + 1) (negated-plus b) e a)
-
-  -- a literal whose bare sum is one
-  any-found : (m x y : ℕ) → 2 * from ≤ x → x < m → negated x ≡ y → bareBelow (plus x) (minus y) ≡ true → anyBare from plus minus m ≡ true
-  unfolding anyBare
-  any-found zero x y h l n e = let z : ⊥ = omega arith in absurd z
-  any-found (suc m) x y h l n e = go (any-found m x y h) (eqb x m) refl
-    where
-      go : (x < m → negated x ≡ y → bareBelow (plus x) (minus y) ≡ true → anyBare from plus minus m ≡ true) → (b : Bool) → eqb x m ≡ b
-          → ((leb (2 * from) m && bareBelow (plus m) (minus (negated m))) || anyBare from plus minus m) ≡ true
-      go ih true q = rw (← eqb-true x m q, n, le-leb (2 * from) x h, e)
-      go ih false q =
-          rw (ih (omega (arith, eqb-false x m q)) n e) (or-true (leb (2 * from) m && bareBelow (plus m) (minus (negated m))))
-
-  -- a quantity one of whose bare sums is
-  pub any-plus : (n b : ℕ) → from ≤ b → b < n → bareBelow (plus (2 * b)) (minus (2 * b + 1)) ≡ true → anyBare from plus minus (2 * n) ≡ true
-  any-plus n b h l = any-found (2 * n) (2 * b) (2 * b + 1) (omega arith) (omega arith) (negated-plus b)
-
-  pub any-minus : (n b : ℕ) → from ≤ b → b < n → bareBelow (plus (2 * b + 1)) (minus (2 * b)) ≡ true → anyBare from plus minus (2 * n) ≡ true
-  any-minus n b h l = any-found (2 * n) (2 * b + 1) (2 * b) (omega arith) (omega arith) (negated-minus b)
-
--- the search depends on the words of the literals past the first quantities alone
-any-same : (from n : ℕ) (plus minus plus' minus' : ℕ → ℤ)
-    → ((x : ℕ) → 2 * from ≤ x → x < 2 * n → plus x ≡ plus' x)
-    → ((x : ℕ) → 2 * from ≤ x → x < 2 * n → minus x ≡ minus' x)
-    → (x : ℕ) → x ≤ 2 * n → anyBare from plus minus x ≡ anyBare from plus' minus' x
-unfolding anyBare
-any-same from n plus minus plus' minus' e d zero h = refl
-any-same from n plus minus plus' minus' e d (suc x) h =
-    rw (any-same from n plus minus plus' minus' e d x (omega arith)) (ap (λ (b : Bool). b || anyBare from plus' minus' x) (go (leb (2 * from) x) refl))
-  where
-    go : (b : Bool) → leb (2 * from) x ≡ b → (b && bareBelow (plus x) (minus (negated x))) ≡ (b && bareBelow (plus' x) (minus' (negated x)))
-    go true q = rw (e x (leb-true (2 * from) x q) (omega arith), d (negated x) (omega (arith, leb-true (2 * from) x q)) (omega arith))
-    go false q = refl
-
--- gathered rows tell whether a sum of the table is a contradiction
-pub contradicts-rows : (n j from : ℕ) (t plus minus : List ℤ) (b : Bool)
-    → Gathered n from t (2 * j) plus → Gathered n from t (2 * j + 1) minus → b ≡ bareBelow (loneWord t (2 * j)) (loneWord t (2 * j + 1))
-    → (b || anyBare from (wordAt plus) (wordAt minus) (2 * n)) ≡ contradicts from n j t
-unfolding contradicts
-contradicts-rows n j from t plus minus b p m e =
-    rw (e, any-same from n (wordAt plus) (wordAt minus) (pairWord t (2 * j)) (pairWord t (2 * j + 1)) (p .bounds) (m .bounds) (2 * n) (omega arith))

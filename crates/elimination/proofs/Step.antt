@@ -28,7 +28,8 @@ use Rattle.elimination.specs.Hiding.{bareBelow, pairWord, loneWord, anyB
 use Rattle.elimination.proofs.Projection.{Sums}
 use Rattle.elimination.proofs.Terms.{TermsMet, Others}
 use Rattle.elimination.proofs.TermWords.{pair-apart, lone-within, pair-within}
-use Rattle.elimination.proofs.PairedWords.{hasRule-mono, lone-elim, lone-lowered, lone-plus, lone-minus, lone-half, pair-elim, pair-lowered, pair-sum}
+use Rattle.elimination.proofs.SumWords.{hasRule-mono}
+use Rattle.elimination.proofs.PairedWords.{lone-elim, lone-lowered, lone-plus, lone-minus, lone-half, pair-elim, pair-lowered, pair-sum}
 
 -- the sums of quantity j + 1 hold
 abbrev pub SumsOf : (ℕ → Type 0) → ℕ → List ℤ → Assignment → Type 0
@@ -47,20 +48,7 @@ pub paired-length : (from n j : ℕ) (t : List ℤ) → length (paired from n j 
 unfolding paired
 paired-length from n j t = change-length (blockStart n) _ t
 
--- the quantity's own words stay, and those that name one of the first `from` quantities
-pub pair-kept : (from n j : ℕ) (t : List ℤ) (z x : ℕ) → blockStart n ≤ length t → z < 2 * n → x < 2 * n → z / 2 ≡ j → pairWord (paired from n j t) z x ≡ pairWord t z x
-pair-kept from n j t z x l h g e =
-    pair-elim from n j t l (λ (w : ℤ). w ≡ pairWord t z x) z x h g refl
-    (λ a b c d. absurd (pair-apart t (2 * j) z c (omega arith)))
-    (λ a b c d. absurd (pair-apart t (2 * j + 1) z d (omega arith)))
-
-pub lone-kept : (from n j : ℕ) (t : List ℤ) (z : ℕ) → blockStart n ≤ length t → z < 2 * n → z / 2 ≡ j → loneWord (paired from n j t) z ≡ loneWord t z
-lone-kept from n j t z l h e =
-    lone-elim from n j t l (λ (w : ℤ). w ≡ loneWord t z) z h refl
-    (λ a c d. absurd (pair-apart t (2 * j) z c (omega arith)))
-    (λ a c d. absurd (pair-apart t (2 * j + 1) z c (omega arith)))
-    (λ a c d. absurd (pair-apart t (2 * j) z c (omega arith)))
-
+-- the words that name one of the first `from` quantities stay
 pub pair-early : (from n j : ℕ) (t : List ℤ) (z x : ℕ) → blockStart n ≤ length t → z < 2 * n → x < 2 * n → z < 2 * from → pairWord (paired from n j t) z x ≡ pairWord t z x
 pair-early from n j t z x l h g e =
     pair-elim from n j t l (λ (w : ℤ). w ≡ pairWord t z x) z x h g refl
@@ -134,9 +122,9 @@ step-lower from n j t In σ l b m = record {
 }
 
 -- where the sums hold, the step keeps what is met, and no bare sum is a contradiction
-pub step-met : (from n j : ℕ) (t : List ℤ) (σ : Assignment) → blockStart n ≤ length t → j < n → TermsMet (Others from n j) t σ
+pub step-met : (from n j : ℕ) (t : List ℤ) (σ : Assignment) → blockStart n ≤ length t → TermsMet (Others from n j) t σ
     → SumsOf (Others from n j) j t σ → TermsMet (Others from n j) (paired from n j t) σ
-step-met from n j t σ l h m s = record {
+step-met from n j t σ l m s = record {
   one = λ x i. lone-elim from n j t l (λ (w : ℤ). hasRule w ≡ true → literalValue σ x ≤ℤ w) x (i .1) (m .one x i)
       (λ a c d r. s .plus-lone x i c d)
       (λ a c d r. s .minus-lone x i c d)
@@ -149,9 +137,9 @@ step-met from n j t σ l h m s = record {
     turned : (a b c : ℤ) → (a +ℤ b) ≤ℤ c → (b +ℤ a) ≤ℤ c
     turned a b c h = omega (linear, parts-add a b, parts-add b a)
 
-pub step-clear : (from n j : ℕ) (t : List ℤ) (σ : Assignment) → j < n → SumsOf (Others from n j) j t σ → contradicts from n j t ≡ false
+pub step-clear : (from n j : ℕ) (t : List ℤ) (σ : Assignment) → SumsOf (Others from n j) j t σ → contradicts from n j t ≡ false
 unfolding contradicts positivePart negativePart
-step-clear from n j t σ h s =
+step-clear from n j t σ s =
     neither (bareBelow (loneWord t (2 * j)) (loneWord t (2 * j + 1))) (anyBare from (pairWord t (2 * j)) (pairWord t (2 * j + 1)) (2 * n)) .1 (
       bare-clear (loneWord t (2 * j)) (loneWord t (2 * j + 1)) .1 (s .lone),
       anyBare-clear from (pairWord t (2 * j)) (pairWord t (2 * j + 1)) (2 * n) .1

@@ -259,12 +259,3 @@ sums-agree In value other plus minus p m same s = record {
   minus-lone = λ x i a b. rw (← same x i) (s .minus-lone x i a b);
   lone = s .lone;
 }
-
--- what is met depends on the words of the literals alone
-pub met-words : (In : ℕ → Type 0) (t u : List ℤ) (σ : Assignment) → ((x : ℕ) → In x → loneWord u x ≡ loneWord t x)
-    → ((x y : ℕ) → In x → In y → pairWord u x y ≡ pairWord t x y)
-    → TermsMet In t σ → TermsMet In u σ
-met-words In t u σ lones pairs m = record {
-  one = λ x i r. rw (lones x i) (m .one x i (rw (lones x i) at r));
-  two = λ x y i k r. rw (pairs x y i k) (m .two x y i k (rw (pairs x y i k) at r));
-}

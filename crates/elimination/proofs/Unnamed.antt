@@ -1,40 +1,101 @@
--- A quantity that no rule names stays so through every step, and one that is hidden is named by no rule. Assumes nothing.
-use mathlib.Core.Path.{_≡_, refl}
+-- A quantity that no rule names: its literals have no rule, a step on it changes and enlarges nothing, and it stays so through every step. One that
+-- is hidden is named by no rule. Assumes nothing.
+use mathlib.Core.Path.{_≡_, refl, _∙_}
 use mathlib.Core.Bool.{Bool, true, false, cond}
 use mathlib.Core.List.{List}
 use Prim.Native.Nat.{ℕ, suc, _+_, _*_, _/_, _≤_, _<_}
 use native.Mathlib.Omega.{arith}
-use lib.IntN.{ℤ}
+use lib.Dec.{ltb}
+use lib.IntN.{ℤ, pos}
 use lib.ListN.{length}
 use borrow.Author.Tests.{ne-eqb}
 use Rattle.words.specs.Change.{wordAt}
-use Rattle.places.specs.Numbering.{blockStart, isOne, higherAt, lowerAt}
-use Rattle.places.proofs.Numbering.{at-one, at-lower, at-pair, at-below}
+use Rattle.words.proofs.Change.{change-nothing}
+use Rattle.places.specs.Numbering.{blockStart, placeOfOne, placeOfPair, isOne, higherAt, lowerAt}
+use Rattle.places.proofs.Numbering.{one-below, pair-below, one-block, pair-block, pair-offset, at-one, at-lower, at-pair, at-below}
 use Rattle.rules.specs.declared.rule.Rule.the-variants.{One, Two}
 use Rattle.rules.specs.Limits.{noRule}
 use Rattle.rules.specs.Literal.{quantityOf}
 use Rattle.rules.specs.Meaning.{names}
 use Rattle.tables.specs.Places.{ruleAt}
 use Rattle.tables.specs.Tables.{hasRule, cleared}
-use Rattle.tables.specs.Meaning.{ruleIn}
+use Rattle.tables.specs.Meaning.{ruleIn, WordsWithin}
+use Rattle.tables.proofs.Places.{own-named, four-named}
 use Rattle.tables.proofs.Without.{cleared-word}
 use Rattle.tables.proofs.Tests.{clash}
-use Rattle.elimination.specs.Hiding.{pairWord, loneWord, paired, eliminated}
+use Rattle.elimination.specs.Hiding.{pairWord, loneWord, onOne, onTwo, lowestAt, pairing, paired, eliminated}
 use Rattle.elimination.specs.Magnitude.{Unnamed}
-use Rattle.elimination.proofs.TermWords.{pair-first, pair-second, pair-sym}
+use Rattle.elimination.proofs.TermWords.{quantity-cases, pair-same, pair-first, pair-second, pair-sym}
+use Rattle.elimination.proofs.SumWords.{onOne-elim, onTwo-elim}
 use Rattle.elimination.proofs.PairedWords.{lone-elim, pair-elim}
 use Rattle.elimination.proofs.Step.{paired-length}
-use Rattle.elimination.proofs.Growth.{unnamed-lone, unnamed-pair}
+use Rattle.elimination.proofs.Growth.{cleared-within}
+
+-- ---- its literals, and a step on it
+
+module _ (n j : ℕ) (t : List ℤ) (l : blockStart n ≤ length t) (u : Unnamed n j t) where
+  -- a place that names it holds no rule
+  pub unnamed-none : (k : ℕ) → k < blockStart n → names (suc j) (ruleIn t k) ≡ true → hasRule (wordAt t k) ≡ false
+  unnamed-none k h e = go (hasRule (wordAt t k)) refl
+    where
+      go : (b : Bool) → hasRule (wordAt t k) ≡ b → b ≡ false
+      go true r = clash e (u .each k (record { inside = h; there = omega arith; rule = r }))
+      go false r = refl
+
+  -- so its literals have none, alone or with another
+  pub unnamed-lone : (z : ℕ) → z < 2 * n → z / 2 ≡ j → hasRule (loneWord t z) ≡ false
+  unnamed-lone z h e = unnamed-none (placeOfOne z) (one-below n z h) (own-named j (placeOfOne z) _ (one-block z ∙ e))
+
+  pub unnamed-pair : (z x : ℕ) → z < 2 * n → x < 2 * n → z / 2 ≡ j → hasRule (pairWord t z x) ≡ false
+  unnamed-pair z x h g e =
+      quantity-cases (hasRule (pairWord t z x) ≡ false) z x
+      (λ s. rw (pair-same t z x s))
+      (λ o. rw (pair-first t z x o)
+      (unnamed-none (placeOfPair z x) (pair-below n z x o g) (four-named j (placeOfPair z x) _ (omega (arith, pair-offset z x o)) (omega (arith, pair-offset z x o)))))
+      (λ o. rw (pair-second t x z o)
+      (unnamed-none (placeOfPair x z) (pair-below n x z o h) (own-named j (placeOfPair x z) _ (pair-block x z o ∙ e))))
+
+  -- a step on it leaves every word as it is
+  pub unnamed-same : (from : ℕ) → j < n → paired from n j t ≡ t
+  unfolding paired pairing
+  unnamed-same from h = change-nothing (blockStart n) _ t (λ k b. go k b (ltb (lowestAt k) (2 * from)) (isOne k) refl)
+    where
+      plus : (x : ℕ) → x < 2 * n → hasRule (pairWord t (2 * j) x) ≡ false
+      plus x g = unnamed-pair (2 * j) x (omega arith) g (omega arith)
+
+      minus : (x : ℕ) → x < 2 * n → hasRule (pairWord t (2 * j + 1) x) ≡ false
+      minus x g = unnamed-pair (2 * j + 1) x (omega arith) g (omega arith)
+
+      go : (k : ℕ) → k < blockStart n → (a b : Bool) → isOne k ≡ b
+          → cond a (wordAt t k) (cond b
+          (onOne (pairWord t (2 * j)) (pairWord t (2 * j + 1)) (loneWord t (2 * j)) (loneWord t (2 * j + 1)) (higherAt k) (wordAt t k))
+          (onTwo (pairWord t (2 * j)) (pairWord t (2 * j + 1)) (lowerAt k) (higherAt k) (wordAt t k)))
+          ≡ wordAt t k
+      go k b true c e = refl
+      go k b false true e =
+          onOne-elim (pairWord t (2 * j)) (pairWord t (2 * j + 1)) (loneWord t (2 * j)) (loneWord t (2 * j + 1)) (higherAt k) (wordAt t k)
+          (λ (w : ℤ). w ≡ wordAt t k) refl
+          (λ p q. clash p (plus (higherAt k) (at-below n k b)))
+          (λ p q. clash p (minus (higherAt k) (at-below n k b)))
+          (λ p q. clash p (plus (higherAt k) (at-below n k b)))
+      go k b false false e =
+          onTwo-elim (pairWord t (2 * j)) (pairWord t (2 * j + 1)) (lowerAt k) (higherAt k) (wordAt t k) (λ (w : ℤ). w ≡ wordAt t k) refl
+          (λ p q. clash q (minus (higherAt k) (at-below n k b)))
+          (λ p q. clash q (plus (higherAt k) (at-below n k b)))
+
+  -- so hiding it enlarges nothing
+  pub eliminated-unnamed-within : (B : ℕ) → j < n → WordsWithin (blockStart n) (pos B) t → WordsWithin (blockStart n) (pos B) (eliminated n j t)
+  unfolding eliminated
+  eliminated-unnamed-within B h w = rw (unnamed-same 0 h) (cleared-within n (suc j) (pos B) t l w)
 
 -- ---- by terms
 
--- a quantity whose literals have no rule, alone or with another, is named by none
-pub terms-unnamed : (n i : ℕ) (t : List ℤ) → blockStart n ≤ length t
-    → ((z : ℕ) → z < 2 * n → z / 2 ≡ i → hasRule (loneWord t z) ≡ false)
+-- conversely, a quantity whose literals have no rule, alone or with another, is named by none
+pub terms-unnamed : (n i : ℕ) (t : List ℤ) → ((z : ℕ) → z < 2 * n → z / 2 ≡ i → hasRule (loneWord t z) ≡ false)
     → ((z x : ℕ) → z < 2 * n → x < 2 * n → z / 2 ≡ i → hasRule (pairWord t z x) ≡ false)
     → Unnamed n i t
 unfolding names ruleAt
-terms-unnamed n i t l lone pair = record { each = λ k p. go k (p .inside) (p .rule) (isOne k) refl }
+terms-unnamed n i t lone pair = record { each = λ k p. go k (p .inside) (p .rule) (isOne k) refl }
   where
     go : (k : ℕ) → k < blockStart n → hasRule (wordAt t k) ≡ true → (b : Bool) → isOne k ≡ b
         → names (suc i) (cond b (One (higherAt k) (wordAt t k)) (Two (lowerAt k) (higherAt k) (wordAt t k))) ≡ false
@@ -56,7 +117,7 @@ terms-unnamed n i t l lone pair = record { each = λ k p. go k (p .inside) (p .r
 -- a step on any quantity leaves it so: every sum for a term that names it is of a rule that names it
 pub unnamed-paired : (from n j i : ℕ) (t : List ℤ) → blockStart n ≤ length t → j < n → Unnamed n i t → Unnamed n i (paired from n j t)
 unnamed-paired from n j i t l h u =
-    terms-unnamed n i (paired from n j t) (omega (arith, paired-length from n j t))
+    terms-unnamed n i (paired from n j t)
     (λ z b e. lone-elim from n j t l (λ (w : ℤ). hasRule w ≡ false) z b (unnamed-lone n i t l u z b e)
     (λ f p q. clash p (with-own z b e (2 * j) (omega arith)))
     (λ f p q. clash p (with-own z b e (2 * j + 1) (omega arith)))
@@ -97,9 +158,9 @@ cleared-unnamed n j t l = record {
 -- ---- hiding
 
 -- a hidden quantity is named by no rule
-pub eliminated-unnamed : (n j : ℕ) (t : List ℤ) → blockStart n ≤ length t → j < n → Unnamed n j (eliminated n j t)
+pub eliminated-unnamed : (n j : ℕ) (t : List ℤ) → blockStart n ≤ length t → Unnamed n j (eliminated n j t)
 unfolding eliminated
-eliminated-unnamed n j t l h = cleared-unnamed n j (paired 0 n j t) (omega (arith, paired-length 0 n j t))
+eliminated-unnamed n j t l = cleared-unnamed n j (paired 0 n j t) (omega (arith, paired-length 0 n j t))
 
 -- and hiding any other leaves it so
 pub unnamed-eliminated : (n j i : ℕ) (t : List ℤ) → blockStart n ≤ length t → j < n → Unnamed n i t → Unnamed n i (eliminated n j t)

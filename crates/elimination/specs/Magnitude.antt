@@ -11,8 +11,8 @@ use Rattle.tables.specs.Meaning.{HoldsRule, ruleIn}
 use Rattle.elimination.specs.Hiding.{pairWord, loneWord}
 
 -- two bounds of at most this magnitude, 2 ^ 62 - 1, have a sum that is a bound too, below the no-rule word
-abbrev pub addable : ℤ
-addable = pos 4611686018427387903
+abbrev pub addLimit : ℤ
+addLimit = pos 4611686018427387903
 
 -- the values of an assignment lie between -2 ^ 62 and 2 ^ 62 (document 01, 'Finding an assignment')
 abbrev pub valueLimit : ℤ

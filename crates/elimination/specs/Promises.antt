@@ -16,11 +16,11 @@ use Rattle.tables.specs.Tables.{hasRule}
 use Rattle.tables.specs.Meaning.{Satisfies, Unsatisfiable, SheetAllows, WordsWithin}
 use Rattle.elimination.specs.Hiding.{pairing, paired, contradicts, eliminated}
 use Rattle.elimination.specs.ByRules.{HiddenByRules}
-use Rattle.elimination.specs.Magnitude.{addable, valueLimit}
+use Rattle.elimination.specs.Magnitude.{addLimit, valueLimit}
 
 -- a word is no rule, or a bound small enough to be added to another
 abbrev pub Addable : ℤ → Type 0
-Addable w = hasRule w ≡ true → Within addable w
+Addable w = hasRule w ≡ true → Within addLimit w
 
 -- an integer in the range of an assignment's values
 abbrev pub Choosable : ℤ → Type 0
@@ -36,13 +36,13 @@ pub record Ready (n j : ℕ) (t : List ℤ) : Type 0 where
   pub most : n ≤ maxQuantities
   pub one : j < n
   pub room : blockStart n ≤ length t
-  pub words : WordsWithin (blockStart n) addable t
+  pub words : WordsWithin (blockStart n) addLimit t
 
 -- the bounds of a quantity's rules, by literal, of n quantities: enough of them, and they add
 pub record Row (n : ℕ) (row : List ℤ) : Type 0 where
   pub most : n ≤ maxQuantities
   pub room : 2 * n ≤ length row
-  pub words : WordsWithin (2 * n) addable row
+  pub words : WordsWithin (2 * n) addLimit row
 
 -- the sums put in at the terms of quantity b + 1 and a lower one, for which the bounds p and m of a literal alone do not matter
 pub record TwosPaired (b from : ℕ) (plus minus before after : List ℤ) : Type 0 where

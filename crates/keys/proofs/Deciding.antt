@@ -28,7 +28,7 @@ use Rattle.keys.proofs.Filling.{filled-satisfies}
 pub clash-some : (n : ℕ) (t values : List ℤ) (f : Fits n t) → n ≤ length values → clashUpTo n n t ≡ false
     → Satisfies n t (assignmentOf (fillDown n (reduceUpTo n n t) n values))
 clash-some n t values f h e =
-    reduce-only n n t (assignmentOf (fillDown n (reduceUpTo n n t) n values)) (omega arith) (f .grows .room)
+    reduce-only n n t (assignmentOf (fillDown n (reduceUpTo n n t) n values)) (f .grows .room)
     (filled-satisfies n (reduceUpTo n n t) values h (omega (arith, reduceUpTo-length n n t, f .grows .room)) (reduce-closed n n t f (omega arith) e))
 
 satisfiable : (n : ℕ) (t : List ℤ) → Fits n t → clashUpTo n n t ≡ false → Satisfiable n t

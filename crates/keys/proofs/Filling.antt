@@ -45,16 +45,16 @@ set-other : (values : List ℤ) (j : ℕ) (v : ℤ) (q : ℕ) → (q ≡ suc j �
 set-other values j v zero n = refl
 set-other values j v (suc i) n = getD-set-other values j i v (pos 0) (λ e. n (omega arith))
 
-pub filled-met : (n m : ℕ) (t values : List ℤ) → m ≤ n → n ≤ length values → blockStart n ≤ length t → Closed n n t
+pub filled-met : (n m : ℕ) (t values : List ℤ) → m ≤ n → n ≤ length values → Closed n n t
     → TermsMet (Past (n - m) n) t (assignmentOf (fillDown n t m values))
 unfolding fillDown choice
-filled-met n zero t values h g l c = record {
+filled-met n zero t values h g c = record {
   one = λ x p r. let z : ⊥ = omega (arith, p .0, p .1) in absurd z;
   two = λ x y p q r. let z : ⊥ = omega (arith, p .0, p .1) in absurd z;
 }
-filled-met n (suc m) t values h g l c =
-    let before : TermsMet (Past (suc (n - suc m)) n) t (assignmentOf v) = rw next at (filled-met n m t values (omega arith) g l c) in
-    upward-choose n j t (assignmentOf v) l (omega arith) before (c j (omega arith) (assignmentOf v) before) (assignmentOf (set v j (choice n t j v)))
+filled-met n (suc m) t values h g c =
+    let before : TermsMet (Past (suc (n - suc m)) n) t (assignmentOf v) = rw next at (filled-met n m t values (omega arith) g c) in
+    upward-choose n j t (assignmentOf v) (omega arith) before (c j (omega arith) (assignmentOf v) before) (assignmentOf (set v j (choice n t j v)))
     (set-other v j (choice n t j v))
     (getD-set-same v j (choice n t j v) (pos 0) (omega (arith, fillDown-length n m t values)))
   where
@@ -70,7 +70,7 @@ filled-met n (suc m) t values h g l c =
 pub filled-satisfies : (n : ℕ) (t values : List ℤ) → n ≤ length values → blockStart n ≤ length t → Closed n n t
     → Satisfies n t (assignmentOf (fillDown n t n values))
 filled-satisfies n t values g l c =
-    satisfies-met n t (assignmentOf (fillDown n t n values)) l .1 (rw none at (filled-met n n t values (omega arith) g l c))
+    satisfies-met n t (assignmentOf (fillDown n t n values)) l .1 (rw none at (filled-met n n t values (omega arith) g c))
   where
     none : n - n ≡ 0
     none = omega arith

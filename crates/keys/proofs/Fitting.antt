@@ -19,8 +19,8 @@ use Rattle.tables.proofs.Limits.{wordsInLimit-within}
 use Rattle.elimination.specs.Hiding.{eliminated}
 use Rattle.elimination.specs.Promises.{Ready}
 use Rattle.elimination.specs.Magnitude.{Unnamed}
-use Rattle.elimination.proofs.Growth.{eliminated-within, eliminated-unnamed-within}
-use Rattle.elimination.proofs.Unnamed.{unnamed-eliminated}
+use Rattle.elimination.proofs.Growth.{eliminated-within}
+use Rattle.elimination.proofs.Unnamed.{eliminated-unnamed-within, unnamed-eliminated}
 use Rattle.keys.specs.Keys.{hideUpTo, keyOf, hiddenCount, inSheetLimit}
 use Rattle.keys.specs.Reducing.{Grows, Fits}
 use Rattle.keys.proofs.Several.{AmpleUpTo, hideUpTo-length}

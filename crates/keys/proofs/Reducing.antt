@@ -26,8 +26,8 @@ use Rattle.elimination.proofs.Terms.{TermsMet}
 use Rattle.elimination.proofs.TermWords.{quantity-cases, pair-sym, pair-apart}
 use Rattle.elimination.proofs.Step.{SumsOf, neither, paired-length, pair-early, lone-early, step-lower}
 use Rattle.elimination.proofs.Exact.{upward-room, upward-met, upward-lower}
-use Rattle.elimination.proofs.Growth.{TermsWithin, terms-mono, terms-own, words-terms, upward-within, unnamed-lone, unnamed-pair}
-use Rattle.elimination.proofs.Unnamed.{unnamed-paired}
+use Rattle.elimination.proofs.Growth.{TermsWithin, terms-mono, terms-own, words-terms, upward-within}
+use Rattle.elimination.proofs.Unnamed.{unnamed-lone, unnamed-pair, unnamed-paired}
 use Rattle.keys.specs.Reducing.{reduceUpTo, clashUpTo, Fits, Layered}
 use Rattle.keys.specs.Promises.{Reduced}
 use Rattle.keys.proofs.Fitting.{limit-rises}
@@ -49,11 +49,11 @@ reduce-kept n zero t σ h l s = s
 reduce-kept n (suc j) t σ h l s =
     upward-met n j (reduceUpTo n j t) σ (room-kept n j t l) (omega arith) (reduce-kept n j t σ (omega arith) l s) .0
 
-pub reduce-only : (n m : ℕ) (t : List ℤ) (σ : Assignment) → m ≤ n → blockStart n ≤ length t → Satisfies n (reduceUpTo n m t) σ → Satisfies n t σ
+pub reduce-only : (n m : ℕ) (t : List ℤ) (σ : Assignment) → blockStart n ≤ length t → Satisfies n (reduceUpTo n m t) σ → Satisfies n t σ
 unfolding reduceUpTo
-reduce-only n zero t σ h l s = s
-reduce-only n (suc j) t σ h l s =
-    reduce-only n j t σ (omega arith) l (upward-lower n j (reduceUpTo n j t) σ (room-kept n j t l) (omega arith) s)
+reduce-only n zero t σ l s = s
+reduce-only n (suc j) t σ l s =
+    reduce-only n j t σ l (upward-lower n j (reduceUpTo n j t) σ (room-kept n j t l) s)
 
 -- and where a contradiction is met, none do
 pub clash-none : (n m : ℕ) (t : List ℤ) (σ : Assignment) → m ≤ n → blockStart n ≤ length t → clashUpTo n m t ≡ true → Satisfies n t σ → ⊥

@@ -213,7 +213,7 @@ hideUpTo-unnamed hidden n (suc j) i t h l e =
 
     go : (upTo hidden j (suc i) ≡ true → Unnamed n i u) → (b : Bool) → hidden (suc j) ≡ b → (c : Bool) → eqb i j ≡ c
         → Unnamed n i (cond b (eliminated n j u) u)
-    go ih true f true g = rw (eqb-true i j g) (eliminated-unnamed n j u room (omega arith))
+    go ih true f true g = rw (eqb-true i j g) (eliminated-unnamed n j u room)
     go ih true f false g =
         unnamed-eliminated n j i u room (omega arith) (ih (upTo-own hidden j (suc i) e (λ d. eqb-false i j g (omega arith))))
     go ih false f c g = ih (upTo-skip hidden j (suc i) f ∙ e)

@@ -8,7 +8,8 @@ use denote.Ref.{now}
 use Rattle.integers.proofs.Parts.{held-value}
 use Rattle.words.specs.Change.{wordAt}
 use Rattle.elimination.specs.Hiding.{bareBelow, anyBare}
-use Rattle.elimination.proofs.Rows.{row-held, any-none, any-more, any-plus, any-minus}
+use Rattle.elimination.proofs.Rows.{row-held}
+use Rattle.elimination.proofs.BareSums.{any-none, any-more, any-plus, any-minus}
 use Rattle.elimination.proofs.bare.is_any_bare_below.Statement.{statement}
 use Rattle.elimination.proofs.bare.is_any_bare_below.Tie as tie
 

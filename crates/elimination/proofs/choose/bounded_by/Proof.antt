@@ -18,7 +18,7 @@ use Rattle.rules.specs.Meaning.{literalValue}
 use Rattle.tables.specs.Meaning.{assignmentOf}
 use Rattle.tables.proofs.Sizes.{small-square}
 use Rattle.elimination.specs.Hiding.{pairWord, loneWord}
-use Rattle.elimination.specs.Magnitude.{addable}
+use Rattle.elimination.specs.Magnitude.{addLimit}
 use Rattle.elimination.specs.Choosing.{withUpper, boundedBy}
 use Rattle.elimination.specs.Promises.{Choosable}
 use Rattle.elimination.proofs.Projection.{bounded-none, bounded-more}
@@ -97,7 +97,7 @@ shared-slice-copy-out-lone c = omega (arith, small c)
 
 with-upper-requires : tie.Need-with-upper-requires Inv-loop μ-loop
 with-upper-requires c κs = let s = c .before in let r = s .pre .0 in
-    (rw (lone-word c) (lone-within (s .args .n) addable (now (s .args .table)) (s .args .z) (r .room) (r .words) (omega arith)), none)
+    (rw (lone-word c) (lone-within (s .args .n) addLimit (now (s .args .table)) (s .args .z) (r .room) (r .words) (omega arith)), none)
 
 mul-x : tie.Need-mul-x Inv-loop μ-loop
 mul-x c = omega arith
@@ -137,7 +137,7 @@ other-value c = held-value (c .literal-value .ok) ∙ c .literal-value .ensures
 with-upper-requires-2 : tie.Need-with-upper-requires-2 Inv-loop μ-loop
 with-upper-requires-2 c κs = let l = c .before .before .before in let s = l .before .before .before in let r = s .pre .0 in (
   rw (pair-value (c .before))
-      (pair-within (s .args .n) addable (now (s .args .table)) (s .args .z) (l .loop .x) (r .room) (r .words) (omega arith) (omega arith)),
+      (pair-within (s .args .n) addLimit (now (s .args .table)) (s .args .z) (l .loop .x) (r .room) (r .words) (omega arith) (omega arith)),
   rw (other-value c)
       (literal-within _ (now (s .args .values)) (l .loop .x) (s .pre .1 .later (l .loop .x / 2) (omega arith) (omega arith))),
 )

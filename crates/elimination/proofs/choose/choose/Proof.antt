@@ -14,7 +14,7 @@ use Rattle.integers.proofs.Within.{within-of, within-neg}
 use Rattle.rules.specs.Meaning.{literalValue}
 use Rattle.tables.specs.Meaning.{assignmentOf}
 use Rattle.elimination.specs.Hiding.{pairWord, loneWord}
-use Rattle.elimination.specs.Magnitude.{addable}
+use Rattle.elimination.specs.Magnitude.{addLimit}
 use Rattle.elimination.specs.Choosing.{boundedBy, chosen, choice}
 use Rattle.elimination.specs.Promises.{Ready, Valued}
 use Rattle.elimination.proofs.Projection.{bounded-within}
@@ -37,8 +37,8 @@ left-small : (n : ℕ) (table values : List ℤ) (j z : ℕ) (u : ℤ) → Ready
 left-small n table values j z u r v e h =
     bounded-within 4611686018427387903 4611686018427387904 (literalValue (assignmentOf values)) (pairWord table z) (loneWord table z)
     (2 * j + 2) (2 * n - (2 * j + 2)) u
-    (λ x l k. pair-within n addable table z x (r .room) (r .words) (omega arith) (omega arith))
-    (lone-within n addable table z (r .room) (r .words) (omega arith))
+    (λ x l k. pair-within n addLimit table z x (r .room) (r .words) (omega arith) (omega arith))
+    (lone-within n addLimit table z (r .room) (r .words) (omega arith))
     (λ x l k. literal-within _ values x (v .later (x / 2) (omega arith) (omega arith)))
     h
 

@@ -8,7 +8,7 @@ use borrow.Author.Needs.{needs}
 use Rattle.integers.proofs.Parts.{word-value, held-value}
 use Rattle.words.specs.Change.{wordAt}
 use Rattle.elimination.specs.Rows.{noneHeld}
-use Rattle.elimination.proofs.Sums.{adds-held, none-tells}
+use Rattle.elimination.proofs.Addable.{adds-held, none-tells}
 use Rattle.elimination.proofs.Blocks.{block-idle}
 use Rattle.elimination.proofs.pair.pair_block.Statement.{statement}
 use Rattle.elimination.proofs.pair.pair_block.Tie as tie

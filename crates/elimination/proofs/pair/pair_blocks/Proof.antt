@@ -14,7 +14,7 @@ use Rattle.words.proofs.Change.{change-on}
 use Rattle.places.specs.Numbering.{blockStart}
 use Rattle.places.proofs.Numbering.{blockStart-mono}
 use Rattle.elimination.specs.Hiding.{pairing}
-use Rattle.elimination.proofs.Sums.{adds-held}
+use Rattle.elimination.proofs.Addable.{adds-held}
 use Rattle.elimination.proofs.Rows.{row-part}
 use Rattle.elimination.proofs.Blocks.{blocks-none}
 use Rattle.elimination.proofs.pair.pair_blocks.Statement.{statement}

@@ -11,7 +11,7 @@ use Rattle.places.specs.Numbering.{blockStart}
 use Rattle.places.proofs.Numbering.{blockStart-suc}
 use Rattle.tables.proofs.Sizes.{small-square}
 use Rattle.elimination.specs.Hiding.{onOne}
-use Rattle.elimination.proofs.Sums.{adds-held}
+use Rattle.elimination.proofs.Addable.{adds-held}
 use Rattle.elimination.proofs.Rows.{row-held}
 use Rattle.elimination.proofs.Blocks.{block-whole}
 use Rattle.elimination.proofs.pair.pair_places.Statement.{statement}

@@ -7,7 +7,7 @@ use mir.Val.{SFits}
 use Rattle.integers.proofs.Parts.{word-value}
 use Rattle.tables.specs.Tables.{hasRule}
 use Rattle.elimination.specs.Hiding.{bareBelow}
-use Rattle.elimination.proofs.Sums.{sum-fits}
+use Rattle.elimination.proofs.Addable.{sum-fits}
 use Rattle.elimination.proofs.word.is_bare_below.Statement.{statement}
 use Rattle.elimination.proofs.word.is_bare_below.Tie as tie
 

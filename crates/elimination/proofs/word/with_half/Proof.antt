@@ -9,7 +9,7 @@ use Rattle.integers.specs.Bound.{half}
 use Rattle.integers.proofs.Parts.{word-value, held-value}
 use Rattle.tables.specs.Tables.{hasRule}
 use Rattle.elimination.specs.Hiding.{withHalf}
-use Rattle.elimination.proofs.Sums.{sum-fits}
+use Rattle.elimination.proofs.Addable.{sum-fits}
 use Rattle.elimination.proofs.word.with_half.Statement.{statement}
 use Rattle.elimination.proofs.word.with_half.Tie as tie
 

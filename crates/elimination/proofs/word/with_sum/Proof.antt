@@ -8,7 +8,7 @@ use borrow.Author.Needs.{needs}
 use Rattle.integers.proofs.Parts.{word-value, held-value}
 use Rattle.tables.specs.Tables.{hasRule}
 use Rattle.elimination.specs.Hiding.{withSum}
-use Rattle.elimination.proofs.Sums.{sum-fits}
+use Rattle.elimination.proofs.Addable.{sum-fits}
 use Rattle.elimination.proofs.word.with_sum.Statement.{statement}
 use Rattle.elimination.proofs.word.with_sum.Tie as tie
 

@@ -16,37 +16,38 @@ use Rattle.rules.specs.Limits.{maxQuantities}
 use Rattle.tables.specs.Tables.{tableSize}
 use Rattle.tables.proofs.Tests.{clash}
 use Rattle.keys.specs.Keys.{every, refuted}
-use Rattle.keys.specs.Reducing.{reduceUpTo, clashUpTo, fillDown, Fits}
+use Rattle.keys.specs.Reducing.{reduceUpTo, contradictsUpTo, fillDown, Fits}
 use Rattle.keys.specs.Promises.{Reduced, Decided}
 use Rattle.keys.proofs.Several.{refuted-true, refuted-false}
 use Rattle.keys.proofs.Copying.{SameTable, copied, same-back, same-satisfies, same-fits}
 use Rattle.keys.proofs.Fitting.{hide-ample}
-use Rattle.keys.proofs.Reducing.{reduceUpTo-length, reduce-only, reduce-closed, clash-none}
+use Rattle.keys.proofs.Reducing.{reduceUpTo-length, reduce-only, reduce-unsatisfiable}
+use Rattle.keys.proofs.Room.{reduce-closed}
 use Rattle.keys.proofs.Filling.{filled-satisfies}
 
 -- where no contradiction is met, the values read back satisfy the table
-pub clash-some : (n : ℕ) (t values : List ℤ) (f : Fits n t) → n ≤ length values → clashUpTo n n t ≡ false
+pub reduced-satisfies : (n : ℕ) (t values : List ℤ) (f : Fits n t) → n ≤ length values → contradictsUpTo n n t ≡ false
     → Satisfies n t (assignmentOf (fillDown n (reduceUpTo n n t) n values))
-clash-some n t values f h e =
+reduced-satisfies n t values f h e =
     reduce-only n n t (assignmentOf (fillDown n (reduceUpTo n n t) n values)) (f .grows .room)
     (filled-satisfies n (reduceUpTo n n t) values h (omega (arith, reduceUpTo-length n n t, f .grows .room)) (reduce-closed n n t f (omega arith) e))
 
-satisfiable : (n : ℕ) (t : List ℤ) → Fits n t → clashUpTo n n t ≡ false → Satisfiable n t
+satisfiable : (n : ℕ) (t : List ℤ) → Fits n t → contradictsUpTo n n t ≡ false → Satisfiable n t
 satisfiable n t f e =
-    let s = clash-some n t (replicate n (pos 0)) f (omega (arith, length-replicate n (pos 0))) e in record { assignment = _; satisfies = s }
+    let s = reduced-satisfies n t (replicate n (pos 0)) f (omega (arith, length-replicate n (pos 0))) e in record { assignment = _; satisfies = s }
 
 -- both decisions are the same, also of a copy of the table
-pub clash-refuted : (n : ℕ) (t u : List ℤ) → SameTable n t u → Fits n t → clashUpTo n n u ≡ refuted n t
-clash-refuted n t u same f = go (clashUpTo n n u) refl (refuted n t) refl
+pub reduced-refuted : (n : ℕ) (t u : List ℤ) → SameTable n t u → Fits n t → contradictsUpTo n n u ≡ refuted n t
+reduced-refuted n t u same f = go (contradictsUpTo n n u) refl (refuted n t) refl
   where
     g : Fits n u
     g = same-fits n t u same f
 
-    go : (a : Bool) → clashUpTo n n u ≡ a → (b : Bool) → refuted n t ≡ b → a ≡ b
+    go : (a : Bool) → contradictsUpTo n n u ≡ a → (b : Bool) → refuted n t ≡ b → a ≡ b
     go true d true e = refl
     go true d false e =
         let s = refuted-false n t (f .grows .room) (hide-ample every n t f) e in
-        absurd (clash-none n n u (s .assignment) (omega arith) (g .grows .room) d (same-satisfies n t u (s .assignment) same (s .satisfies)))
+        absurd (reduce-unsatisfiable n n u (s .assignment) (omega arith) (g .grows .room) d (same-satisfies n t u (s .assignment) same (s .satisfies)))
     go false d true e =
         let s = satisfiable n u g d in
         absurd (refuted-true n t (hide-ample every n t f) e (s .assignment)
@@ -91,4 +92,4 @@ copy-decides n m t w u w' r f l d e g p = record {
     whole = copy-whole n m t w u (f .most) d e
 
     same : r ≡ refuted n t
-    same = p .reply ∙ rw whole (clash-refuted n t (change (blockStart n) (copying t) w) (copied n t w (f .grows .room) l) f)
+    same = p .reply ∙ rw whole (reduced-refuted n t (change (blockStart n) (copying t) w) (copied n t w (f .grows .room) l) f)

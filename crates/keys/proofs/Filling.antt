@@ -25,7 +25,7 @@ use Rattle.elimination.proofs.Exact.{upward-choose}
 use Rattle.elimination.proofs.Values.{literal-within}
 use Rattle.keys.specs.Reducing.{fillDown, Layered}
 use Rattle.keys.proofs.Fitting.{limit-rises}
-use Rattle.keys.proofs.Reducing.{Closed}
+use Rattle.keys.proofs.Room.{Closed}
 
 pub fillDown-length : (n m : ℕ) (t values : List ℤ) → length (fillDown n t m values) ≡ length values
 unfolding fillDown

@@ -1,7 +1,10 @@
--- Laws of keys that proofs above cite.
+-- The laws of keys: several quantities hidden, 'no assignment', sums that fit, values read back; what the calls' proofs share; the starred cases and the
+-- frauds on named sheets.
 pub mod Several
 pub mod Fitting
 pub mod Reducing
+pub mod Layers
+pub mod Room
 pub mod Filling
 pub mod Copying
 pub mod Deciding

@@ -26,9 +26,9 @@ use Rattle.keys.specs.Promises.{Lent, Keyed, Assigned, Decided}
 use Rattle.keys.proofs.Several.{key-exact, key-visible, refuted-false}
 use Rattle.keys.proofs.Fitting.{hide-ample, key-within}
 use Rattle.keys.proofs.Copying.{SameTable, copied, same-back, same-satisfies, same-fits}
-use Rattle.keys.proofs.Reducing.{reduce-layered}
+use Rattle.keys.proofs.Layers.{reduce-layered}
 use Rattle.keys.proofs.Filling.{fillDown-length, fillDown-rest, filled-range}
-use Rattle.keys.proofs.Deciding.{clash-some, clash-refuted}
+use Rattle.keys.proofs.Deciding.{reduced-satisfies, reduced-refuted}
 use Rattle.keys.proofs.Checking.{then-passed, then-refused, key-tells, key-told, assignment-tells, assignment-told}
 
 -- ---- words past the table's
@@ -181,7 +181,7 @@ assignment-done n t w v w' v' e d k =
     let same : SameTable n t u = copied n t w (p .0 .served .room) (p .0 .long) in
     let f : Fits n u = same-fits n t u same (p .2) in
     let filled : v' ≡ fillDown n (reduceUpTo n n u) n v = k ∙ rw (d .words refl) in
-    let s = clash-some n u v f (p .1) (clash-refuted n t u same (p .2) ∙ sym (d .reply)) in
+    let s = reduced-satisfies n u v f (p .1) (reduced-refuted n t u same (p .2) ∙ sym (d .reply)) in
     record {
       reply = reply;
       told = assignment-told n (length w) (length v) t _ reply;

@@ -18,7 +18,7 @@ use Rattle.tables.specs.Tables.{isDone, replyNumber, replyValues}
 use Rattle.tables.specs.Meaning.{Satisfies, Satisfiable, Unsatisfiable, SheetAllows, NamesVisible, assignmentOf, WordsWithin}
 use Rattle.elimination.specs.Magnitude.{valueLimit}
 use Rattle.keys.specs.Keys.{keyOf, hiddenCount, refuted, keyChecks, keyReply, keyValues, assignmentChecks, assignmentReply, assignmentValues, freesWorkspace}
-use Rattle.keys.specs.Reducing.{reduceUpTo, clashUpTo}
+use Rattle.keys.specs.Reducing.{reduceUpTo, contradictsUpTo}
 
 -- a lent slice of which the first m words are the program's choice where `free`, and stay where not; words past them always stay
 pub record Lent (m : ℕ) (free : Bool) (before after : List ℤ) : Type 0 where
@@ -54,7 +54,7 @@ pub record Assigned (n : ℕ) (table workspace values : List ℤ) (r : Reply) (w
 
 -- a table reduced: whether a contradiction is met, and where not, every word
 pub record Reduced (n : ℕ) (before : List ℤ) (r : Bool) (after : List ℤ) : Type 0 where
-  pub reply : r ≡ clashUpTo n n before
+  pub reply : r ≡ contradictsUpTo n n before
   pub table : r ≡ false → after ≡ reduceUpTo n n before
   pub rest : drop (blockStart n) after ≡ drop (blockStart n) before
 

@@ -21,9 +21,9 @@ reduceUpTo n zero t = t
 reduceUpTo n (suc j) t = paired (suc j) n j (reduceUpTo n j t)
 
 -- pairing them meets a contradiction
-unfoldable pub clashUpTo : ℕ → ℕ → List ℤ → Bool
-clashUpTo n zero t = false
-clashUpTo n (suc j) t = clashUpTo n j t || contradicts (suc j) n j (reduceUpTo n j t)
+unfoldable pub contradictsUpTo : ℕ → ℕ → List ℤ → Bool
+contradictsUpTo n zero t = false
+contradictsUpTo n (suc j) t = contradictsUpTo n j t || contradicts (suc j) n j (reduceUpTo n j t)
 
 -- ---- an assignment, read back from a reduced table: values for the quantities of n, the last first
 

@@ -7,13 +7,14 @@ use native.Mathlib.Numerals.{add-one}
 use native.Mathlib.Omega.{arith}
 use lib.ListN.{length}
 use denote.Ref.{now}
-use Rattle.keys.specs.Reducing.{reduceUpTo, clashUpTo}
-use Rattle.keys.proofs.Reducing.{reduce-ready, reduce-none, reduce-more, clash-more, reduced-clash, reduced-clear}
+use Rattle.keys.specs.Reducing.{reduceUpTo, contradictsUpTo}
+use Rattle.keys.proofs.Layers.{reduce-ready}
+use Rattle.keys.proofs.Reducing.{reduce-none, reduce-more, contradicts-more, reduced-contradiction, reduced-clear}
 use Rattle.keys.proofs.decide.reduce.Statement.{statement}
 use Rattle.keys.proofs.decide.reduce.Tie as tie
 
 abbrev Inv-loop : tie.InvT-loop
-Inv-loop n table₀ j₀ table j = (j ≤ n) × (length table ≡ length table₀) × (table ≡ reduceUpTo n j table₀) × (clashUpTo n j table₀ ≡ false)
+Inv-loop n table₀ j₀ table j = (j ≤ n) × (length table ≡ length table₀) × (table ≡ reduceUpTo n j table₀) × (contradictsUpTo n j table₀ ≡ false)
 
 abbrev μ-loop : tie.MeasureT-loop
 μ-loop n table₀ j₀ table j = n - j
@@ -36,7 +37,7 @@ same-length c = c .before .before .pair .kept .1 .0 ∙ c .before .before .befor
 returns : tie.Need-returns Inv-loop μ-loop
 returns c =
     let l = c .before .before .before .before .before .loop in
-    reduced-clash _ (l .j) _ (l .table) _ _ (omega arith) (l .inv .2) (l .inv .3)
+    reduced-contradiction _ (l .j) _ (l .table) _ _ (omega arith) (l .inv .2) (l .inv .3)
     (rw (add-one (l .j)) at (c .before .before .pair .ensures)) (c .if1 .taken)
 
 add-j : tie.Need-add-j Inv-loop μ-loop
@@ -53,7 +54,7 @@ loop-again c =
       omega arith,
       c .before .before .pair .kept .1 .0 ∙ l .inv .1,
       rw (add-one (l .j)) (p .table ∙ rw (l .inv .2) (reduce-more (s .args .n) (l .j) (now (s .args .table)))),
-      rw (add-one (l .j)) (clash-more (s .args .n) (l .j) (now (s .args .table)) (l .inv .3) ∙ rw (← l .inv .2, ← p .reply) (c .if1 .left)),
+      rw (add-one (l .j)) (contradicts-more (s .args .n) (l .j) (now (s .args .table)) (l .inv .3) ∙ rw (← l .inv .2, ← p .reply) (c .if1 .left)),
     )
 
 same-length-2 : tie.Need-same-length-2 Inv-loop μ-loop

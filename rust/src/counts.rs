@@ -9,15 +9,18 @@ pub struct Counts {
     pub keys: usize,
     pub without: usize,
     pub enumerated: usize,
+    /// sheets called again, in turn and at once
+    pub repeated: usize,
     /// damaged calls by their replies
     pub damaged: [usize; 7],
 }
 
 impl fmt::Display for Counts {
     fn fmt(&self, f: &mut fmt::Formatter) -> fmt::Result {
-        let Counts { examples, sheets, keys, without, enumerated, .. } = self;
+        let Counts { examples, sheets, keys, without, enumerated, repeated, .. } = self;
         write!(f, "examples={examples} sheets={sheets} keys={keys} without-assignment={without}")?;
-        write!(f, " enumerated={enumerated} damaged-calls={}", self.damaged.iter().sum::<usize>())?;
+        write!(f, " enumerated={enumerated} repeated={repeated}")?;
+        write!(f, " damaged-calls={}", self.damaged.iter().sum::<usize>())?;
         let mut replies = self.damaged.iter().enumerate().filter(|(_, &count)| count > 0);
         replies.try_for_each(|(reply, count)| write!(f, " reply-{reply}={count}"))
     }

@@ -1,10 +1,11 @@
 //! Calls that are damaged in one way or several: the first refusal of document 01's order is due, and nothing else may
-//! have happened.
+//! have happened. Damage that a call does not see, as short values in the call for a key, leaves it to be judged as on a
+//! sound sheet.
 
 use crate::calls::{same_reply, AssignmentCall, KeyCall};
-use crate::check::due;
+use crate::check;
 use crate::counts::Counts;
-use crate::graph::Closure;
+use crate::due::Due;
 use crate::lent::{further, Lent};
 use crate::library::{too_short, Library, Reply, PAST_LIMIT, SIZE};
 use crate::meaning::{rules, size, LIMIT, MOST_QUANTITIES, NO_RULE};
@@ -41,8 +42,11 @@ fn key(library: &dyn Library, damaged: &Damaged, random: &mut Random) -> Result<
     let table = Lent::new(&damaged.table, random);
     let workspace = Lent::new(&random.words(damaged.workspace), random);
     let mut call = KeyCall { n, hidden, table, workspace };
+    let Some(refusal) = damaged.refusal_of_key() else {
+        return check::key(library, &Due::of(&damaged.sheet())?, call);
+    };
     let reply = call.run(library);
-    same_reply(reply, damaged.due_of_key())?;
+    same_reply(reply, refusal)?;
     call.memory(reply)?;
     Ok(reply)
 }
@@ -53,8 +57,11 @@ fn assignment(library: &dyn Library, damaged: &Damaged, random: &mut Random) -> 
     let workspace = Lent::new(&random.words(damaged.workspace), random);
     let values = Lent::new(&random.words(damaged.values), random);
     let mut call = AssignmentCall { n, table, workspace, values };
+    let Some(refusal) = damaged.refusal_of_assignment() else {
+        return check::assignment(library, &Due::of(&damaged.sheet())?, call);
+    };
     let reply = call.run(library);
-    same_reply(reply, damaged.due_of_assignment())?;
+    same_reply(reply, refusal)?;
     call.memory(reply)?;
     Ok(reply)
 }
@@ -122,29 +129,29 @@ impl Damaged {
         }
     }
 
-    fn due_of_key(&self) -> Reply {
+    fn refusal_of_key(&self) -> Option<Reply> {
         if self.table_refused() {
-            SIZE
+            Some(SIZE)
         } else if self.workspace < size(self.n) {
-            too_short(size(self.n))
+            Some(too_short(size(self.n)))
         } else if u64::from(self.hidden) >= 1 << self.n || self.word_refused() {
-            PAST_LIMIT
+            Some(PAST_LIMIT)
         } else {
-            self.due_of_rules()
+            None
         }
     }
 
-    fn due_of_assignment(&self) -> Reply {
+    fn refusal_of_assignment(&self) -> Option<Reply> {
         if self.table_refused() {
-            SIZE
+            Some(SIZE)
         } else if self.workspace < size(self.n) {
-            too_short(size(self.n))
+            Some(too_short(size(self.n)))
         } else if self.values < self.n {
-            too_short(self.n)
+            Some(too_short(self.n))
         } else if self.word_refused() {
-            PAST_LIMIT
+            Some(PAST_LIMIT)
         } else {
-            self.due_of_rules()
+            None
         }
     }
 
@@ -157,9 +164,11 @@ impl Damaged {
         held.iter().any(|rule| rule.bound > LIMIT || rule.bound < -LIMIT)
     }
 
-    /// The damage may be one that this call does not see, as short values in the call for a key.
-    fn due_of_rules(&self) -> Reply {
-        due(Closure::of(self.n, &rules(self.n, &self.table)).is_some())
+    /// What is left to be judged where the call is not refused. The hidden set may have quantities past n, which the call
+    /// for an assignment is not given.
+    fn sheet(&self) -> Sheet {
+        let all = u32::MAX >> (MOST_QUANTITIES - self.n);
+        Sheet { n: self.n, hidden: self.hidden & all, table: self.table[..size(self.n)].to_vec() }
     }
 }
 

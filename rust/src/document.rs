@@ -20,7 +20,7 @@ struct Example {
 
 const BILLION: i64 = 1_000_000_000;
 
-const EXAMPLES: [Example; 7] = [
+const EXAMPLES: [Example; 8] = [
     // sheet A
     Example { n: 3, hidden: 0b010, rules: &[(1, 2, 5), (1, -2, 2), (3, -2, 0)], key: Some(&[(1, 0, 3), (1, 3, 5)]) },
     Example { n: 1, hidden: 0, rules: &[(1, 1, -1)], key: Some(&[(1, 0, -1)]) },
@@ -30,6 +30,8 @@ const EXAMPLES: [Example; 7] = [
     Example { n: 2, hidden: 0b01, rules: &[(1, 2, 1), (-1, -2, -1), (1, -2, 0), (-1, 2, 0)], key: None },
     Example { n: 2, hidden: 0b10, rules: &[(1, 2, 0)], key: Some(&[]) },
     Example { n: 3, hidden: 0b010, rules: &[(1, -2, BILLION), (2, -3, BILLION)], key: Some(&[(1, -3, 2 * BILLION)]) },
+    // nothing is visible and nothing is said
+    Example { n: 1, hidden: 0b1, rules: &[], key: Some(&[]) },
     // the largest n with the largest bound
     Example { n: 32, hidden: 0, rules: &[(1, 32, BILLION)], key: Some(&[(1, 32, BILLION)]) },
 ];

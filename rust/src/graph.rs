@@ -12,9 +12,16 @@ const FAR: i128 = i128::MAX;
 /// The least bound of every term over the integers that satisfy some rules.
 ///
 /// It is canonical: two sets of rules with an assignment are met by the same integers exactly when their least bounds
-/// are the same. A term of visible quantities has the same least bound on a set of integers and on its projection to the
-/// visible quantities, and the projection is again what some rules say; so the least bounds of the projection
-/// are those of the whole, restricted to the visible terms.
+/// are the same. So a sheet and its key are compared by one more fact: the projection of a tight closure to the visible
+/// quantities is its restriction to their terms.
+///
+/// Half of that is plain: a term of visible quantities has the same least bound on some integers and on their projection.
+/// The other half, that the projection is again what some rules of one or two quantities say, is the same fact that hiding
+/// itself rests on. Were it false, keys and this comparison could be wrong together. So for keys only enumeration
+/// (`brute`) is independent of it, and that reaches small sheets alone.
+///
+/// Whether any integers satisfy a sheet, which decides 5, is another matter: negative cycles and halving answer it for every
+/// n, and nothing is projected.
 pub struct Closure {
     nodes: usize,
     length: Vec<i128>,

@@ -2,8 +2,9 @@
 
 use crate::random::Random;
 
-/// Words on either side, enough to see a call that counts wrong by a few words or by a block.
-const MARGIN: usize = 64;
+/// Words on either side. A call that takes one quantity too many writes a block too far: 4q - 2 words for quantity q, 130
+/// for a 33rd. That and a count wrong by a few words is seen; a word written beyond the margin is not.
+const MARGIN: usize = 256;
 
 /// How many words are lent beyond those needed: none half of the time, so that a call that goes too far meets the margin.
 pub fn further(random: &mut Random) -> usize {

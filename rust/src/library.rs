@@ -22,7 +22,8 @@ pub fn too_short(needed: usize) -> Reply {
     Reply { number: 6, value: needed }
 }
 
-pub trait Library {
+/// Shared by threads, for two may call at once.
+pub trait Library: Sync {
     /// Replaces the table's first 2n² words by the key's.
     fn key(&self, n: usize, hidden: u32, table: &mut [i64], workspace: &mut [i64]) -> Reply;
 

@@ -1,5 +1,5 @@
-//! The static library's two functions over `plain`, under the same names: with the feature `plain` the judge and its
-//! declarations in `sys` are tried where no archive is built.
+//! The static library's two functions over `plain`, under the same names: with the feature `plain` the declarations in
+//! `sys` are tried where no archive is built (`tests/linked.rs`).
 
 use crate::plain;
 use std::slice::{from_raw_parts, from_raw_parts_mut};

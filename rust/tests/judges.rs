@@ -2,7 +2,8 @@
 
 use judge::brute;
 use judge::graph::{self, Closure};
-use judge::meaning::{largest_bound, rules, terms, Rule, Term};
+use judge::library::DONE;
+use judge::meaning::{largest_bound, rules, size, terms, Rule, Term};
 use judge::plain;
 use judge::random::Random;
 use judge::sheets::Sheet;
@@ -57,7 +58,7 @@ fn spoilt_keys_are_judged_alike() {
         let Some(of_sheet) = Closure::of(n, &held) else {
             continue;
         };
-        plain::key(n, hidden, &mut table, &mut vec![0; 2 * n * n]);
+        assert_eq!(plain::key(n, hidden, &mut table, &mut vec![0; size(n)]), DONE);
         let mut key = rules(n, &table);
         spoil(&mut key, &mut random);
         let wrong =

@@ -1,0 +1,11 @@
+//! The judge over the library that it is linked with. With the feature `plain` that is the stand-in, so that the
+//! declarations in `sys` are tried without an archive.
+
+use judge::run;
+use judge::sys::Linked;
+
+#[test]
+fn the_linked_library_is_accepted() {
+    let counts = run::all(&Linked, 1, 1000).unwrap_or_else(|failure| panic!("{failure}"));
+    assert_eq!(counts.sheets, 1000);
+}

@@ -1,5 +1,5 @@
--- The step of hiding a quantity, defined place by place, does just what document 01 says under 'Hiding' of sums of rules, and then of the quantity's
--- places. Assumes nothing.
+-- The step of hiding a quantity, defined place by place, does just what document 01 says under 'Hiding': of the sums of rules, and of the places that
+-- name the quantity, which become no rule. Assumes nothing.
 use mathlib.Core.Path.{_≡_, refl, sym, _∙_}
 use mathlib.Core.Bool.{Bool, true, false}
 use mathlib.Core.List.{List}
@@ -29,7 +29,7 @@ use Rattle.tables.proofs.Places.{hasPlace-found, hasPlace-below, names-bound, p
 use Rattle.tables.proofs.Without.{cleared-word}
 use Rattle.elimination.specs.Hiding.{pairWord, loneWord, paired, contradicts, eliminated}
 use Rattle.elimination.specs.ByRules.{RuleWith, IsSum, SumAt, BareSum, HiddenByRules}
-use Rattle.elimination.proofs.TermWords.{pair-first, pair-second, pair-apart}
+use Rattle.elimination.proofs.TermWords.{pair-first, pair-second, pair-apart, pair-at}
 use Rattle.elimination.proofs.PairedWords.{lone-elim, lone-lowered, lone-plus, lone-minus, lone-half, pair-elim, pair-lowered, pair-sum}
 use Rattle.elimination.proofs.Step.{paired-length}
 use Rattle.elimination.proofs.DocumentTerms.{found-one, found-pair, Left, place-left, left-place, ListedOf, EveryRest, listed-rest, rest-listed, NotBelow, clear-listed, bare-found}
@@ -115,7 +115,7 @@ module _ (n j : ℕ) (t : List ℤ) (l : blockStart n ≤ length t) (h : j < n) 
       go : (c : Bool) → isOne k ≡ c → From k (wordAt (paired 0 n j t) k)
       go true e = rw (at-one k e) at (one (higherAt k) (at-below n k b))
       go false e =
-          rw (pair-first (paired 0 n j t) (lowerAt k) (higherAt k) (at-lower k e), at-pair k e) at
+          rw (pair-at (paired 0 n j t) k e, at-pair k e) at
           (two (lowerAt k) (higherAt k) (at-lower k e) (at-below n k b))
 
   -- and is at most the one before. So it is the least of that one and the bounds of all sums that go there
@@ -125,10 +125,8 @@ module _ (n j : ℕ) (t : List ℤ) (l : blockStart n ≤ length t) (h : j < n) 
       go : (c : Bool) → isOne k ≡ c → wordAt (paired 0 n j t) k ≤ℤ wordAt t k
       go true e = rw (at-one k e) at (lone-lowered 0 n j t l (higherAt k) (at-below n k b))
       go false e =
-          let o = at-lower k e in
           let g = at-below n k b in
-          rw (pair-first (paired 0 n j t) (lowerAt k) (higherAt k) o, pair-first t (lowerAt k) (higherAt k) o, at-pair k e) at
-          (pair-lowered 0 n j t l (lowerAt k) (higherAt k) (omega arith) g)
+          rw (pair-at (paired 0 n j t) k e, pair-at t k e) at (pair-lowered 0 n j t l (lowerAt k) (higherAt k) (omega (arith, at-lower k e)) g)
 
   -- ---- what a sum is
 

@@ -1,6 +1,6 @@
 -- The case work of document 01's sums: what is left of a rule when a literal is taken from it, read off the table's words, which rule two such
 -- rests give, and so a list of all sums by words. Assumes nothing.
-use mathlib.Core.Path.{_≡_, refl, sym, _∙_, ap}
+use mathlib.Core.Path.{_≡_, refl, sym, _∙_}
 use mathlib.Core.Bool.{Bool, true, false, cond, _&&_, _||_}
 use mathlib.Core.List.{List}
 use mathlib.Core.Logic.{inl, inr}
@@ -16,7 +16,7 @@ use Rattle.integers.proofs.Parts.{linear}
 use Rattle.words.specs.Change.{wordAt}
 use Rattle.places.specs.declared.Place.the-variants.{At}
 use Rattle.places.specs.Numbering.{blockStart, placeOfOne, placeOfPair, placeOfTwo, isOne, higherAt, lowerAt}
-use Rattle.places.proofs.Numbering.{one-below, pair-below, one-isOne, one-higher, pair-isOne, pair-higher, pair-lower, at-one, at-lower, at-pair, at-below}
+use Rattle.places.proofs.Numbering.{one-below, pair-below, one-isOne, one-higher, pair-isOne, pair-higher, pair-lower, at-lower, at-below}
 use Rattle.rules.specs.declared.rule.Rule.{Rule}
 use Rattle.rules.specs.declared.rule.Rule.the-variants.{One, Two, Nothing}
 use Rattle.rules.specs.declared.rule.Partner.{Partner}
@@ -31,7 +31,7 @@ use Rattle.tables.specs.Meaning.{HoldsRule, ruleIn}
 use Rattle.tables.proofs.Places.{found-two}
 use Rattle.tables.proofs.Tests.{clash, both-true}
 use Rattle.elimination.specs.Hiding.{bareBelow, pairWord, loneWord, anyBare, contradicts}
-use Rattle.elimination.proofs.TermWords.{quantity-cases, pair-first, pair-second, pair-apart}
+use Rattle.elimination.proofs.TermWords.{quantity-cases, pair-first, pair-second, pair-apart, pair-sym, lone-at, pair-at}
 use Rattle.elimination.proofs.Step.{bare-clear, anyBare-clear, neither}
 
 -- ---- the rule that two rests give
@@ -98,15 +98,14 @@ place-left n z t k p = go (isOne k) refl
         → Left n z t (partnerOf z (cond b (One (higherAt k) (wordAt t k)) (Two (lowerAt k) (higherAt k) (wordAt t k))))
         (boundOf (cond b (One (higherAt k) (wordAt t k)) (Two (lowerAt k) (higherAt k) (wordAt t k))))
     go true e s =
-        let w : loneWord t (higherAt k) ≡ wordAt t k = ap (wordAt t) (at-one k e) in
+        let w = lone-at t k e in
         rw (← s, eq-eqb (higherAt k) (higherAt k) refl) (rw w (p .rule), sym w)
     go false e (inl s) =
-        let o = at-lower k e in
-        let w : pairWord t (lowerAt k) (higherAt k) ≡ wordAt t k = pair-first t (lowerAt k) (higherAt k) o ∙ ap (wordAt t) (at-pair k e) in
+        let w = pair-at t k e in
         rw (← s, eq-eqb (lowerAt k) (lowerAt k) refl) (at-below n k (p .inside), rw w (p .rule), sym w)
     go false e (inr s) =
         let o = at-lower k e in
-        let w : pairWord t (higherAt k) (lowerAt k) ≡ wordAt t k = pair-second t (lowerAt k) (higherAt k) o ∙ ap (wordAt t) (at-pair k e) in
+        let w = pair-sym t (higherAt k) (lowerAt k) ∙ pair-at t k e in
         rw (← s, ne-eqb (lowerAt k) (higherAt k) (λ d. omega arith), eq-eqb (higherAt k) (higherAt k) refl)
         (omega (arith, at-below n k (p .inside)), rw w (p .rule), sym w)
 

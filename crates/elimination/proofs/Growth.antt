@@ -12,7 +12,7 @@ use Rattle.integers.specs.Bound.{Within}
 use Rattle.integers.proofs.Within.{within-mono, within-add, within-half}
 use Rattle.words.specs.Change.{wordAt}
 use Rattle.places.specs.Numbering.{blockStart, isOne, higherAt, lowerAt}
-use Rattle.places.proofs.Numbering.{at-one, at-lower, at-pair, at-below}
+use Rattle.places.proofs.Numbering.{at-lower, at-below}
 use Rattle.rules.specs.Limits.{noRule}
 use Rattle.rules.specs.Meaning.{names}
 use Rattle.tables.specs.Places.{ruleAt}
@@ -22,7 +22,7 @@ use Rattle.tables.proofs.Tests.{clash}
 use Rattle.tables.proofs.Without.{cleared-word}
 use Rattle.elimination.specs.Hiding.{pairWord, loneWord, paired, eliminated}
 use Rattle.elimination.specs.Magnitude.{Past, OwnWithin}
-use Rattle.elimination.proofs.TermWords.{pair-first, lone-within, pair-within}
+use Rattle.elimination.proofs.TermWords.{lone-at, pair-at, lone-within, pair-within}
 use Rattle.elimination.proofs.PairedWords.{lone-elim, pair-elim}
 use Rattle.elimination.proofs.Step.{paired-length}
 
@@ -60,11 +60,10 @@ words-terms n B t l = (to, of)
     }
 
     go : TermsWithin (Past 0 n) B t → (k : ℕ) → k < blockStart n → (b : Bool) → isOne k ≡ b → hasRule (wordAt t k) ≡ true → Within (pos B) (wordAt t k)
-    go w k h true e = rw (at-one k e) at (w .one (higherAt k) (omega arith, at-below n k h))
+    go w k h true e = rw (lone-at t k e) at (w .one (higherAt k) (omega arith, at-below n k h))
     go w k h false e =
-        let o = at-lower k e in
         let g = at-below n k h in
-        rw (pair-first t (lowerAt k) (higherAt k) o, at-pair k e) at (w .two (lowerAt k) (higherAt k) (omega arith, omega arith) (omega arith, g))
+        rw (pair-at t k e) at (w .two (lowerAt k) (higherAt k) (omega arith, omega (arith, at-lower k e)) (omega arith, g))
 
     of : TermsWithin (Past 0 n) B t → WordsWithin (blockStart n) (pos B) t
     of w = record { each = λ k h g r. go w k h (isOne k) refl r }

@@ -1,5 +1,6 @@
--- The words of terms: which place the word of two literals has, and that their order does not matter. Assumes nothing.
-use mathlib.Core.Path.{_≡_, refl, sym, _∙_}
+-- The words of terms: which place the word of two literals has, that their order does not matter, which terms have the word at a place, and that all
+-- these words are within the limit of the table's. Assumes nothing.
+use mathlib.Core.Path.{_≡_, refl, sym, _∙_, ap}
 use mathlib.Core.Bool.{Bool, true, false}
 use mathlib.Core.List.{List}
 use Prim.Native.Nat.{ℕ, _*_, _/_, _≤_, _<_}
@@ -10,8 +11,8 @@ use lib.ListN.{length}
 use borrow.Author.Tests.{ltb-true, ltb-false, lt-ltb, le-ltb, eqb-true, eqb-false, eq-eqb, ne-eqb}
 use Rattle.integers.specs.Bound.{Within}
 use Rattle.words.specs.Change.{wordAt}
-use Rattle.places.specs.Numbering.{blockStart, placeOfOne, placeOfPair, placeOfTwo}
-use Rattle.places.proofs.Numbering.{one-below, pair-below}
+use Rattle.places.specs.Numbering.{blockStart, placeOfOne, placeOfPair, placeOfTwo, isOne, higherAt, lowerAt}
+use Rattle.places.proofs.Numbering.{one-below, pair-below, at-one, at-lower, at-pair}
 use Rattle.rules.specs.Limits.{noRule}
 use Rattle.tables.specs.Tables.{hasRule}
 use Rattle.tables.specs.Meaning.{WordsWithin}
@@ -57,6 +58,13 @@ pair-sym t x y =
     (λ e. pair-same t x y e ∙ sym (pair-same t y x (sym e)))
     (λ l. pair-first t x y l ∙ sym (pair-second t x y l))
     (λ l. pair-second t y x l ∙ sym (pair-first t y x l))
+
+-- the words of the terms at a place: of its one literal, or of its two
+pub lone-at : (t : List ℤ) (k : ℕ) → isOne k ≡ true → loneWord t (higherAt k) ≡ wordAt t k
+lone-at t k e = ap (wordAt t) (at-one k e)
+
+pub pair-at : (t : List ℤ) (k : ℕ) → isOne k ≡ false → pairWord t (lowerAt k) (higherAt k) ≡ wordAt t k
+pair-at t k e = pair-first t (lowerAt k) (higherAt k) (at-lower k e) ∙ ap (wordAt t) (at-pair k e)
 
 -- a term's word that holds a rule is within the limit of the words
 pub lone-within : (n : ℕ) (B : ℤ) (t : List ℤ) (x : ℕ) → blockStart n ≤ length t → WordsWithin (blockStart n) B t → x < 2 * n

@@ -12,7 +12,7 @@ use lib.Signed.{_≤ℤ_}
 use borrow.Author.Tests.{ltb-true, ltb-false}
 use Rattle.words.specs.Change.{wordAt}
 use Rattle.places.specs.Numbering.{blockStart, placeOfOne, placeOfPair, isOne, higherAt, lowerAt, offsetOf}
-use Rattle.places.proofs.Numbering.{one-below, pair-below, one-isOne, one-higher, pair-isOne, pair-higher, pair-lower, higher-half, at-one, at-lower, at-pair, at-below}
+use Rattle.places.proofs.Numbering.{one-below, pair-below, one-isOne, one-higher, pair-isOne, pair-higher, pair-lower, higher-half, at-lower, at-below}
 use Rattle.rules.specs.declared.rule.Rule.the-variants.{One, Two}
 use Rattle.rules.specs.Literal.{quantityOf}
 use Rattle.rules.specs.Meaning.{Assignment, literalValue, Meets, names}
@@ -25,7 +25,7 @@ use Rattle.tables.proofs.Places.{own-named, four-named, not-named}
 use Rattle.elimination.specs.Magnitude.{Past}
 use Rattle.elimination.specs.Hiding.{pairWord, loneWord}
 use Rattle.elimination.proofs.Projection.{Sums, Own}
-use Rattle.elimination.proofs.TermWords.{pair-none, pair-first, pair-sym}
+use Rattle.elimination.proofs.TermWords.{pair-none, pair-first, pair-sym, lone-at, pair-at}
 
 -- an assignment meets every rule of a table whose literals are all In
 pub record TermsMet (In : ℕ → Type 0) (t : List ℤ) (σ : Assignment) : Type 0 where
@@ -93,11 +93,11 @@ met-place In t σ k m high low r = go (isOne k) refl
   where
     go : (b : Bool) → isOne k ≡ b → Meets σ (ruleIn t k)
     go true e =
-        rw (rule-one k (wordAt t k) e) (record { met = rw (at-one k e) at (m .one (higherAt k) high (rw (at-one k e) r)) })
+        let word = lone-at t k e in
+        rw (rule-one k (wordAt t k) e)
+        (record { met = rw word at (m .one (higherAt k) high (rw word r)) })
     go false e =
-        let word : pairWord t (lowerAt k) (higherAt k) ≡ wordAt t k =
-        pair-first t (lowerAt k) (higherAt k) (at-lower k e) ∙ ap (wordAt t) (at-pair k e)
-        in
+        let word = pair-at t k e in
         rw (rule-two k (wordAt t k) e)
         (record { met = rw word at (m .two (lowerAt k) (higherAt k) (low e) high (rw word r)) })
 

@@ -12,7 +12,7 @@ use borrow.Author.Tests.{ne-eqb}
 use Rattle.words.specs.Change.{wordAt}
 use Rattle.words.proofs.Change.{change-nothing}
 use Rattle.places.specs.Numbering.{blockStart, placeOfOne, placeOfPair, isOne, higherAt, lowerAt}
-use Rattle.places.proofs.Numbering.{one-below, pair-below, one-block, pair-block, pair-offset, at-one, at-lower, at-pair, at-below}
+use Rattle.places.proofs.Numbering.{one-below, pair-below, one-block, pair-block, pair-offset, at-lower, at-below}
 use Rattle.rules.specs.declared.rule.Rule.the-variants.{One, Two}
 use Rattle.rules.specs.Limits.{noRule}
 use Rattle.rules.specs.Literal.{quantityOf}
@@ -25,7 +25,7 @@ use Rattle.tables.proofs.Without.{cleared-word}
 use Rattle.tables.proofs.Tests.{clash}
 use Rattle.elimination.specs.Hiding.{pairWord, loneWord, onOne, onTwo, lowestAt, pairing, paired, eliminated}
 use Rattle.elimination.specs.Magnitude.{Unnamed}
-use Rattle.elimination.proofs.TermWords.{quantity-cases, pair-same, pair-first, pair-second, pair-sym}
+use Rattle.elimination.proofs.TermWords.{quantity-cases, pair-same, pair-first, pair-second, pair-sym, lone-at, pair-at}
 use Rattle.elimination.proofs.SumWords.{onOne-elim, onTwo-elim}
 use Rattle.elimination.proofs.PairedWords.{lone-elim, pair-elim}
 use Rattle.elimination.proofs.Step.{paired-length}
@@ -101,15 +101,15 @@ terms-unnamed n i t lone pair = record { each = λ k p. go k (p .inside) (p .rul
         → names (suc i) (cond b (One (higherAt k) (wordAt t k)) (Two (lowerAt k) (higherAt k) (wordAt t k))) ≡ false
     go k h r true e =
         ne-eqb (quantityOf (higherAt k)) (suc i)
-        (λ q. clash r (rw (at-one k e) at (lone (higherAt k) (at-below n k h) (omega arith))))
+        (λ q. clash r (rw (lone-at t k e) at (lone (higherAt k) (at-below n k h) (omega arith))))
     go k h r false e =
         let o = at-lower k e in
         let g = at-below n k h in
         rw (
           ne-eqb (quantityOf (lowerAt k)) (suc i)
-              (λ q. clash r (rw (pair-first t (lowerAt k) (higherAt k) o, at-pair k e) at (pair (lowerAt k) (higherAt k) (omega arith) g (omega arith)))),
+              (λ q. clash r (rw (pair-at t k e) at (pair (lowerAt k) (higherAt k) (omega arith) g (omega arith)))),
           ne-eqb (quantityOf (higherAt k)) (suc i)
-              (λ q. clash r (rw (pair-second t (lowerAt k) (higherAt k) o, at-pair k e) at (pair (higherAt k) (lowerAt k) g (omega arith) (omega arith)))),
+              (λ q. clash r (rw (pair-sym t (higherAt k) (lowerAt k), pair-at t k e) at (pair (higherAt k) (lowerAt k) g (omega arith) (omega arith)))),
         )
 
 -- ---- pairing

@@ -1,5 +1,5 @@
--- What the crate's contracts cite. Hiding is document 01's step, which computes, and ByRules the same in the document's own words; Choosing is how a value is chosen, which document 01 leaves free;
--- Magnitude is what makes sums fit; Rows is what the code gathers; Promises are the contracts' records.
+-- What the crate's contracts cite. Hiding is document 01's step, which computes, and ByRules the same in the document's own words; Choosing is how a
+-- value is chosen; Magnitude is what makes sums fit; Rows is what the code gathers; Promises are the contracts' records.
 pub mod Hiding
 pub mod ByRules
 pub mod Choosing

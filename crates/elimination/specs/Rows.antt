@@ -1,4 +1,5 @@
--- What the code gathers before it walks the table: the bounds of one literal with each other, by literal.
+-- What the code gathers before it walks the table: the bounds of one literal with each other, by literal. And the test by which it passes over a block
+-- to which no sum goes.
 use mathlib.Core.Bool.{Bool, not, _||_}
 use mathlib.Core.List.{List}
 use Prim.Native.Nat.{ℕ}

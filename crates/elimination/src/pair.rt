@@ -7,11 +7,11 @@ use rules::sheet::Sheet;
 ghost use mathlib.Core.Path.{_≡_};
 ghost use Prim.Native.Nat.{suc, _+_, _*_, _<_, _≤_};
 ghost use lib.ListN.{length, set};
-ghost use Rattle.words.specs.Change.{wordAt, change, startingAt};
+ghost use Rattle.words.specs.Change.{wordAt};
 ghost use Rattle.places.specs.Numbering.{blockStart};
 ghost use Rattle.rules.specs.Limits.{maxQuantities};
-ghost use Rattle.elimination.specs.Hiding.{withSum, withHalf, pairing};
-ghost use Rattle.elimination.specs.Promises.{Addable, Ready, Row, TwosPaired, Paired};
+ghost use Rattle.elimination.specs.Hiding.{withSum, withHalf};
+ghost use Rattle.elimination.specs.Promises.{Addable, Ready, Row, TwosPaired, BlockReady, BlockPaired, BlocksReady, BlocksPaired, Paired};
 
 // The words of a row: one for each literal.
 const ROW: usize = 2 * Sheet::MAX_QUANTITIES;
@@ -40,7 +40,8 @@ fn pair_twos(table: &mut [i64], b: usize, from: usize, plus: &[i64], minus: &[i6
     }
 }
 
-// Puts the sums in at the place `at` of a literal alone, whose bounds with the quantity and + and with it and - are `a` and `b`.
+// Puts the sums in at the place `at` of a literal alone, whose bounds with the quantity and + and with it and - are `a` and `b`. Here and below
+// `p` and `m` are the bounds of the quantity alone with + and -.
 fn pair_one(table: &mut [i64], at: usize, a: i64, b: i64, p: i64, m: i64)
     requires { ⌜ (at < length (now table)) × Addable a × Addable b × Addable p × Addable m ⌝ }
     ensures { λ _. ⌜ now (table .exit) ≡ set (now (table .entry)) at (withHalf a b (withSum a m (withSum b p (wordAt (now (table .entry)) at)))) ⌝ }
@@ -59,8 +60,8 @@ fn pair_places(
     p: i64,
     m: i64,
 )
-    requires { ⌜ (b < maxQuantities) × (from ≤ b) × (blockStart (suc b) ≤ length (now table)) × Row (suc b) (now plus) × Row (suc b) (now minus) × Addable p × Addable m ⌝ }
-    ensures { λ _. ⌜ now (table .exit) ≡ change (blockStart (suc b)) (startingAt (blockStart b) (pairing from (wordAt (now (plus .entry))) (wordAt (now (minus .entry))) p m)) (now (table .entry)) ⌝ }
+    requires { ⌜ BlockReady b from (now table) (now plus) (now minus) p m ⌝ }
+    ensures { λ _. ⌜ BlockPaired b from (now (plus .entry)) (now (minus .entry)) p m (now (table .entry)) (now (table .exit)) ⌝ }
 {
     let y = 2 * b;
     let start = 2 * (b * b);
@@ -72,8 +73,8 @@ fn pair_places(
 // Puts the sums in at the terms of the block of quantity `b + 1`. None goes there where no rule has that quantity together with the one that is
 // paired, as in most blocks of a table with few rules.
 fn pair_block(table: &mut [i64], b: usize, from: usize, plus: &[i64], minus: &[i64], p: i64, m: i64)
-    requires { ⌜ (b < maxQuantities) × (from ≤ b) × (blockStart (suc b) ≤ length (now table)) × Row (suc b) (now plus) × Row (suc b) (now minus) × Addable p × Addable m ⌝ }
-    ensures { λ _. ⌜ now (table .exit) ≡ change (blockStart (suc b)) (startingAt (blockStart b) (pairing from (wordAt (now (plus .entry))) (wordAt (now (minus .entry))) p m)) (now (table .entry)) ⌝ }
+    requires { ⌜ BlockReady b from (now table) (now plus) (now minus) p m ⌝ }
+    ensures { λ _. ⌜ BlockPaired b from (now (plus .entry)) (now (minus .entry)) p m (now (table .entry)) (now (table .exit)) ⌝ }
 {
     let y = 2 * b;
     if word::are_none(plus[y], minus[y], plus[y + 1], minus[y + 1]) {
@@ -92,8 +93,8 @@ fn pair_blocks(
     p: i64,
     m: i64,
 )
-    requires { ⌜ (from ≤ n) × (blockStart n ≤ length (now table)) × Row n (now plus) × Row n (now minus) × Addable p × Addable m ⌝ }
-    ensures { λ _. ⌜ now (table .exit) ≡ change (blockStart n) (pairing from (wordAt (now (plus .entry))) (wordAt (now (minus .entry))) p m) (now (table .entry)) ⌝ }
+    requires { ⌜ BlocksReady n from (now table) (now plus) (now minus) p m ⌝ }
+    ensures { λ _. ⌜ BlocksPaired n from (now (plus .entry)) (now (minus .entry)) p m (now (table .entry)) (now (table .exit)) ⌝ }
 {
     let mut b = from;
     while b < n {

@@ -3,11 +3,10 @@ use rules::sheet::Sheet;
 ghost use mathlib.Core.Path.{_≡_};
 ghost use Prim.Native.Nat.{_*_, _<_, _≤_};
 ghost use lib.ListN.{length};
-ghost use Rattle.words.specs.Change.{change, startingAt};
 ghost use Rattle.places.specs.Numbering.{blockStart};
 ghost use Rattle.rules.specs.Limits.{maxQuantities};
-ghost use Rattle.elimination.specs.Rows.{gathering};
 ghost use Rattle.elimination.specs.Hiding.{pairWord as Hiding·pairWord};
+ghost use Rattle.elimination.specs.Promises.{Gatherable, RowGathered};
 
 // The bound of the term of literals `z` and `x`; two of one quantity have no term together.
 pub(crate) fn pair_word(n: usize, table: &[i64], z: usize, x: usize) -> i64
@@ -27,8 +26,8 @@ pub(crate) fn pair_word(n: usize, table: &[i64], z: usize, x: usize) -> i64
 
 // Gathers the bounds of `z` with each literal of `n` quantities past the first `from`.
 pub(crate) fn gather(n: usize, table: &[i64], z: usize, from: usize, row: &mut [i64])
-    requires { ⌜ (n ≤ maxQuantities) × (z < 2 * n) × (from ≤ n) × (blockStart n ≤ length (now table)) × (2 * n ≤ length (now row)) ⌝ }
-    ensures { λ _. ⌜ now (row .exit) ≡ change (2 * n) (startingAt (2 * from) (gathering (now (table .entry)) z)) (now (row .entry)) ⌝ }
+    requires { ⌜ Gatherable n z from (now table) (now row) ⌝ }
+    ensures { λ _. ⌜ RowGathered n z from (now (table .entry)) (now (row .entry)) (now (row .exit)) ⌝ }
 {
     let mut x = 2 * from;
     while x < 2 * n {

@@ -1,4 +1,4 @@
-// The operations on the words of a step: a sum put in by minimum, the same halved, and the test of a bare sum.
+// The operations on the words of a step: a sum put in by minimum, the same halved, the test of a bare sum, and the test that four words are no rules.
 use rules::sheet::Sheet;
 ghost use mathlib.Core.Path.{_≡_};
 ghost use Rattle.elimination.specs.Hiding.{withSum, withHalf, bareBelow};

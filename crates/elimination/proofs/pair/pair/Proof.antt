@@ -27,7 +27,7 @@ slice-aggregate-gather : tie.Need-slice-aggregate-gather
 slice-aggregate-gather c = search needs
 
 gather-requires : tie.Need-gather-requires
-gather-requires c κs = search needs
+gather-requires c κs = record { most = omega arith; one = omega arith; some = omega arith; room = omega arith; row-room = search needs }
 
 mul-gather-2 : tie.Need-mul-gather-2
 mul-gather-2 c = search needs
@@ -39,17 +39,17 @@ slice-aggregate-gather-2 : tie.Need-slice-aggregate-gather-2
 slice-aggregate-gather-2 c = search needs
 
 gather-requires-2 : tie.Need-gather-requires-2
-gather-requires-2 c κs = search needs
+gather-requires-2 c κs = record { most = omega arith; one = omega arith; some = omega arith; room = omega arith; row-room = search needs }
 
 -- the rows that were gathered
 plus-row : (c : tie.After-gather) → let s = c .before .before .before in
     Gathered (s .args .n) (s .args .from) (now (s .args .table)) (2 * s .args .j) (c .gather .last .1 .1 .1 .1 .0)
-plus-row c = let s = c .before .before .before in gathered _ _ _ _ _ _ (s .pre .0) (omega arith) (c .gather .ensures)
+plus-row c = let s = c .before .before .before in gathered _ _ _ _ _ _ (s .pre .0) (omega arith) (c .gather .ensures .row)
 
 minus-row : (c : tie.After-gather2) → let s = c .before .before .before .before .before .before .before in
     Gathered (s .args .n) (s .args .from) (now (s .args .table)) (2 * s .args .j + 1) (c .gather2 .last .1 .1 .1 .1 .0)
 minus-row c = let s = c .before .before .before .before .before .before .before in
-    gathered _ _ _ _ _ _ (s .pre .0) (omega arith) (c .gather2 .ensures)
+    gathered _ _ _ _ _ _ (s .pre .0) (omega arith) (c .gather2 .ensures .row)
 
 -- the quantity's own two places are the table's
 inside : (n j : ℕ) → j < n → 2 * (j * j) + 1 < blockStart n
@@ -116,7 +116,14 @@ pair-blocks-requires c κs =
     let m = c .before .before .before in
     let g = m .before .before .before in
     let s = g .before .before .before .before .before .before .before in
-    (s .pre .1, s .pre .0 .room, plus-row (g .before .before .before .before) .adds, minus-row g .adds, adds m .0, adds m .1)
+    record {
+      some = s .pre .1;
+      room = s .pre .0 .room;
+      plus-row = plus-row (g .before .before .before .before) .adds;
+      minus-row = minus-row g .adds;
+      plus-alone = adds m .0;
+      minus-alone = adds m .1;
+    }
 
 is-bare-below-requires : tie.Need-is-bare-below-requires
 is-bare-below-requires c κs = adds (c .before .before .before .before .before)
@@ -128,7 +135,7 @@ table-after c =
     let m = c .before .before .before .before in
     let g = m .before .before .before in
     let s = g .before .before .before .before .before .before .before in
-    c .pair-blocks .ensures
+    c .pair-blocks .ensures .table
     ∙ paired-rows (s .args .n) (s .args .j) (s .args .from) (now (s .args .table)) _ _ _ _
     (plus-row (g .before .before .before .before)) (minus-row g) (lone-plus (m .before)) (lone-minus m)
 

@@ -65,12 +65,20 @@ returns c =
     )
     at (sym (a .are-none .ensures) ∙ c .if1 .taken) in
     let t = none-tells (plus y) (minus y) (plus (y + 1)) (minus (y + 1)) none in
-    block-idle (s .args .from) plus minus (s .args .p) (s .args .m) (s .args .b) (now (s .args .table)) (t .0) (t .1) (t .2) (t .3)
+    record { table = block-idle (s .args .from) plus minus (s .args .p) (s .args .m) (s .args .b) (now (s .args .table)) (t .0) (t .1) (t .2) (t .3) }
 
 pair-places-requires : tie.Need-pair-places-requires
 pair-places-requires c κs =
     let s = c .before .before .before .before .before .before .before in
-    (s .pre .0, s .pre .1, s .pre .2, s .pre .3, s .pre .4, adds-held (s .args .p) (s .fits .p) (s .pre .5), adds-held (s .args .m) (s .fits .m) (s .pre .6))
+    record {
+      most = s .pre .most;
+      some = s .pre .some;
+      room = s .pre .room;
+      plus-row = s .pre .plus-row;
+      minus-row = s .pre .minus-row;
+      plus-alone = adds-held (s .args .p) (s .fits .p) (s .pre .plus-alone);
+      minus-alone = adds-held (s .args .m) (s .fits .m) (s .pre .minus-alone);
+    }
 
 same-length : tie.Need-same-length
 same-length c = search needs

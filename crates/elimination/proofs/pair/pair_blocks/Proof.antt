@@ -34,15 +34,15 @@ loop-holds c = (omega arith, omega arith, refl, blocks-none _ _ _ _ _ _)
 pair-block-requires : tie.Need-pair-block-requires Inv-loop μ-loop
 pair-block-requires c κs =
     let l = c .before .before .loop in
-    let s = c .before .before .before in (
-      omega arith,
-      l .inv .0,
-      omega (arith, blockStart-mono {a = suc (l .b)} {b = s .args .n} (omega arith)),
-      row-part (suc (l .b)) (s .args .n) (now (s .args .plus)) (omega arith) (s .pre .2),
-      row-part (suc (l .b)) (s .args .n) (now (s .args .minus)) (omega arith) (s .pre .3),
-      adds-held (s .args .p) (s .fits .p) (s .pre .4),
-      adds-held (s .args .m) (s .fits .m) (s .pre .5),
-    )
+    let s = c .before .before .before in record {
+      most = omega arith;
+      some = l .inv .0;
+      room = omega (arith, blockStart-mono {a = suc (l .b)} {b = s .args .n} (omega arith));
+      plus-row = row-part (suc (l .b)) (s .args .n) (now (s .args .plus)) (omega arith) (s .pre .plus-row);
+      minus-row = row-part (suc (l .b)) (s .args .n) (now (s .args .minus)) (omega arith) (s .pre .minus-row);
+      plus-alone = adds-held (s .args .p) (s .fits .p) (s .pre .plus-alone);
+      minus-alone = adds-held (s .args .m) (s .fits .m) (s .pre .minus-alone);
+    }
 
 add-b : tie.Need-add-b Inv-loop μ-loop
 add-b c = omega arith
@@ -58,7 +58,7 @@ loop-again c =
       omega arith,
       c .before .pair-block .kept .0 ∙ l .inv .2,
       rw (add-one (l .b))
-          (c .before .pair-block .ensures
+          (c .before .pair-block .ensures .table
           ∙ rw (l .inv .3)
           (change-on (blockStart (l .b)) (blockStart (suc (l .b)))
           (pairing (s .args .from) (wordAt (now (s .args .plus))) (wordAt (now (s .args .minus))) (toZ w64 (ofZ w64 (s .args .p))) (toZ w64 (ofZ w64 (s .args .m))))
@@ -73,7 +73,7 @@ returns c =
     let s = c .before .before in
     let l = c .before .loop in
     let e : l .b ≡ s .args .n = omega arith in
-    l .inv .3 ∙ rw (e, word-value (s .fits .p), word-value (s .fits .m))
+    record { table = l .inv .3 ∙ rw (e, word-value (s .fits .p), word-value (s .fits .m)) }
 
 pub pair-blocks-spec : {M : Type 1} → statement M
 pair-blocks-spec =

@@ -42,10 +42,10 @@ pair-one-requires : tie.Need-pair-one-requires
 unfolding blockStart
 pair-one-requires c κs = let s = c .before .before .before in (
   omega (arith, blockStart-suc (s .args .b)),
-  row-held (suc (s .args .b)) (now (s .args .plus)) (2 * s .args .b) (s .pre .3) (omega arith) (c .before .pair-one-arg2 .given),
-  row-held (suc (s .args .b)) (now (s .args .minus)) (2 * s .args .b) (s .pre .4) (omega arith) (c .pair-one-arg3 .given),
-  adds-held (s .args .p) (s .fits .p) (s .pre .5),
-  adds-held (s .args .m) (s .fits .m) (s .pre .6),
+  row-held (suc (s .args .b)) (now (s .args .plus)) (2 * s .args .b) (s .pre .plus-row) (omega arith) (c .before .pair-one-arg2 .given),
+  row-held (suc (s .args .b)) (now (s .args .minus)) (2 * s .args .b) (s .pre .minus-row) (omega arith) (c .pair-one-arg3 .given),
+  adds-held (s .args .p) (s .fits .p) (s .pre .plus-alone),
+  adds-held (s .args .m) (s .fits .m) (s .pre .minus-alone),
 )
 
 add-pair-one : tie.Need-add-pair-one
@@ -75,10 +75,10 @@ pair-one-requires-2 c κs =
     let o = c .before .before .before .before in
     let s = o .before .before .before .before in (
       let k = o .pair-one .kept .0 in omega (arith, blockStart-suc (s .args .b)),
-      row-held (suc (s .args .b)) (now (s .args .plus)) (2 * s .args .b + 1) (s .pre .3) (omega arith) (c .before .pair-one-arg5 .given),
-      row-held (suc (s .args .b)) (now (s .args .minus)) (2 * s .args .b + 1) (s .pre .4) (omega arith) (c .pair-one-arg6 .given),
-      adds-held (s .args .p) (s .fits .p) (s .pre .5),
-      adds-held (s .args .m) (s .fits .m) (s .pre .6),
+      row-held (suc (s .args .b)) (now (s .args .plus)) (2 * s .args .b + 1) (s .pre .plus-row) (omega arith) (c .before .pair-one-arg5 .given),
+      row-held (suc (s .args .b)) (now (s .args .minus)) (2 * s .args .b + 1) (s .pre .minus-row) (omega arith) (c .pair-one-arg6 .given),
+      adds-held (s .args .p) (s .fits .p) (s .pre .plus-alone),
+      adds-held (s .args .m) (s .fits .m) (s .pre .minus-alone),
     )
 
 pair-twos-requires : tie.Need-pair-twos-requires
@@ -86,7 +86,7 @@ pair-twos-requires c κs =
     let o = c .before .before in
     let q = o .before .before .before .before .before in
     let s = q .before .before .before .before in
-    (s .pre .0, s .pre .1, let k = o .pair-one2 .kept .0 in let l = q .pair-one .kept .0 in omega arith, s .pre .3, s .pre .4)
+    (s .pre .most, s .pre .some, let k = o .pair-one2 .kept .0 in let l = q .pair-one .kept .0 in omega arith, s .pre .plus-row, s .pre .minus-row)
 
 same-length : tie.Need-same-length
 same-length c = search needs
@@ -121,9 +121,11 @@ returns c =
     let o = c .before .before .before .before in
     let q = o .before .before .before .before .before in
     let s = q .before .before .before .before in
-    c .before .pair-twos .ensures .table (s .args .p) (s .args .m)
-    ∙ block-whole (s .args .from) (wordAt (now (s .args .plus))) (wordAt (now (s .args .minus))) (s .args .p) (s .args .m) (s .args .b)
-    (now (s .args .table)) (q .pair-one .last .0) (o .pair-one2 .last .0) (s .pre .1) (s .pre .2) (first q) (second o)
+    record {
+      table = c .before .pair-twos .ensures .table (s .args .p) (s .args .m)
+          ∙ block-whole (s .args .from) (wordAt (now (s .args .plus))) (wordAt (now (s .args .minus))) (s .args .p) (s .args .m) (s .args .b)
+          (now (s .args .table)) (q .pair-one .last .0) (o .pair-one2 .last .0) (s .pre .some) (s .pre .room) (first q) (second o);
+    }
 
 pub pair-places-spec : {M : Type 1} → statement M
 pair-places-spec =

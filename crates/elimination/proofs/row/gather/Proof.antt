@@ -64,7 +64,7 @@ returns c =
     let s = c .before .before in
     let l = c .before .loop in
     let e : l .x ≡ 2 * s .args .n = omega arith in
-    l .inv .3 ∙ rw e
+    record { row = l .inv .3 ∙ rw e }
 
 pub gather-spec : {M : Type 1} → statement M
 gather-spec =

@@ -10,14 +10,14 @@ use lib.IntN.{ℤ}
 use lib.ListN.{length, set}
 use borrow.Author.Tests.{ltb-false, le-ltb, eqb-true, eqb-false}
 use Rattle.words.specs.Change.{wordAt, change, startingAt}
-use Rattle.words.proofs.Change.{change-nothing, change-same}
+use Rattle.words.proofs.Change.{change-nothing, change-same, starting-none, starting-more, starting-on}
 use Rattle.places.specs.Numbering.{blockStart, placeOfOne, placeOfPair, blockOf, offsetOf, isOne, higherAt, lowerAt}
 use Rattle.places.proofs.Numbering.{blockStart-suc, block-unique, offset-place, higher-half, at-lower, at-below}
 use Rattle.elimination.specs.Hiding.{withSum, withHalf, pairWord, loneWord, onOne, onTwo, lowestAt, pairing, paired}
 use Rattle.tables.specs.Tables.{hasRule}
 use Rattle.elimination.proofs.SumWords.{withSum-left, withSum-right, withHalf-left}
 use Rattle.elimination.proofs.PairedWords.{pairing-one, pairing-two, pairing-low}
-use Rattle.elimination.proofs.Rows.{starting-none, starting-more, starting-on, Gathered}
+use Rattle.elimination.proofs.Rows.{Gathered}
 
 -- ---- the places of a block
 

@@ -1,19 +1,19 @@
--- The rows of a step: a change that starts at a place, the words of a row, and the rows gathered from a table. Assumes nothing.
-use mathlib.Core.Path.{_≡_, refl, sym, _∙_, ap}
+-- The rows of a step: the words of a row, and the rows gathered from a table. Assumes nothing.
+use mathlib.Core.Path.{_≡_, refl, _∙_, ap}
 use mathlib.Core.Bool.{Bool, true, false, cond}
 use mathlib.Core.List.{List}
-use Prim.Native.Nat.{ℕ, suc, _*_, _^_, _≤_, _<_}
+use Prim.Native.Nat.{ℕ, _*_, _^_, _≤_, _<_}
 use native.Mathlib.Omega.{arith}
 use lib.Dec.{ltb}
 use lib.IntN.{ℤ, pos}
-use lib.ListN.{length, set, replicate, length-replicate, getD-replicate}
+use lib.ListN.{length, replicate, length-replicate, getD-replicate}
 use lib.Signed.{mag}
 use mir.Syntax.{w64}
 use mir.Val.{toZ, ofZ}
-use borrow.Author.Tests.{ltb-false, lt-ltb, le-ltb}
+use borrow.Author.Tests.{le-ltb}
 use Rattle.integers.proofs.Parts.{held-value}
 use Rattle.words.specs.Change.{wordAt, change, startingAt}
-use Rattle.words.proofs.Change.{change-length, change-nothing, change-more, change-below, change-past, change-same, change-on}
+use Rattle.words.proofs.Change.{change-length, change-below}
 use Rattle.places.specs.Numbering.{blockStart}
 use Rattle.rules.specs.Limits.{noRule}
 use Rattle.tables.proofs.Tests.{clash}
@@ -22,31 +22,6 @@ use Rattle.elimination.specs.Magnitude.{addLimit}
 use Rattle.elimination.specs.Rows.{gathering}
 use Rattle.elimination.specs.Promises.{Addable, Ready, Row}
 use Rattle.elimination.proofs.TermWords.{pair-within}
-
--- ---- a change that starts at a place
-
--- it changes nothing before that place
-pub starting-none : (i : ℕ) (f : ℕ → ℤ → ℤ) (t : List ℤ) → t ≡ change i (startingAt i f) t
-starting-none i f t = sym (change-nothing i (startingAt i f) t (λ k h. rw (lt-ltb k i h)))
-
--- and from there on one word more
-pub starting-more : (i k : ℕ) (f : ℕ → ℤ → ℤ) (t u : List ℤ) → i ≤ k → k < length t → u ≡ change k (startingAt i f) t
-    → set u k (f k (wordAt u k)) ≡ change (suc k) (startingAt i f) t
-starting-more i k f t u h l q =
-    rw (q, change-past k (startingAt i f) t k (omega arith)) (rw (le-ltb k i h) at (change-more k (startingAt i f) t l))
-
--- it may be done in two parts
-pub starting-on : (i j m : ℕ) (f : ℕ → ℤ → ℤ) (t : List ℤ) → i ≤ j → j ≤ m
-    → change m (startingAt j f) (change j (startingAt i f) t) ≡ change m (startingAt i f) t
-starting-on i j m f t h g =
-    change-same m (startingAt j f) (startingAt j (startingAt i f)) u (λ k p. go k (ltb k j) refl) ∙ change-on j m (startingAt i f) t g
-  where
-    u : List ℤ
-    u = change j (startingAt i f) t
-
-    go : (k : ℕ) → (b : Bool) → ltb k j ≡ b → startingAt j f k (wordAt u k) ≡ startingAt j (startingAt i f) k (wordAt u k)
-    go k true e = rw e
-    go k false e = rw (e, le-ltb k i (omega (arith, ltb-false k j e)))
 
 -- ---- the words of a row
 

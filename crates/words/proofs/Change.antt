@@ -136,6 +136,29 @@ change-on i m f t h = change-is m f t u (change-length m g v ∙ change-length i
     past : (k : ℕ) → m ≤ k → k < length t → wordAt u k ≡ wordAt t k
     past k p l = change-past m g v k p ∙ change-past i f t k (omega arith)
 
+-- a change that starts at a place changes nothing before it
+pub starting-none : (i : ℕ) (f : ℕ → ℤ → ℤ) (t : List ℤ) → t ≡ change i (startingAt i f) t
+starting-none i f t = sym (change-nothing i (startingAt i f) t (λ k h. rw (lt-ltb k i h)))
+
+-- and from there on one word more
+pub starting-more : (i k : ℕ) (f : ℕ → ℤ → ℤ) (t u : List ℤ) → i ≤ k → k < length t → u ≡ change k (startingAt i f) t
+    → set u k (f k (wordAt u k)) ≡ change (suc k) (startingAt i f) t
+starting-more i k f t u h l q =
+    rw (q, change-past k (startingAt i f) t k (omega arith)) (rw (le-ltb k i h) at (change-more k (startingAt i f) t l))
+
+-- it may be done in two parts
+pub starting-on : (i j m : ℕ) (f : ℕ → ℤ → ℤ) (t : List ℤ) → i ≤ j → j ≤ m
+    → change m (startingAt j f) (change j (startingAt i f) t) ≡ change m (startingAt i f) t
+starting-on i j m f t h g =
+    change-same m (startingAt j f) (startingAt j (startingAt i f)) u (λ k p. go k (ltb k j) refl) ∙ change-on j m (startingAt i f) t g
+  where
+    u : List ℤ
+    u = change j (startingAt i f) t
+
+    go : (k : ℕ) → (b : Bool) → ltb k j ≡ b → startingAt j f k (wordAt u k) ≡ startingAt j (startingAt i f) k (wordAt u k)
+    go k true e = rw e
+    go k false e = rw (e, le-ltb k i (omega (arith, ltb-false k j e)))
+
 -- past the end it does not matter how many words are to be changed
 pub change-end : (a b : ℕ) (f : ℕ → ℤ → ℤ) (t : List ℤ) → length t ≤ a → length t ≤ b → change a f t ≡ change b f t
 change-end a b f t h g = change-is b f t (change a f t) (change-length a f t)

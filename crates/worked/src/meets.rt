@@ -47,13 +47,13 @@ fn print_broken(n: usize, table: &[i64], values: &[i64]) {
 }
 
 // Checks three integers on a table over 3 quantities.
-pub fn three(a: i64, b: i64, c: i64, table: &[i64]) {
+pub(crate) fn three(a: i64, b: i64, c: i64, table: &[i64]) {
     let values = [a, b, c];
     print_broken(3, table, &values);
 }
 
 // Finds an assignment of a table over 3 quantities, prints the reply, and checks the integers where there are some.
-pub fn assignment(table: &[i64]) {
+pub(crate) fn assignment(table: &[i64]) {
     let mut workspace = [0; sheet::PLACES];
     let mut values = [0; 3];
     let reply = keys::assignment::assignment(3, table, &mut workspace, &mut values);

@@ -3,7 +3,7 @@ use crate::meets;
 use crate::sheet;
 
 // Every case, each in a table emptied anew.
-pub fn run(table: &mut [i64]) {
+pub(crate) fn run(table: &mut [i64]) {
     sheet_a(table);
     doubled_below(table);
     one_half(table);

@@ -6,19 +6,19 @@ use rules::sheet::Sheet;
 pub const PLACES: usize = 72;
 
 // Prints a heading.
-pub fn head(heading: &[u8]) {
+pub(crate) fn head(heading: &[u8]) {
     printing::print_text(heading);
     printing::print_text(b"\n");
 }
 
 // Begins an example over `n` quantities: its heading, and no rules.
-pub fn begin(heading: &[u8], n: usize, table: &mut [i64]) {
+pub(crate) fn begin(heading: &[u8], n: usize, table: &mut [i64]) {
     head(heading);
     tables::table::empty(n, table);
 }
 
 // Prints a rule of signed quantity numbers, 0 for none, and puts it in. A refusal is printed, since no example expects one.
-pub fn put(n: usize, table: &mut [i64], first: i32, second: i32, bound: i64) {
+pub(crate) fn put(n: usize, table: &mut [i64], first: i32, second: i32, bound: i64) {
     let rule = Rule::new(first, second, bound);
     print_rule(b"put=", rule);
     let reply = tables::table::put(n, table, rule);
@@ -29,21 +29,21 @@ pub fn put(n: usize, table: &mut [i64], first: i32, second: i32, bound: i64) {
 }
 
 // Prints a rule on a line of its own, after the name given.
-pub fn print_rule(name: &[u8], rule: Rule) {
+pub(crate) fn print_rule(name: &[u8], rule: Rule) {
     printing::print_text(name);
     printing::print_rule(rule);
     printing::print_text(b"\n");
 }
 
 // Prints the number of a reply.
-pub fn print_reply(number: u32) {
+pub(crate) fn print_reply(number: u32) {
     printing::print_text(b"reply=");
     printing::print_number(number as u64);
     printing::print_text(b"\n");
 }
 
 // Replaces the table by its key and prints the reply, and the key's rules where there is one. The set has bit q - 1 for quantity q.
-pub fn key(n: usize, hidden: u32, table: &mut [i64]) {
+pub(crate) fn key(n: usize, hidden: u32, table: &mut [i64]) {
     let mut workspace = [0; PLACES];
     let reply = keys::key::key(n, hidden, table, &mut workspace);
     let number = reply.number();
@@ -54,7 +54,7 @@ pub fn key(n: usize, hidden: u32, table: &mut [i64]) {
 }
 
 // The word of a place of a table over `n` quantities; the no-rule word where it has no such place.
-pub fn word_at(n: usize, table: &[i64], k: usize) -> i64 {
+pub(crate) fn word_at(n: usize, table: &[i64], k: usize) -> i64 {
     if tables::table::size(n) <= k {
         return Sheet::NO_RULE;
     }

@@ -2,7 +2,7 @@
 use crate::sheet;
 
 // Every example, each in a table emptied anew.
-pub fn run(table: &mut [i64]) {
+pub(crate) fn run(table: &mut [i64]) {
     simple_example(table);
     trace(table);
     bounds_of_x(table);

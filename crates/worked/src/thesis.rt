@@ -2,7 +2,7 @@
 use crate::sheet;
 
 // Every example, each in a table emptied anew.
-pub fn run(table: &mut [i64]) {
+pub(crate) fn run(table: &mut [i64]) {
     first_example(table);
     lemma_at_five(table);
     lemma_at_six(table);

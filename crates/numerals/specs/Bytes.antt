@@ -1,9 +1,17 @@
 -- The bytes that have a meaning in a text (document 01, 'Text'), and the kind of each.
 use mathlib.Core.Bool.{Bool, cond, _&&_}
+use mathlib.Core.List as L
+use Prim.Native.Char.{code}
 use Prim.Native.Nat.{ℕ}
+use Prim.Native.String.{String, [], _∷_}
 use lib.Dec.{leb, eqb}
 use Rattle.numerals.specs.declared.byte.Kind.{Kind}
 use Rattle.numerals.specs.declared.byte.Kind.the-variants.{Digit, Plus, Minus, Colon, Comma, LineEnd, Other}
+
+-- the bytes of a text, each character being one byte
+abbrev pub bytes : String → L.List ℕ
+bytes [] = L.[]
+bytes (c ∷ s) = L._∷_ (code c) (bytes s)
 
 -- the byte that ends a line
 abbrev pub newline : ℕ

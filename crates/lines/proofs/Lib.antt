@@ -1,0 +1,15 @@
+-- The laws of lines that proofs above cite.
+pub mod Forms
+pub mod Terms
+pub mod WrittenRules
+pub mod Lists
+pub mod Spellings
+pub mod Found
+pub mod Ends
+pub mod Counts
+pub mod Bits
+pub mod Members
+pub mod Told
+pub mod SignedNumbers
+pub mod RuleForms
+pub mod RuleLimits

@@ -1,0 +1,158 @@
+-- A rule line's answer by its form: what holds of the values as they are told holds of the values. Assumes nothing.
+use mathlib.Core.Path.{_≡_, refl, _∙_, ap, ap₂}
+use mathlib.Core.Bool.{Bool, true, false, cond, not, _&&_, Bool·beq}
+use mathlib.Core.List.{List}
+use Prim.Native.Nat.{ℕ, zero, suc, _+_, _≤_, _<_}
+use native.Mathlib.Omega.{arith}
+use lib.Dec.{leb, eqb}
+use lib.IntN.{ℤ, pos, negsuc, negℤ, natAbs, _+ℤ_}
+use mir.Syntax.{w32, w64}
+use mir.Val.{SFits}
+use borrow.Author.Tests.{leb-true, le-leb, lt-leb, eqb-true, eqb-false}
+use Rattle.integers.proofs.Parts.{linear, positivePart, negativePart, parts-add, parts-neg, word-of}
+use Rattle.numerals.specs.Decimal.{cap}
+use Rattle.numerals.specs.Parsing.{Parsed, parsed, malformed, cursorOf}
+use Rattle.numerals.proofs.Cases.{both-true}
+use Rattle.numerals.proofs.Values.{capped-most, capped-least}
+use Rattle.rules.specs.declared.refusal.Refusal.the-variants.{OutOfLimit, Cancelling}
+use Rattle.rules.specs.Limits.{maxQuantities}
+use Rattle.rules.specs.Steps.{isNone, ruleOf}
+use Rattle.lines.specs.declared.answer.Answer.the-variants.{Rule, Refused}
+use Rattle.lines.specs.Spelling.{Term, Written, one, two, quantityWithin, ruleWithin, cancelling, signedQuantity, writtenRule}
+use Rattle.lines.specs.Lines.{accepted, refused, judged}
+use Rattle.lines.specs.Answers.{told, spelledAnswer, formAnswer, ruleAnswer}
+use Rattle.lines.proofs.Told.{natAbs-told, natAbs-signed, told-exact}
+
+-- ---- limits
+
+-- a number below 1 is not of 1 to n
+pub within-low : (n q : ℕ) → q < 1 → quantityWithin n q ≡ false
+within-low n q h = rw (lt-leb 1 q h)
+
+-- any other is where it is not above n
+pub within-high : (n q : ℕ) → 1 ≤ q → quantityWithin n q ≡ leb q n
+within-high n q h = rw (le-leb 1 q h)
+
+-- a number that is has both limits
+pub within-range : (n q : ℕ) → quantityWithin n q ≡ true → (1 ≤ q) × (q ≤ n)
+within-range n q e = let p = both-true (leb 1 q) (leb q n) e in (leb-true 1 q (p .0), leb-true q n (p .1))
+
+-- an integer of such a magnitude fits the word of a signed quantity number
+pub within-narrow : (n : ℕ) (z : ℤ) → n ≤ maxQuantities → quantityWithin n (natAbs z) ≡ true → SFits w32 z
+within-narrow n (pos q) h e = record { sfits = omega (arith, within-range n q e) }
+within-narrow n (negsuc q) h e = record { sfits = omega (arith, within-range n (suc q) e) }
+
+-- the sum of two such fits a word
+pub within-sum : (n : ℕ) (x y : ℤ) → n ≤ maxQuantities → quantityWithin n (natAbs x) ≡ true → quantityWithin n (natAbs y) ≡ true
+    → SFits w64 (x +ℤ y)
+unfolding positivePart negativePart
+within-sum n x y h e f = word-of
+    (omega (arith, parts-add x y, within-parts x, within-parts y, within-range n (natAbs x) e, within-range n (natAbs y) f))
+    (omega (arith, parts-add x y, within-parts x, within-parts y, within-range n (natAbs x) e, within-range n (natAbs y) f))
+  where
+    within-parts : (z : ℤ) → positivePart z + negativePart z ≡ natAbs z
+    within-parts (pos v) = omega arith
+    within-parts (negsuc v) = omega arith
+
+-- a quantity number is told as one of 1 to n where it is one
+term-within : (n : ℕ) (x : Term) → n ≤ maxQuantities → quantityWithin n (natAbs (told (signedQuantity x))) ≡ quantityWithin n (x .quantity)
+term-within n x h = rw (natAbs-told (signedQuantity x), natAbs-signed x)
+    (ap₂ _&&_ (capped-least (x .quantity) 1 (omega arith)) (capped-most (x .quantity) n (omega arith)))
+
+-- and then it is the one told
+term-exact : (n : ℕ) (x : Term) → n ≤ maxQuantities → quantityWithin n (x .quantity) ≡ true → told (signedQuantity x) ≡ signedQuantity x
+term-exact n x h e = told-exact (signedQuantity x)
+    (omega (arith, within-range n (natAbs (told (signedQuantity x))) (term-within n x h ∙ e)))
+
+-- a bound is told as one in its limit where it is one
+bound-within : (limit : ℕ) (c : ℤ) → limit < cap → leb (natAbs (told c)) limit ≡ leb (natAbs c) limit
+bound-within limit c h = rw (natAbs-told c) (capped-most (natAbs c) limit h)
+
+-- and then it is the one told
+bound-exact : (limit : ℕ) (c : ℤ) → limit < cap → leb (natAbs c) limit ≡ true → told c ≡ c
+bound-exact limit c h e = told-exact c (omega (arith, leb-true (natAbs (told c)) limit (bound-within limit c h ∙ e)))
+
+-- ---- cancelling
+
+-- 0 is none
+pub none-zero : (z : ℤ) → z ≡ pos 0 → isNone z ≡ true
+none-zero z e = ap isNone e
+
+-- nothing else is
+pub none-other : (z : ℤ) → (z ≡ pos 0 → ⊥) → isNone z ≡ false
+none-other (pos zero) h = absurd (h refl)
+none-other (pos (suc n)) h = refl
+none-other (negsuc n) h = refl
+
+-- two numbers with opposite signs have the sum 0 where they are equal
+opposite-none : (a b : ℕ) (z : ℤ) → (a ≡ b → z ≡ pos 0) → (z ≡ pos 0 → a ≡ b) → isNone z ≡ _&&_ (eqb a b) true
+opposite-none a b z to of = go (eqb a b) refl
+  where
+    go : (t : Bool) → eqb a b ≡ t → isNone z ≡ _&&_ t true
+    go true e = none-zero z (to (eqb-true a b e))
+    go false e = none-other z (λ q. eqb-false a b e (of q))
+
+-- with the same sign they never have it
+same-none : (a b : ℕ) (z : ℤ) → (z ≡ pos 0 → ⊥) → isNone z ≡ _&&_ (eqb a b) false
+same-none a b z h = go (eqb a b)
+  where
+    go : (t : Bool) → isNone z ≡ _&&_ t false
+    go true = none-other z h
+    go false = none-other z h
+
+-- so they have it where they are equal and their signs are not
+signs-none : (s t : Bool) (a b : ℕ) → 0 < a
+    → isNone (cond s (negℤ (pos a)) (pos a) +ℤ cond t (negℤ (pos b)) (pos b)) ≡ _&&_ (eqb a b) (not (Bool·beq s t))
+unfolding positivePart negativePart
+signs-none true true a b l = same-none a b (negℤ (pos a) +ℤ negℤ (pos b))
+    (λ e. omega (linear, parts-add (negℤ (pos a)) (negℤ (pos b)), parts-neg (pos a), parts-neg (pos b)))
+signs-none false false a b l = same-none a b (pos a +ℤ pos b) (λ e. omega (linear, parts-add (pos a) (pos b)))
+signs-none true false a b l = opposite-none a b (negℤ (pos a) +ℤ pos b)
+    (λ e. omega (linear, parts-add (negℤ (pos a)) (pos b), parts-neg (pos a)))
+    (λ e. omega (linear, parts-add (negℤ (pos a)) (pos b), parts-neg (pos a)))
+signs-none false true a b l = opposite-none a b (pos a +ℤ negℤ (pos b))
+    (λ e. omega (linear, parts-add (pos a) (negℤ (pos b)), parts-neg (pos b)))
+    (λ e. omega (linear, parts-add (pos a) (negℤ (pos b)), parts-neg (pos b)))
+
+-- two signed quantity numbers cancel where they have the sum 0
+sum-none : (x y : Term) (c : ℤ) → 0 < x .quantity → isNone (signedQuantity x +ℤ signedQuantity y) ≡ cancelling (two x y c)
+unfolding cancelling
+sum-none x y c h = signs-none (x .negative) (y .negative) (x .quantity) (y .quantity) h
+
+-- ---- the answer
+
+-- the answer by the form is that of the line
+pub form-judged : (n limit line : ℕ) (s : List ℕ) (p : Parsed Written) → n ≤ maxQuantities → limit < cap
+    → formAnswer n limit line (spelledAnswer s p) ≡ ruleAnswer s (judged line (ruleWithin n limit) cancelling p)
+unfolding formAnswer spelledAnswer ruleAnswer judged writtenRule cancelling
+form-judged n limit line s malformed h l = refl
+form-judged n limit line s (parsed (one x c) u) h l = rw (term-within n x h, bound-within limit c l) (go (ruleWithin n limit (one x c)) refl)
+  where
+    go : (t : Bool) → ruleWithin n limit (one x c) ≡ t
+        → cond t (Rule (ruleOf (told (signedQuantity x)) (pos 0) (told c)) (cursorOf s u)) (Refused (OutOfLimit line))
+        ≡ ruleAnswer s (cond t (accepted (one x c) u) (refused (OutOfLimit line)))
+    go true e = let p = both-true (quantityWithin n (x .quantity)) (leb (natAbs c) limit) e in
+        rw (term-exact n x h (p .0), bound-exact limit c l (p .1))
+    go false e = refl
+form-judged n limit line s (parsed (two x y c) u) h l =
+    rw (term-within n x h, term-within n y h, bound-within limit c l) (go (ruleWithin n limit (two x y c)) refl)
+  where
+    cancelled : (t : Bool) → cond t (Refused (Cancelling line)) (Rule (ruleOf (signedQuantity x) (signedQuantity y) c) (cursorOf s u))
+        ≡ ruleAnswer s (cond t (refused (Cancelling line)) (accepted (two x y c) u))
+    cancelled true = refl
+    cancelled false = refl
+
+    go : (t : Bool) → ruleWithin n limit (two x y c) ≡ t
+        → cond t (cond (isNone (told (signedQuantity x) +ℤ told (signedQuantity y))) (Refused (Cancelling line))
+        (Rule (ruleOf (told (signedQuantity x)) (told (signedQuantity y)) (told c)) (cursorOf s u))) (Refused (OutOfLimit line))
+        ≡ ruleAnswer s (cond t (cond (cancelling (two x y c)) (refused (Cancelling line)) (accepted (two x y c) u)) (refused (OutOfLimit line)))
+    go true e =
+        let p = both-true (_&&_ (quantityWithin n (x .quantity)) (quantityWithin n (y .quantity))) (leb (natAbs c) limit) e in
+        let q = both-true (quantityWithin n (x .quantity)) (quantityWithin n (y .quantity)) (p .0) in
+        rw (
+          term-exact n x h (q .0),
+          term-exact n y h (q .1),
+          bound-exact limit c l (p .1),
+          sum-none x y c (within-range n (x .quantity) (q .0) .0),
+        ) (cancelled (cancelling (two x y c)))
+    go false e = refl

@@ -1,0 +1,64 @@
+-- Integers as they are told. Assumes nothing.
+use mathlib.Core.Path.{_≡_, refl, sym, _∙_, ap}
+use mathlib.Core.Bool.{Bool, true, false, cond}
+use Prim.Native.Nat.{ℕ, zero, suc, _≤_, _<_}
+use native.Mathlib.Omega.{arith}
+use lib.IntN.{ℤ, pos, negsuc, negℤ, natAbs}
+use lib.Signed.{ltZ}
+use mir.Syntax.{w64}
+use mir.Val.{SFits}
+use Rattle.integers.proofs.Parts.{positivePart, negativePart, parts-neg, word-of}
+use Rattle.numerals.specs.Decimal.{cap, capped}
+use Rattle.numerals.proofs.Cases.{by-below}
+use Rattle.numerals.proofs.Values.{capped-below, capped-above, capped-exact, capped-upto}
+use Rattle.lines.specs.Spelling.{Term, signedQuantity}
+use Rattle.lines.specs.Answers.{told}
+
+-- a number has one magnitude with either sign
+natAbs-neg : (v : ℕ) → natAbs (negℤ (pos v)) ≡ v
+natAbs-neg zero = refl
+natAbs-neg (suc v) = refl
+
+-- the magnitude of an integer as it is told is its magnitude as it is told
+pub natAbs-told : (z : ℤ) → natAbs (told z) ≡ capped (natAbs z)
+natAbs-told (pos v) = refl
+natAbs-told (negsuc v) = natAbs-neg (capped (suc v))
+
+-- an integer that is told below the cap is the one told
+pub told-exact : (z : ℤ) → natAbs (told z) < cap → told z ≡ z
+told-exact (pos v) h = ap pos (capped-exact v h)
+told-exact (negsuc v) h = ap (λ (m : ℕ). negℤ (pos m)) (capped-exact (suc v) (omega (arith, natAbs-neg (capped (suc v)))))
+
+-- the sign of a number does not change how it is told
+pub told-neg : (v : ℕ) → told (negℤ (pos v)) ≡ negℤ (pos (capped v))
+told-neg zero = ap pos zero-told ∙ ap (λ (m : ℕ). negℤ (pos m)) (sym zero-told)
+  where
+    zero-told : capped 0 ≡ 0
+    zero-told = capped-upto 0 (omega arith)
+told-neg (suc v) = refl
+
+-- a number below 0 is told below 0
+pub told-below : (v : ℕ) → ltZ (told (negsuc v)) (pos 0) ≡ true
+told-below v = go (capped (suc v)) (by-below (suc v) cap (λ h. omega (arith, capped-below (suc v) h)) (λ h. omega (arith, capped-above (suc v) h)))
+  where
+    go : (m : ℕ) → 0 < m → ltZ (negℤ (pos m)) (pos 0) ≡ true
+    go zero h = let z : ⊥ = omega arith in absurd z
+    go (suc m) h = refl
+
+-- a number that is told is a word with either sign
+pub cap-word : (v : ℕ) → v ≤ cap → SFits w64 (pos v)
+unfolding positivePart negativePart
+cap-word v h = word-of (omega arith) (omega arith)
+
+-- (below 0)
+pub cap-word-neg : (v : ℕ) → v ≤ cap → SFits w64 (negℤ (pos v))
+unfolding positivePart negativePart
+cap-word-neg v h = word-of (omega (arith, parts-neg (pos v))) (omega (arith, parts-neg (pos v)))
+
+-- the magnitude of a signed quantity number is the number
+pub natAbs-signed : (x : Term) → natAbs (signedQuantity x) ≡ x .quantity
+natAbs-signed x = go (x .negative)
+  where
+    go : (t : Bool) → natAbs (cond t (negℤ (pos (x .quantity))) (pos (x .quantity))) ≡ x .quantity
+    go true = natAbs-neg (x .quantity)
+    go false = refl

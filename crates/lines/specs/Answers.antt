@@ -1,0 +1,88 @@
+-- What the program has of a line: the values as numbers, and a cursor for the bytes that follow.
+use mathlib.Core.Path.{_≡_}
+use mathlib.Core.Bool.{cond, _&&_}
+use mathlib.Core.List.{List, [], _∷_}
+use Prim.Native.Nat.{ℕ, suc, _+_, _-_, _^_}
+use lib.Dec.{leb}
+use lib.IntN.{ℤ, pos, negsuc, negℤ, natAbs, _+ℤ_}
+use Rattle.numerals.specs.Bytes.{colon}
+use Rattle.numerals.specs.Decimal.{capped}
+use Rattle.numerals.specs.Parsing.{Parsed, parsed, malformed, andThen, expect, cursorOf}
+use Rattle.rules.specs.declared.refusal.Refusal.{Refusal}
+use Rattle.rules.specs.declared.refusal.Refusal.the-variants.{Size, Malformed, OutOfLimit, Cancelling}
+use Rattle.rules.specs.Steps.{isNone, ruleOf}
+use Rattle.lines.specs.declared.answer.Answer.{Answer}
+use Rattle.lines.specs.declared.answer.Answer.the-variants.{Count, Hidden, Rule, Refused}
+use Rattle.lines.specs.declared.signed.Signed.{Signed}
+use Rattle.lines.specs.declared.signed.Signed.the-variants.{Read, Malformed}
+use Rattle.lines.specs.declared.spelled.Spelled.{Spelled}
+use Rattle.lines.specs.declared.spelled.Spelled.the-variants.{One, Two, Nothing}
+use Rattle.lines.specs.Spelling.{Term, Written, one, two, quantityWithin, signedQuantity, writtenRule}
+use Rattle.lines.specs.Lines.{termOf, boundLine, Judged, accepted, refused}
+
+-- the hidden set of a list of quantity numbers, as a number: bit q - 1 for quantity q
+unfoldable pub setOf : List ℕ → ℕ
+setOf [] = 0
+setOf (q ∷ qs) = 2 ^ (q - 1) + setOf qs
+
+-- an integer as the program has it, as far as values are told
+abbrev pub told : ℤ → ℤ
+told (pos v) = pos (capped v)
+told (negsuc v) = negℤ (pos (capped (suc v)))
+
+-- the answer of a signed quantity number, and of a bound, in the text s
+unfoldable pub signedAnswer : List ℕ → Parsed ℤ → Signed
+signedAnswer s (parsed z u) = Read (told z) (cursorOf s u)
+signedAnswer s malformed = Malformed
+
+unfoldable pub termAnswer : List ℕ → Parsed Term → Signed
+termAnswer s (parsed x u) = Read (told (signedQuantity x)) (cursorOf s u)
+termAnswer s malformed = Malformed
+
+-- the answer of a rule line's form
+unfoldable pub spelledAnswer : List ℕ → Parsed Written → Spelled
+spelledAnswer s (parsed (one x c) u) = One (told (signedQuantity x)) (told c) (cursorOf s u)
+spelledAnswer s (parsed (two x y c) u) = Two (told (signedQuantity x)) (told (signedQuantity y)) (told c) (cursorOf s u)
+spelledAnswer s malformed = Nothing
+
+-- what follows a rule's first term: the bound, or the second term before it
+abbrev pub oneAfter : List ℕ → Term → Parsed Written
+oneAfter u x = andThen (boundLine u) (λ c. parsed (one x c))
+
+abbrev pub twoAfter : List ℕ → Term → Parsed Written
+twoAfter u x = andThen (termOf u) (λ y v. expect (colon ∷ []) v (λ w. andThen (boundLine w) (λ c. parsed (two x y c))))
+
+-- r is the answer of what follows, for every first term that is told as `first`
+pub record AfterFirst (s : List ℕ) (first : ℤ) (following : Term → Parsed Written) (r : Spelled) : Type 0 where
+  pub answer : (x : Term) → told (signedQuantity x) ≡ first → r ≡ spelledAnswer s (following x)
+
+-- the answer of a rule line by its form, from the values as they are told: its numbers in their limits, then whether its terms cancel
+unfoldable pub formAnswer : ℕ → ℕ → ℕ → Spelled → Answer
+formAnswer n limit line (One x c next) =
+    cond (quantityWithin n (natAbs x) && leb (natAbs c) limit) (Rule (ruleOf x (pos 0) c) next) (Refused (OutOfLimit line))
+formAnswer n limit line (Two x y c next) =
+    cond (quantityWithin n (natAbs x) && quantityWithin n (natAbs y) && leb (natAbs c) limit)
+    (cond (isNone (x +ℤ y)) (Refused (Cancelling line)) (Rule (ruleOf x y c) next))
+    (Refused (OutOfLimit line))
+formAnswer n limit line Nothing = Refused (Malformed line)
+
+-- a line's answer
+abbrev pub answerOf : {A : Type 0} → (A → ℕ → Answer) → List ℕ → Judged A → Answer
+answerOf make s (accepted a u) = make a (cursorOf s u)
+answerOf make s (refused r) = Refused r
+
+unfoldable pub countAnswer : List ℕ → Judged ℕ → Answer
+countAnswer s j = answerOf Count s j
+
+unfoldable pub hiddenAnswer : List ℕ → Judged (List ℕ) → Answer
+hiddenAnswer s j = answerOf (λ qs. Hidden (setOf qs)) s j
+
+unfoldable pub ruleAnswer : List ℕ → Judged Written → Answer
+ruleAnswer s j = answerOf (λ r. Rule (writtenRule r)) s j
+
+-- the refusal of an answer; one that is none has none of its own
+abbrev pub refusalOf : Answer → Refusal
+refusalOf (Count v next) = Size
+refusalOf (Hidden set next) = Size
+refusalOf (Rule r next) = Size
+refusalOf (Refused r) = r

@@ -1,0 +1,47 @@
+// A line's answer: what it writes with the cursor of the next line, or its refusal.
+use rules::refusal::Refusal;
+use rules::rule::Rule;
+ghost use mathlib.Core.Path.{_≡_};
+ghost use Rattle.rules.specs.declared.refusal.Refusal.the-variants.{Malformed, OutOfLimit};
+ghost use Rattle.lines.specs.declared.answer.Answer.the-variants.{Refused};
+ghost use Rattle.lines.specs.Answers.{refusalOf};
+
+pub enum Answer {
+    // a count of quantities or of rules
+    Count { value: usize, next: usize },
+    // the hidden set
+    Hidden { set: u32, next: usize },
+    // a rule as written
+    Rule { rule: Rule, next: usize },
+    Refused { refusal: Refusal },
+}
+
+// The refusal of an answer that is one.
+pub fn refusal(answer: Answer) -> Refusal
+    ensures { λ r. ⌜ r ≡ refusalOf answer ⌝ }
+{
+    match answer {
+        Answer::Count { value: _, next: _ } => Refusal::Size,
+        Answer::Hidden { set: _, next: _ } => Refusal::Size,
+        Answer::Rule { rule: _, next: _ } => Refusal::Size,
+        Answer::Refused { refusal } => refusal,
+    }
+}
+
+// The answer of a line that is malformed.
+pub(crate) fn malformed(line: usize) -> Answer
+    ensures { λ r. ⌜ r ≡ Refused (Malformed line) ⌝ }
+{
+    Answer::Refused {
+        refusal: Refusal::Malformed { line },
+    }
+}
+
+// The answer of a line with a number outside its limit.
+pub(crate) fn out_of_limit(line: usize) -> Answer
+    ensures { λ r. ⌜ r ≡ Refused (OutOfLimit line) ⌝ }
+{
+    Answer::Refused {
+        refusal: Refusal::OutOfLimit { line },
+    }
+}

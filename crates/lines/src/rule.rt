@@ -1,0 +1,96 @@
+// A rule line: the rule as written, its numbers in their limits.
+use crate::answer;
+use crate::answer::Answer;
+use crate::spelled;
+use crate::spelled::Spelled;
+use rules::refusal::Refusal;
+use rules::rule::Rule;
+ghost use mathlib.Core.Path.{_≡_};
+ghost use Prim.Native.Nat.{_<_, _≤_};
+ghost use lib.IntN.{natAbs};
+ghost use lib.ListN.{drop};
+ghost use Rattle.numerals.specs.Decimal.{cap};
+ghost use Rattle.rules.specs.Limits.{maxQuantities};
+ghost use Rattle.lines.specs.declared.spelled.Spelled.the-variants.{One, Two};
+ghost use Rattle.lines.specs.Spelling.{quantityWithin};
+ghost use Rattle.lines.specs.Lines.{ruleAt};
+ghost use Rattle.lines.specs.Answers.{ruleAnswer, formAnswer};
+
+// Whether a signed quantity number, as far as it is told, is of one of 1 to `n`.
+fn is_quantity(term: i64, n: usize) -> bool
+    ensures { λ r. ⌜ r ≡ quantityWithin n (natAbs term) ⌝ }
+{
+    let q = integers::magnitude(term) as usize;
+    if q < 1 {
+        return false;
+    }
+    q <= n
+}
+
+// A rule of one term: 3 where a number is outside its limit.
+fn one(term: i64, bound: i64, n: usize, limit: u64, line: usize, next: usize) -> Answer
+    requires { ⌜ n ≤ maxQuantities ⌝ }
+    ensures { λ r. ⌜ r ≡ formAnswer n limit line (One term bound next) ⌝ }
+{
+    if !is_quantity(term, n) {
+        return answer::out_of_limit(line);
+    }
+    if limit < integers::magnitude(bound) {
+        return answer::out_of_limit(line);
+    }
+    Answer::Rule {
+        rule: Rule::new(term as i32, 0, bound),
+        next,
+    }
+}
+
+// A rule of two terms: 3 where a number is outside its limit, then 4 where the terms cancel.
+fn two(
+    first: i64,
+    second: i64,
+    bound: i64,
+    n: usize,
+    limit: u64,
+    line: usize,
+    next: usize,
+) -> Answer
+    requires { ⌜ n ≤ maxQuantities ⌝ }
+    ensures { λ r. ⌜ r ≡ formAnswer n limit line (Two first second bound next) ⌝ }
+{
+    if !is_quantity(first, n) {
+        return answer::out_of_limit(line);
+    }
+    if !is_quantity(second, n) {
+        return answer::out_of_limit(line);
+    }
+    if limit < integers::magnitude(bound) {
+        return answer::out_of_limit(line);
+    }
+    if first + second == 0 {
+        return Answer::Refused {
+            refusal: Refusal::Cancelling { line },
+        };
+    }
+    Answer::Rule {
+        rule: Rule::new(first as i32, second as i32, bound),
+        next,
+    }
+}
+
+// The rule line at the cursor, in a text over `n` quantities with bounds up to `limit` in magnitude.
+pub fn rule_line(s: &[u8], at: usize, n: usize, limit: u64, line: usize) -> Answer
+    requires { ⌜ (n ≤ maxQuantities) × (limit < cap) ⌝ }
+    ensures { λ r. ⌜ r ≡ ruleAnswer (now (s .entry)) (ruleAt n limit line (drop at (now (s .entry)))) ⌝ }
+{
+    let form = spelled::spelled_at(s, at);
+    match form {
+        Spelled::One { term, bound, next } => one(term, bound, n, limit, line, next),
+        Spelled::Two {
+            first,
+            second,
+            bound,
+            next,
+        } => two(first, second, bound, n, limit, line, next),
+        Spelled::Nothing => answer::malformed(line),
+    }
+}

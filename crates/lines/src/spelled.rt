@@ -1,0 +1,87 @@
+// The form of a rule line.
+use crate::signed;
+use crate::signed::Signed;
+use numerals::byte;
+use numerals::byte::Kind;
+ghost use mathlib.Core.Path.{_≡_};
+ghost use lib.ListN.{drop};
+ghost use Rattle.lines.specs.Lines.{ruleLine};
+ghost use Rattle.lines.specs.Answers.{spelledAnswer, oneAfter, twoAfter, AfterFirst};
+
+// A rule as it is written, its signed quantity numbers and its bound as far as values are told, and the cursor of the next line.
+pub(crate) enum Spelled {
+    One {
+        term: i64,
+        bound: i64,
+        next: usize,
+    },
+    Two {
+        first: i64,
+        second: i64,
+        bound: i64,
+        next: usize,
+    },
+    Nothing,
+}
+
+// A rule of one term, whose bound is at the cursor.
+fn rule_of_one(s: &[u8], at: usize, term: i64) -> Spelled
+    ensures { λ r. ⌜ AfterFirst (now (s .entry)) term (oneAfter (drop at (now (s .entry)))) r ⌝ }
+{
+    let got = signed::bound_line(s, at);
+    let Signed::Read { value: bound, next } = got else {
+        return Spelled::Nothing;
+    };
+    Spelled::One { term, bound, next }
+}
+
+// A rule of two terms, of which the second is at the cursor.
+fn rule_of_two(s: &[u8], at: usize, first: i64) -> Spelled
+    ensures { λ r. ⌜ AfterFirst (now (s .entry)) first (twoAfter (drop at (now (s .entry)))) r ⌝ }
+{
+    let got = signed::term_at(s, at);
+    let Signed::Read {
+        value: second,
+        next,
+    } = got
+    else {
+        return Spelled::Nothing;
+    };
+    let kind = byte::kind_at(s, next);
+    let Kind::Colon = kind else {
+        return Spelled::Nothing;
+    };
+    let ending = signed::bound_line(s, next + 1);
+    let Signed::Read {
+        value: bound,
+        next: after,
+    } = ending
+    else {
+        return Spelled::Nothing;
+    };
+    Spelled::Two {
+        first,
+        second,
+        bound,
+        next: after,
+    }
+}
+
+// The rule line at the cursor.
+pub(crate) fn spelled_at(s: &[u8], at: usize) -> Spelled
+    ensures { λ r. ⌜ r ≡ spelledAnswer (now (s .entry)) (ruleLine (drop at (now (s .entry)))) ⌝ }
+{
+    let key = b"rule=";
+    if !byte::has_key(s, at, key) {
+        return Spelled::Nothing;
+    }
+    let got = signed::term_at(s, at + 5);
+    let Signed::Read { value, next } = got else {
+        return Spelled::Nothing;
+    };
+    let kind = byte::kind_at(s, next);
+    let Kind::Colon = kind else {
+        return rule_of_two(s, next, value);
+    };
+    rule_of_one(s, next + 1, value)
+}

@@ -11,7 +11,7 @@ use lib.Seq.{drop-cons}
 use borrow.Author.Tests.{ltb-true, eqb-true, eqb-false, lt-ltb, le-ltb, eq-eqb, ne-eqb}
 use Rattle.numerals.specs.Bytes.{digitZero}
 use Rattle.numerals.specs.Decimal.{decimal}
-use Rattle.numerals.specs.Order.{earlier, smallerNumeral}
+use Rattle.numerals.specs.Order.{earlier, smallerNumeral, Compared}
 use Rattle.numerals.proofs.Cases.{clash, by-below, by-order}
 use Rattle.numerals.proofs.Decimals.{decimal-digit, decimal-more, decimal-some, digit-width, more-width}
 
@@ -134,3 +134,7 @@ smaller-numeral v w = go (eqb (length (decimal v)) (length (decimal w))) refl
         → cond t (earlier (decimal v) (decimal w)) (ltb (length (decimal v)) (length (decimal w))) ≡ ltb v w
     go true e = same (eqb-true _ _ e)
     go false e = other (eqb-false _ _ e)
+
+-- so is the answer
+pub compared : (x y : List ℕ) (r : Bool) → r ≡ smallerNumeral x y → Compared x y r
+compared x y r e = record { reply = e; meaning = λ v w p q. e ∙ ap (λ (z : List ℕ). smallerNumeral z y) p ∙ ap (smallerNumeral (decimal v)) q ∙ smaller-numeral v w }

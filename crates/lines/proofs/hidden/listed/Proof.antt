@@ -86,13 +86,13 @@ malformed-requires-2 c κs = search needs
 returns-2 : tie.Need-returns-2 Inv-loop μ-loop
 returns-2 c = let i = c .before .before in let g = i .before .before .before .before in
     c .malformed2 .ensures
-    ∙ sym (reading-unordered (turn g .loop .inv) (found g) (sym (i .is-smaller .ensures) ∙ not-true (i .is-smaller .result) (c .before .if1 .taken)))
+    ∙ sym (reading-unordered (turn g .loop .inv) (found g) (sym (i .is-smaller .ensures .reply) ∙ not-true (i .is-smaller .result) (c .before .if1 .taken)))
 
 -- the number is above the one before it
 above : (c : tie.Else1 Inv-loop μ-loop) → let g = c .before .before .before .before .before in let l = turn g in let s = now (start l .args .s) in
     smallerNumeral (take (l .loop .end - l .loop .start) (drop (l .loop .start) s))
     (take (g .got .given .0 .1 .0 - l .loop .from) (drop (l .loop .from) s)) ≡ true
-above c = let i = c .before in sym (i .is-smaller .ensures) ∙ not-false (i .is-smaller .result) (c .if1 .left)
+above c = let i = c .before in sym (i .is-smaller .ensures .reply) ∙ not-false (i .is-smaller .result) (c .if1 .left)
 
 with-requires : tie.Need-with-requires Inv-loop μ-loop
 with-requires c κs = let g = c .before .before .before .before .before in

@@ -1,0 +1,19 @@
+-- The laws of texts: the lines after an opening, what they tell and what is answered; then what a text means, and what the calls' proofs share.
+pub mod Readers
+pub mod Onward
+pub mod Openings
+pub mod Steps
+pub mod Ending
+pub mod Telling
+pub mod Reaching
+pub mod Answering
+pub mod Means
+pub mod FineRules
+pub mod Replies
+pub mod Promised
+pub mod RuleLines
+pub mod Headers
+pub mod Fronts
+pub mod Filling
+pub mod Checking
+pub mod Replying

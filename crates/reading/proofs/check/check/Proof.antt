@@ -1,0 +1,147 @@
+-- `check::check` meets its contract: a line that is refused ends it with its refusal, and after three lines those of the rules decide. Assumes
+-- nothing.
+use mathlib.Core.Path.{sym, _∙_}
+use mathlib.Core.List.{List}
+use Prim.Native.Nat.{ℕ, _≤_}
+use native.Mathlib.Omega.{arith}
+use lib.ListN.{length, drop}
+use denote.Ref.{now}
+use borrow.Author.Needs.{needs}
+use Rattle.rules.specs.Limits.{maxQuantities, maxRules, maxText}
+use Rattle.lines.specs.Spelling.{quantitiesKey, rulesKey}
+use Rattle.lines.specs.Lines.{countAt, hiddenAt}
+use Rattle.lines.specs.Answers.{refusalOf}
+use Rattle.lines.proofs.Found.{CountFound, HiddenFound, count-found, hidden-found, count-refused, hidden-refused}
+use Rattle.reading.proofs.Promised.{check-promised}
+use Rattle.reading.proofs.Checking.{size-checked, first-checked, second-checked, third-checked, rules-checked}
+use Rattle.reading.proofs.check.check.Statement.{statement}
+use Rattle.reading.proofs.check.check.Tie as tie
+
+-- the text, n and the cursor of the second line, where the first is found
+abbrev textOf : tie.After-known-told → List ℕ
+textOf c = now (c .before .before .before .before .before .before .before .args .s)
+
+abbrev countOf : tie.After-known-told → ℕ
+countOf c = c .before .first .given .0 .0
+
+abbrev secondAt : tie.After-known-told → ℕ
+secondAt c = c .before .first .given .0 .1 .0
+
+small : (c : tie.After-known-told) → length (textOf c) ≤ maxText
+small c = c .before .before .before .before .before .if1 .left
+
+first : (c : tie.After-known-told) → CountFound (textOf c) quantitiesKey 1 maxQuantities 1 0 (countOf c) (secondAt c)
+first c = let l = c .before .before .before in
+    count-found (textOf c) quantitiesKey 1 maxQuantities 1 0 (countOf c) (secondAt c) (sym (l .count-line .ensures) ∙ c .before .first .given .1)
+
+-- the hidden set and the cursor of the third line, where the second is found
+abbrev setAt : tie.After-known-told2 → ℕ
+setAt c = c .before .second .given .0 .0
+
+abbrev thirdAt : tie.After-known-told2 → ℕ
+thirdAt c = c .before .second .given .0 .1 .0
+
+second : (c : tie.After-known-told2) → let f = c .before .before .before .before in
+    HiddenFound (textOf f) (countOf f) 2 (secondAt f) (setAt c) (thirdAt c)
+second c = let l = c .before .before .before in let f = l .before in
+    hidden-found (textOf f) (countOf f) 2 (secondAt f) (setAt c) (thirdAt c) (sym (l .hidden-line .ensures) ∙ c .before .second .given .1)
+
+-- the number of rules and the cursor of their lines, where the third is found
+abbrev rulesOf : tie.After-known-told3 → ℕ
+rulesOf c = c .before .third .given .0 .0
+
+abbrev bodyAt : tie.After-known-told3 → ℕ
+bodyAt c = c .before .third .given .0 .1 .0
+
+third : (c : tie.After-known-told3) → let k = c .before .before .before .before .before in let f = k .before .before .before .before in
+    CountFound (textOf f) rulesKey 0 maxRules 3 (thirdAt k) (rulesOf c) (bodyAt c)
+third c = let l = c .before .before .before in let k = l .before .before in let f = k .before .before .before .before in
+    count-found (textOf f) rulesKey 0 maxRules 3 (thirdAt k) (rulesOf c) (bodyAt c) (sym (l .count-line2 .ensures) ∙ c .before .third .given .1)
+
+returns : tie.Need-returns
+returns c = check-promised _ _ (size-checked _ (c .if1 .taken))
+
+slice-aggregate-count-line : tie.Need-slice-aggregate-count-line
+slice-aggregate-count-line c = search needs
+
+count-line-requires : tie.Need-count-line-requires
+count-line-requires c κs = omega arith
+
+enum-known-first : tie.Need-enum-known-first
+enum-known-first c = search needs
+
+refused-requires : tie.Need-refused-requires
+refused-requires c κs = search needs
+
+returns-2 : tie.Need-returns-2
+returns-2 c = let l = c .before .before in let s = now (l .before .before .before .before .args .s) in let a = l .count-line .result in
+    let f = count-refused s (countAt quantitiesKey 1 maxQuantities 1 s) a (l .count-line .ensures) (c .before .match .keys2) in
+    check-promised _ _ (c .refused .ensures ∙ first-checked s (l .before .before .if1 .left) (refusalOf a) (f .is))
+
+hidden-line-requires : tie.Need-hidden-line-requires
+hidden-line-requires c κs = first c .high
+
+enum-known-second : tie.Need-enum-known-second
+enum-known-second c = search needs
+
+refused-requires-2 : tie.Need-refused-requires-2
+refused-requires-2 c κs = search needs
+
+returns-3 : tie.Need-returns-3
+returns-3 c = let l = c .before .before in let f = l .before in let a = l .hidden-line .result in let u = drop (secondAt f) (textOf f) in
+    let r = hidden-refused (textOf f) (hiddenAt (countOf f) 2 u) a (l .hidden-line .ensures) (c .before .match2 .keys2) in
+    check-promised _ _ (c .refused2 .ensures ∙ second-checked (textOf f) (small f) (countOf f) u (first f .is) (refusalOf a) (r .is))
+
+slice-aggregate-count-line-2 : tie.Need-slice-aggregate-count-line-2
+slice-aggregate-count-line-2 c = search needs
+
+count-line-requires-2 : tie.Need-count-line-requires-2
+count-line-requires-2 c κs = omega arith
+
+enum-known-third : tie.Need-enum-known-third
+enum-known-third c = search needs
+
+refused-requires-3 : tie.Need-refused-requires-3
+refused-requires-3 c κs = search needs
+
+returns-4 : tie.Need-returns-4
+returns-4 c = let l = c .before .before in let k = l .before .before in let f = k .before .before .before .before in let a = l .count-line2 .result in
+    let v = drop (thirdAt k) (textOf f) in
+    let r = count-refused (textOf f) (countAt rulesKey 0 maxRules 3 v) a (l .count-line2 .ensures) (c .before .match3 .keys2) in
+    check-promised _ _ (c .refused3 .ensures ∙ third-checked (textOf f) (small f) (countOf f) (drop (secondAt f) (textOf f)) (first f .is)
+    (second k .members) v (second k .is) (refusalOf a) (r .is))
+
+cast-check-rules : tie.Need-cast-check-rules
+cast-check-rules c = search needs
+
+check-rules-requires : tie.Need-check-rules-requires
+check-rules-requires c κs = (first (c .before .before .before .before .before .before .before .before .before) .high, omega arith, third c .high)
+
+returns-5 : tie.Need-returns-5
+returns-5 c = let t = c .before in let k = t .before .before .before .before .before in let f = k .before .before .before .before in
+    check-promised _ _ (c .check-rules .ensures ∙ rw (second k .told)
+    (rules-checked (textOf f) (small f) (countOf f) (drop (secondAt f) (textOf f)) (first f .is) (second k .members) (drop (thirdAt k) (textOf f))
+    (second k .is) (rulesOf t) (bodyAt t) (third t .inside) (third t .is)))
+
+pub check-spec : {M : Type 1} → statement M
+check-spec =
+    tie.close
+    (tie.spec
+    returns
+    slice-aggregate-count-line
+    count-line-requires
+    enum-known-first
+    refused-requires
+    returns-2
+    hidden-line-requires
+    enum-known-second
+    refused-requires-2
+    returns-3
+    slice-aggregate-count-line-2
+    count-line-requires-2
+    enum-known-third
+    refused-requires-3
+    returns-4
+    cast-check-rules
+    check-rules-requires
+    returns-5)

@@ -1,0 +1,98 @@
+-- `check::check_rules` meets its contract. The loop's invariant: the answer is that of the lines that are left. The measure is their number.
+-- Assumes nothing.
+use mathlib.Core.Path.{_≡_, sym, _∙_}
+use Prim.Native.Nat.{_+_, _-_, _≤_}
+use native.Mathlib.Nat.{sub-zero, zero-add}
+use native.Mathlib.Omega.{arith}
+use lib.ListN.{drop}
+use denote.Ref.{now}
+use borrow.Author.Needs.{needs}
+use Rattle.lines.specs.Answers.{refusalOf}
+use Rattle.lines.specs.Lines.{ruleAt}
+use Rattle.lines.proofs.Found.{rule-found, rule-refused}
+use Rattle.reading.specs.Reading.{rulesFrom, checkedRules}
+use Rattle.reading.proofs.RuleLines.{checked-ends, checked-goes, checked-over, checked-done}
+use Rattle.reading.proofs.check.check_rules.Statement.{statement}
+use Rattle.reading.proofs.check.check_rules.Tie as tie
+
+abbrev Inv-loop : tie.InvT-loop
+Inv-loop s n hidden limit count body at₀ i₀ at i =
+    (i ≤ count)
+    × (checkedRules n hidden count body (rulesFrom n limit (count - i) (i + 4) (drop at s))
+    ≡ checkedRules n hidden count body (rulesFrom n limit count 4 (drop body s)))
+
+abbrev μ-loop : tie.MeasureT-loop
+μ-loop s n hidden limit count body at₀ i₀ at i = count - i
+
+loop-holds : tie.Need-loop-holds Inv-loop μ-loop
+loop-holds c = (omega arith, rw (sub-zero, zero-add))
+
+add-rule-line : tie.Need-add-rule-line Inv-loop μ-loop
+add-rule-line c = omega arith
+
+rule-line-requires : tie.Need-rule-line-requires Inv-loop μ-loop
+rule-line-requires c κs = omega arith
+
+enum-known-got : tie.Need-enum-known-got Inv-loop μ-loop
+enum-known-got c = search needs
+
+refused-requires : tie.Need-refused-requires Inv-loop μ-loop
+refused-requires c κs = search needs
+
+returns : tie.Need-returns Inv-loop μ-loop
+returns c = let g = c .before .before in let l = g .before .before in let a = l .before .before .args in let u = drop (l .loop .at) (now (a .s)) in
+    let r = g .rule-line .result in
+    let f = rule-refused (now (a .s)) (ruleAt (a .n) (a .limit) (l .loop .i + 4) u) r (g .rule-line .ensures) (c .before .match .keys2) in
+    c .refused .ensures
+    ∙ sym (checked-ends (a .n) (a .hidden) (a .limit) (a .count) (a .body) (l .loop .i) u (refusalOf r) (g .before .loop-test .taken) (f .is))
+    ∙ l .loop .inv .1
+
+add-i : tie.Need-add-i Inv-loop μ-loop
+add-i c = omega arith
+
+loop-less : tie.Need-loop-less Inv-loop μ-loop
+loop-less c = omega arith
+
+loop-again : tie.Need-loop-again Inv-loop μ-loop
+loop-again c = let k = c .before in let g = k .before .before in let l = g .before .before in let a = l .before .before .args in
+    let f = rule-found (now (a .s)) (a .n) (a .limit) (l .loop .i + 4) (l .loop .at) (k .got .given .0 .0) (k .got .given .0 .1 .0)
+    (sym (g .rule-line .ensures) ∙ k .got .given .1) in (
+      omega arith,
+      sym (checked-goes (a .n) (a .hidden) (a .limit) (a .count) (a .body) (l .loop .i) (drop (l .loop .at) (now (a .s))) (f .written)
+          (drop (k .got .given .0 .1 .0) (now (a .s))) (g .before .loop-test .taken) (f .is))
+          ∙ l .loop .inv .1,
+    )
+
+add-t15 : tie.Need-add-t15 Inv-loop μ-loop
+add-t15 c = omega arith
+
+returns-2 : tie.Need-returns-2 Inv-loop μ-loop
+returns-2 c = let l = c .before .before in let a = l .before .before .args in
+    sym (checked-over (a .n) (a .hidden) (a .limit) (a .count) (a .body) (l .loop .i) (now (a .s)) (l .loop .at) (l .loop .inv .0)
+    (c .before .loop-test .left) (c .if1 .taken))
+    ∙ l .loop .inv .1
+
+returns-3 : tie.Need-returns-3 Inv-loop μ-loop
+returns-3 c = let l = c .before .before in let a = l .before .before .args in
+    sym (checked-done (a .n) (a .hidden) (a .limit) (a .count) (a .body) (l .loop .i) (now (a .s)) (l .loop .at) (c .before .loop-test .left)
+    (c .if1 .left))
+    ∙ l .loop .inv .1
+
+pub check-rules-spec : {M : Type 1} → statement M
+check-rules-spec =
+    tie.close
+    (tie.spec
+    Inv-loop
+    μ-loop
+    loop-holds
+    add-rule-line
+    rule-line-requires
+    enum-known-got
+    refused-requires
+    returns
+    add-i
+    loop-less
+    loop-again
+    add-t15
+    returns-2
+    returns-3)

@@ -1,0 +1,97 @@
+-- Reading a text: its lines from the first, then the table (document 01, 'Returned to the caller').
+use mathlib.Core.Bool.{Bool, true, false, cond}
+use mathlib.Core.List.{List, [], _∷_, _++_}
+use Prim.Native.Nat.{ℕ, zero, suc}
+use lib.Dec.{ltb}
+use lib.IntN.{ℤ}
+use lib.ListN.{length, drop}
+use Rattle.places.specs.Numbering.{blockStart}
+use Rattle.rules.specs.declared.refusal.Refusal.{Refusal}
+use Rattle.rules.specs.declared.refusal.Refusal.the-variants.{Size, Malformed, TooShort}
+use Rattle.rules.specs.Limits.{maxQuantities, maxBound, maxRules, maxText}
+use Rattle.rules.specs.Refusal.{refusalNumber, refusalValues}
+use Rattle.tables.specs.Tables.{tableOf}
+use Rattle.lines.specs.Spelling.{Written, quantitiesKey, rulesKey, writtenRules}
+use Rattle.lines.specs.Lines.{Judged, accepted, refused, countAt, hiddenAt, ruleAt}
+use Rattle.lines.specs.Answers.{setOf}
+use Rattle.reading.specs.declared.check.Checked.{Checked}
+use Rattle.reading.specs.declared.check.Checked.the-variants.{Sheet}
+use Rattle.reading.specs.declared.check.Checked.the-variants.{Refused as Failed}
+use Rattle.reading.specs.declared.read.Reading.{Reading}
+use Rattle.reading.specs.declared.read.Reading.the-variants.{Accepted, Refused}
+use Rattle.reading.specs.Texts.{Contents, headerText}
+
+-- a line's answer taken apart: what follows goes on with its value, or its refusal ends the reading
+unfoldable pub onward : {A B : Type 0} → Judged A → (A → List ℕ → Judged B) → Judged B
+onward (accepted a u) next = next a u
+onward (refused r) next = refused r
+
+-- so many rule lines, from the line of this number on, and then nothing more
+unfoldable pub rulesFrom : ℕ → ℕ → ℕ → ℕ → List ℕ → Judged (List Written)
+rulesFrom n limit zero line [] = accepted [] []
+rulesFrom n limit zero line (b ∷ u) = refused (Malformed line)
+rulesFrom n limit (suc k) line u =
+    onward (ruleAt n limit line u) (λ r v. onward (rulesFrom n limit k (suc line) v) (λ rs. accepted (r ∷ rs)))
+
+-- the lines of a text
+unfoldable pub linesFrom : ℕ → List ℕ → Judged Contents
+linesFrom limit s =
+    onward (countAt quantitiesKey 1 maxQuantities 1 s) (λ n u.
+    onward (hiddenAt n 2 u) (λ qs v.
+    onward (countAt rulesKey 0 maxRules 3 v) (λ m w.
+    onward (rulesFrom n limit m 4 w) (λ rs. accepted (record { count = n; hiddens = qs; written = rs })))))
+
+-- what a text writes, or its refusal: 1 for its size, else that of the first line that fails
+unfoldable pub checkText : List ℕ → Judged Contents
+checkText s = cond (ltb maxText (length s)) (refused Size) (linesFrom maxBound s)
+
+-- ---- what the program has of it
+
+-- n, the hidden set, the number of rules, and the cursor at which the rule lines begin; or the refusal
+unfoldable pub checkedOf : Judged Contents → Checked
+checkedOf (accepted c u) = Sheet (c .count) (setOf (c .hiddens)) (length (c .written)) (length (headerText c))
+checkedOf (refused r) = Failed r
+
+-- the same from the rule lines, where the header is read
+unfoldable pub checkedRules : ℕ → ℕ → ℕ → ℕ → Judged (List Written) → Checked
+checkedRules n set m body (accepted rs u) = Sheet n set m body
+checkedRules n set m body (refused r) = Failed r
+
+-- ---- into a table
+
+-- the refusal of a text that did not pass; one that did has none of its own
+abbrev pub refusedBy : Checked → Reading
+refusedBy (Sheet n set m body) = Refused Size
+refusedBy (Failed r) = Refused r
+
+-- the reply of reading into a table of so many words: the last check is its length
+unfoldable pub replyTo : ℕ → Judged Contents → Reading
+replyTo words (accepted c u) =
+    cond (ltb words (blockStart (c .count))) (Refused (TooShort (blockStart (c .count)))) (Accepted (c .count) (setOf (c .hiddens)))
+replyTo words (refused r) = Refused r
+
+unfoldable pub readReply : List ℕ → ℕ → Reading
+readReply s words = replyTo words (checkText s)
+
+-- the table of a text's rules, put in one after the other; words past it stay
+unfoldable pub filled : Judged Contents → List ℤ → List ℤ
+filled (accepted c u) t = tableOf (c .count) (writtenRules (c .written)) ++ drop (blockStart (c .count)) t
+filled (refused r) t = t
+
+-- the reply is no refusal
+abbrev pub isAccepted : Reading → Bool
+isAccepted (Accepted n set) = true
+isAccepted (Refused r) = false
+
+-- the table afterwards
+unfoldable pub readTable : List ℕ → List ℤ → List ℤ
+readTable s t = cond (isAccepted (readReply s (length t))) (filled (checkText s) t) t
+
+-- document 01's number of a reply, 0 where the text is accepted, and what is returned beside it
+abbrev pub readingNumber : Reading → ℕ
+readingNumber (Accepted n set) = 0
+readingNumber (Refused r) = refusalNumber r
+
+abbrev pub readingValues : Reading → List ℕ
+readingValues (Accepted n set) = n ∷ set ∷ []
+readingValues (Refused r) = refusalValues r

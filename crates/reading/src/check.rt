@@ -1,0 +1,103 @@
+// A text checked, without a table: its size, then its lines from the first.
+use lines::answer;
+use lines::answer::Answer;
+use lines::count;
+use lines::hidden;
+use lines::rule;
+use rules::refusal::Refusal;
+use rules::sheet::Sheet;
+ghost use mathlib.Core.Path.{_≡_};
+ghost use Prim.Native.Nat.{_≤_, _<_};
+ghost use lib.ListN.{drop};
+ghost use Rattle.numerals.specs.Decimal.{cap};
+ghost use Rattle.rules.specs.Limits.{maxQuantities, maxRules};
+ghost use Rattle.lines.specs.Answers.{refusalOf};
+ghost use Rattle.reading.specs.declared.check.Checked.the-variants.{Refused as Failed};
+ghost use Rattle.reading.specs.Reading.{rulesFrom, checkedRules};
+ghost use Rattle.reading.specs.Promises.{TextChecked};
+
+pub enum Checked {
+    // n, the hidden set, the number of rules, and the cursor at which their lines begin
+    Sheet {
+        quantities: usize,
+        hidden: u32,
+        rules: usize,
+        body: usize,
+    },
+    Refused {
+        refusal: Refusal,
+    },
+}
+
+// A text's refusal, from that of a line.
+fn refused(answer: Answer) -> Checked
+    ensures { λ r. ⌜ r ≡ Failed (refusalOf answer) ⌝ }
+{
+    Checked::Refused {
+        refusal: answer::refusal(answer),
+    }
+}
+
+// Checks the lines of `count` rules from the cursor `body` on, the first being line 4, and that nothing follows them; `n` and `hidden` go into the answer.
+fn check_rules(s: &[u8], n: usize, hidden: u32, limit: u64, count: usize, body: usize) -> Checked
+    requires { ⌜ (n ≤ maxQuantities) × (limit < cap) × (count ≤ maxRules) ⌝ }
+    ensures { λ r. ⌜ r ≡ checkedRules n hidden count body (rulesFrom n limit count 4 (drop body (now (s .entry)))) ⌝ }
+{
+    let mut at = body;
+    let mut i = 0;
+    while i < count {
+        let got = rule::rule_line(s, at, n, limit, i + 4);
+        let Answer::Rule { rule: _, next } = got else {
+            return refused(got);
+        };
+        at = next;
+        i = i + 1;
+    }
+    if at < s.len() {
+        return Checked::Refused {
+            refusal: Refusal::Malformed { line: count + 4 },
+        };
+    }
+    Checked::Sheet {
+        quantities: n,
+        hidden,
+        rules: count,
+        body,
+    }
+}
+
+// Checks a text.
+pub fn check(s: &[u8]) -> Checked
+    ensures { λ r. ⌜ TextChecked (now (s .entry)) r ⌝ }
+{
+    if Sheet::MAX_TEXT < s.len() {
+        return Checked::Refused {
+            refusal: Refusal::Size,
+        };
+    }
+    let first = count::count_line(s, 0, b"quantities=", 1, Sheet::MAX_QUANTITIES, 1);
+    let Answer::Count {
+        value: n,
+        next: second_at,
+    } = first
+    else {
+        return refused(first);
+    };
+    let second = hidden::hidden_line(s, second_at, n, 2);
+    let Answer::Hidden {
+        set,
+        next: third_at,
+    } = second
+    else {
+        return refused(second);
+    };
+    let third = count::count_line(s, third_at, b"rules=", 0, Sheet::MAX_RULES, 3);
+    let Answer::Count {
+        value: count,
+        next: body,
+    } = third
+    else {
+        return refused(third);
+    };
+    check_rules(s, n, set, Sheet::MAX_BOUND as u64, count, body)
+}

@@ -1,0 +1,30 @@
+// A table filled from a text that passed its check.
+use lines::answer::Answer;
+use lines::rule;
+use rules::sheet::Sheet;
+use tables::table;
+ghost use mathlib.Core.Path.{_≡_};
+ghost use Prim.Native.Nat.{_≤_};
+ghost use lib.ListN.{length};
+ghost use Rattle.places.specs.Numbering.{blockStart};
+ghost use Rattle.reading.specs.Reading.{checkText, filled};
+ghost use Rattle.reading.specs.Promises.{Passed};
+
+// Fills the first words of the table with the rules of a text over `n` quantities, whose `count` rule lines begin at the cursor `body`.
+pub fn fill(s: &[u8], n: usize, count: usize, body: usize, table: &mut [i64])
+    requires { ⌜ Passed (now s) n count body × (blockStart n ≤ length (now table)) ⌝ }
+    ensures { λ _. ⌜ now (table .exit) ≡ filled (checkText (now (s .entry))) (now (table .entry)) ⌝ }
+{
+    table::empty(n, table);
+    let mut at = body;
+    let mut i = 0;
+    while i < count {
+        let got = rule::rule_line(s, at, n, Sheet::MAX_BOUND as u64, i + 4);
+        let Answer::Rule { rule, next } = got else {
+            return;
+        };
+        table::put(n, table, rule);
+        at = next;
+        i = i + 1;
+    }
+}

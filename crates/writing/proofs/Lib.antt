@@ -1,0 +1,9 @@
+-- The laws of what is written that proofs cite.
+pub mod Meanings
+pub mod Members
+pub mod Lengths
+pub mod Back
+pub mod Lines
+pub mod ListTexts
+pub mod Texts
+pub mod Promised

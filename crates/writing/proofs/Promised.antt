@@ -1,0 +1,145 @@
+-- The reply of writing by its tests, and what is promised from it. Assumes nothing.
+use mathlib.Core.Path.{_≡_, refl, sym, _∙_, ap}
+use mathlib.Core.Bool.{Bool, true, false, cond}
+use mathlib.Core.List.{List}
+use Prim.Native.Nat.{ℕ, _^_, _≤_, _<_}
+use native.Mathlib.Omega.{arith}
+use lib.Dec.{ltb}
+use lib.IntN.{ℤ}
+use lib.ListN.{length, take, drop}
+use lib.Seq.{take-append-seam}
+use lib.Signed.{mag}
+use borrow.Author.Tests.{lt-ltb, le-ltb, ltb-false}
+use Rattle.words.specs.Change.{wordAt}
+use Rattle.places.specs.Numbering.{blockStart}
+use Rattle.numerals.specs.Writing.{Spliced}
+use Rattle.numerals.proofs.Splices.{splice-start}
+use Rattle.rules.specs.declared.refusal.Refusal.{Refusal}
+use Rattle.rules.specs.declared.refusal.Refusal.the-variants.{Size, OutOfLimit, TooShort}
+use Rattle.rules.specs.Hidden.{setWithin}
+use Rattle.tables.specs.Tables.{serves}
+use Rattle.tables.proofs.Sizes.{Served, serves-tells}
+use Rattle.tables.proofs.Tests.{clash}
+use Rattle.writing.specs.declared.write.Writing.{Writing}
+use Rattle.writing.specs.declared.write.Writing.the-variants.{Text, Refused}
+use Rattle.writing.specs.Writing.{writtenText, writeReply, isText, written}
+use Rattle.writing.specs.Promises.{TextWritten}
+use Rattle.writing.proofs.Meanings.{AreWords, words-clean, table-meaning}
+use Rattle.writing.proofs.Lengths.{longest-any}
+use Rattle.writing.proofs.Back.{written-back}
+
+-- ---- the reply
+
+-- 1, where the table does not serve n quantities
+pub reply-size : (n set : ℕ) (t : List ℤ) (room : ℕ) → serves n (length t) ≡ false → Refused Size ≡ writeReply n set t room
+unfolding writeReply
+reply-size n set t room s = rw s
+
+-- 3, where the hidden set has a quantity past n
+pub reply-outside : (n set : ℕ) (t : List ℤ) (room : ℕ) → serves n (length t) ≡ true → setWithin n set ≡ false
+    → Refused (OutOfLimit 0) ≡ writeReply n set t room
+unfolding writeReply
+reply-outside n set t room s w = rw (s, w)
+
+-- 6, where the output has no room for the text
+pub reply-short : (n set : ℕ) (t : List ℤ) (room needed : ℕ) → serves n (length t) ≡ true → setWithin n set ≡ true
+    → needed ≡ length (writtenText n set t) → room < needed → Refused (TooShort needed) ≡ writeReply n set t room
+unfolding writeReply
+reply-short n set t room needed s w e l = rw (s, w, ← e, lt-ltb room needed l)
+
+-- else the text's length
+pub reply-text : (n set : ℕ) (t : List ℤ) (room end : ℕ) → serves n (length t) ≡ true → setWithin n set ≡ true
+    → end ≡ length (writtenText n set t) → end ≤ room → Text end ≡ writeReply n set t room
+unfolding writeReply
+reply-text n set t room end s w e l = rw (s, w, ← e, le-ltb room end l)
+
+-- ---- the output
+
+-- a refusal leaves it as it was
+kept : (n set : ℕ) (t : List ℤ) (out : List ℕ) (r : Writing) → r ≡ writeReply n set t (length out) → isText r ≡ false → out ≡ written n set t out
+unfolding written
+kept n set t out r e f = rw (← e, f)
+
+-- a text that is written stands at its start
+put : (n set : ℕ) (t : List ℤ) (out : List ℕ) (r : Writing) (end : ℕ) (out' : List ℕ) → r ≡ writeReply n set t (length out) → isText r ≡ true
+    → Spliced out 0 (writtenText n set t) end out' → out' ≡ written n set t out
+unfolding written
+put n set t out r end out' e f s = rw (← e, f) (s .buffer ∙ splice-start out (writtenText n set t))
+
+-- ---- what a reply tells
+
+-- a text is written where the table serves, the set is in its range, and the output has room
+pub record Told (n set : ℕ) (t : List ℤ) (room m : ℕ) : Type 0 where
+  pub serving : serves n (length t) ≡ true
+  pub within : setWithin n set ≡ true
+  pub size : m ≡ length (writtenText n set t)
+  pub enough : m ≤ room
+
+-- a refusal is not a text
+refused-text : {f : Refusal} {m : ℕ} → Refused f ≡ Text m → ⊥
+refused-text e = let z : _≡_ {A = ℕ} 0 1 = cc in omega arith
+
+-- texts of one reply have one length
+text-same : {m k : ℕ} → Text m ≡ Text k → m ≡ k
+text-same e = cc
+
+-- which the reply tells
+pub text-tells : (n set : ℕ) (t : List ℤ) (room m : ℕ) → writeReply n set t room ≡ Text m → Told n set t room m
+unfolding writeReply
+text-tells n set t room m e = go (serves n (length t)) refl (setWithin n set) refl (ltb room (length (writtenText n set t))) refl e
+  where
+    k : ℕ
+    k = length (writtenText n set t)
+
+    go : (a : Bool) → serves n (length t) ≡ a → (b : Bool) → setWithin n set ≡ b → (c : Bool) → ltb room k ≡ c
+        → cond a (cond b (cond c (Refused (TooShort k)) (Text k)) (Refused (OutOfLimit 0))) (Refused Size) ≡ Text m → Told n set t room m
+    go true s true w true l f = absurd (refused-text f)
+    go true s true w false l f =
+        let same = text-same f in
+        record { serving = s; within = w; size = sym same; enough = rw (← same) (ltb-false room k l) }
+    go true s false w c l f = absurd (refused-text f)
+    go false s b w c l f = absurd (refused-text f)
+
+-- the text stands in front
+pub text-front : (n set : ℕ) (t : List ℤ) (out : List ℕ) (m : ℕ) → writeReply n set t (length out) ≡ Text m
+    → take m (written n set t out) ≡ writtenText n set t
+unfolding written
+text-front n set t out m e =
+    let s = text-tells n set t (length out) m e .size in
+    rw (e, s) (take-append-seam (writtenText n set t) (drop (length (writtenText n set t)) out))
+
+-- ---- what is promised
+
+-- all of it from the reply and the bytes; of a table whose text is written it is known besides that its words are of 64 bits
+written-promised : (n set : ℕ) (t : List ℤ) (out : List ℕ) (r : Writing) (out' : List ℕ)
+    → r ≡ writeReply n set t (length out) → out' ≡ written n set t out → (isText r ≡ true → AreWords (blockStart n) t) → TextWritten n set t out r out'
+written-promised n set t out r out' e f words = record {
+  reply = e;
+  bytes = f;
+  meaning = λ m q. table-meaning n t (served m q .room);
+  longest = λ m q. rw (told m q .size) (longest-any n set t (served m q .most) (words (ap isText q)));
+  back = λ m q w u l.
+      let s = served m q in
+      rw (front m q) (written-back n set t (s .some) (s .most) w (told m q .within) (s .room) (words-clean (blockStart n) t (words (ap isText q))) u l);
+}
+  where
+    told : (m : ℕ) → r ≡ Text m → Told n set t (length out) m
+    told m q = text-tells n set t (length out) m (sym e ∙ q)
+
+    served : (m : ℕ) → r ≡ Text m → Served n (length t)
+    served m q = serves-tells n (length t) (told m q .serving)
+
+    front : (m : ℕ) → r ≡ Text m → take m out' ≡ writtenText n set t
+    front m q = ap (take m) f ∙ text-front n set t out m (sym e ∙ q)
+
+-- a refusal
+pub promised-refused : (n set : ℕ) (t : List ℤ) (out : List ℕ) (r : Writing) → r ≡ writeReply n set t (length out) → isText r ≡ false
+    → TextWritten n set t out r out
+promised-refused n set t out r e f = written-promised n set t out r out e (kept n set t out r e f) (λ g. clash g f)
+
+-- a text
+pub promised-text : (n set : ℕ) (t : List ℤ) (out : List ℕ) (end : ℕ) (out' : List ℕ) → Text end ≡ writeReply n set t (length out)
+    → Spliced out 0 (writtenText n set t) end out' → ((k : ℕ) → k < blockStart n → mag (wordAt t k) < 2 ^ 63)
+    → TextWritten n set t out (Text end) out'
+promised-text n set t out end out' e s words =
+    written-promised n set t out (Text end) out' e (put n set t out (Text end) end out' e refl s) (λ g. words)

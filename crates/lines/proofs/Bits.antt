@@ -11,7 +11,9 @@ use borrow.Author.Tests.{leb-true, le-leb, lt-leb}
 use Rattle.numerals.specs.Decimal.{capped}
 use Rattle.numerals.proofs.Cases.{both-true}
 use Rattle.numerals.proofs.Values.{capped-most, capped-least, capped-exact}
+use Rattle.rules.specs.Hidden.{bitOf}
 use Rattle.rules.specs.Limits.{maxQuantities}
+use Rattle.rules.proofs.Sets.{bit-twice}
 use Rattle.lines.specs.Spelling.{quantityWithin}
 use Rattle.lines.specs.Listed.{memberBit}
 
@@ -34,7 +36,7 @@ pub within-range : (n q : ℕ) → quantityWithin n q ≡ true → (1 ≤ q) × 
 within-range n q e = let p = both-true (leb 1 q) (leb q n) e in (leb-true 1 q (p .0), leb-true q n (p .1))
 
 -- a quantity has its bit
-pub bit-inside : (n q : ℕ) → quantityWithin n q ≡ true → memberBit n q ≡ 2 ^ (q - 1)
+pub bit-inside : (n q : ℕ) → quantityWithin n q ≡ true → memberBit n q ≡ bitOf q
 unfolding memberBit
 bit-inside n q e = rw e
 
@@ -59,18 +61,9 @@ bit-told n q h = go (quantityWithin n q) refl
 
 -- ---- room for the bit
 
--- twice the bit of a quantity
-double : (q : ℕ) → 1 ≤ q → 2 * 2 ^ (q - 1) ≡ 2 ^ q
-double zero h = let z : ⊥ = omega arith in absurd z
-double (suc j) h = simp unary-clauses (omega (arith, pow-add 2 1 j))
-
 -- the sum with the bit of a quantity above all in the set fits its word
-pub bit-fits : (n q set : ℕ) → n ≤ maxQuantities → 1 ≤ q → q ≤ n → 2 * set < 2 ^ q → set + 2 ^ (q - 1) < 2 ^ 32
-bit-fits n q set h l m r = omega (arith, double q l, pow-mono {i = q} {j = 32} (omega arith))
-
--- the bit as the shift makes it
-pub bit-shifted : (n q : ℕ) → n ≤ maxQuantities → 1 ≤ q → q ≤ n → (1 * 2 ^ (q - 1)) % 2 ^ 32 ≡ 2 ^ (q - 1)
-bit-shifted n q h l m = omega (arith, double q l, pow-mono {i = q} {j = 32} (omega arith))
+pub bit-fits : (n q set : ℕ) → n ≤ maxQuantities → 1 ≤ q → q ≤ n → 2 * set < 2 ^ q → set + bitOf q < 2 ^ 32
+bit-fits n q set h l m r = omega (arith, bit-twice q l, pow-mono {i = q} {j = 32} (omega arith))
 
 -- a set of numbers below `least` is one of numbers below any q from there on, also where that is told
 pub room-told : (n q least set : ℕ) → n ≤ maxQuantities → least ≤ q → 2 * set < 2 ^ least → capped q ≤ n → 2 * set < 2 ^ capped q
@@ -81,5 +74,5 @@ pub room-more : (n q least set : ℕ) → least ≤ q → 2 * set < 2 ^ least �
 room-more n q least set l r = go (quantityWithin n q) refl
   where
     go : (t : Bool) → quantityWithin n q ≡ t → 2 * (set + memberBit n q) < 2 ^ suc q
-    go true e = rw (bit-inside n q e) (omega (arith, double q (within-range n q e .0), pow-mono {i = least} {j = q} l))
+    go true e = rw (bit-inside n q e) (omega (arith, bit-twice q (within-range n q e .0), pow-mono {i = least} {j = q} l))
     go false e = rw (bit-outside n q e) (omega (arith, pow-mono {i = least} {j = q} l))

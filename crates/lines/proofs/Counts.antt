@@ -15,7 +15,7 @@ use Rattle.numerals.proofs.Values.{capped-most, capped-least, capped-exact}
 use Rattle.rules.specs.declared.refusal.Refusal.the-variants.{Malformed, OutOfLimit}
 use Rattle.lines.specs.declared.answer.Answer.{Answer}
 use Rattle.lines.specs.declared.answer.Answer.the-variants.{Count, Refused}
-use Rattle.lines.specs.Lines.{ended, countLine, judged, between, never, countAt}
+use Rattle.lines.specs.Lines.{ended, countLine, judged, between, never, countJudged}
 use Rattle.lines.specs.Answers.{countAnswer}
 
 module _ (s : List ℕ) (least most line : ℕ) where
@@ -24,14 +24,14 @@ module _ (s : List ℕ) (least most line : ℕ) where
   formAnswer p = countAnswer s (judged line (between least most) never p)
 
   -- a line without its key is malformed
-  pub count-unkeyed : (key u : List ℕ) → startsWith key u ≡ false → countAnswer s (countAt key least most line u) ≡ Refused (Malformed line)
-  unfolding countAt countLine countAnswer judged
+  pub count-unkeyed : (key u : List ℕ) → startsWith key u ≡ false → countAnswer s (countJudged key least most line u) ≡ Refused (Malformed line)
+  unfolding countJudged countLine countAnswer judged
   count-unkeyed key u e = rw (expect-not key u (λ (v : List ℕ). andThen (numeralOf v) ended) e)
 
   -- after its key a number and the line's end are read
   pub count-keyed : (key : List ℕ) (at : ℕ) → startsWith key (drop at s) ≡ true
-      → countAnswer s (countAt key least most line (drop at s)) ≡ formAnswer (andThen (numeralOf (drop (at + length key) s)) ended)
-  unfolding countAt countLine
+      → countAnswer s (countJudged key least most line (drop at s)) ≡ formAnswer (andThen (numeralOf (drop (at + length key) s)) ended)
+  unfolding countJudged countLine
   count-keyed key at e = ap formAnswer
       (expect-key key (drop at s) (λ (v : List ℕ). andThen (numeralOf v) ended) e
       ∙ ap (λ (v : List ℕ). andThen (numeralOf v) ended) (drop-drop (length key) at s))

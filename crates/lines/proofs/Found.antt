@@ -19,13 +19,14 @@ use Rattle.numerals.proofs.Cursors.{cursor-rest}
 use Rattle.rules.specs.declared.refusal.Refusal.{Refusal}
 use Rattle.rules.specs.declared.refusal.Refusal.the-variants.{OutOfLimit, Cancelling}
 use Rattle.rules.specs.declared.rule.Rule.{Rule}
+use Rattle.rules.specs.Hidden.{setOf}
 use Rattle.lines.specs.declared.answer.Answer.{Answer}
 use Rattle.lines.specs.declared.answer.Answer.the-variants.{Count, Hidden, Refused}
 use Rattle.lines.specs.declared.answer.Answer.the-variants.{Rule as RuleRead}
 use Rattle.lines.specs.Spelling.{Line, Written, quantities, hidden, rules, rule, lineText}
 use Rattle.lines.specs.Spelling.{IncreasingFrom, allWithin, ruleWithin, cancelling, writtenRule}
-use Rattle.lines.specs.Lines.{Judged, accepted, refused, judged, never, between, countLine, hiddenLine, ruleLine, countAt, hiddenAt, ruleAt}
-use Rattle.lines.specs.Answers.{setOf, answerOf, countAnswer, hiddenAnswer, ruleAnswer, refusalOf}
+use Rattle.lines.specs.Lines.{Judged, accepted, refused, judged, never, between, countLine, hiddenLine, ruleLine, countJudged, hiddenJudged, ruleJudged}
+use Rattle.lines.specs.Answers.{answerOf, countAnswer, hiddenAnswer, ruleAnswer, refusalOf}
 use Rattle.lines.proofs.answer.Answer.{the-type}
 use Rattle.lines.proofs.Spellings.{count-sound, hidden-sound, hidden-increases, rule-sound}
 
@@ -85,7 +86,7 @@ line-some (rule r) = omega arith
 
 -- a line of a key and the number v, in its limits, from the cursor `at` to the cursor `next`
 pub record CountFound (s key : List ℕ) (least most line at v next : ℕ) : Type 0 where
-  pub is : countAt key least most line (drop at s) ≡ accepted v (drop next s)
+  pub is : countJudged key least most line (drop at s) ≡ accepted v (drop next s)
   pub within : between least most v ≡ true
   pub low : least ≤ v
   pub high : v ≤ most
@@ -101,9 +102,9 @@ between-range least most v e = go (leb least v) (leb-true least v) e
     go false h f = clash f refl
 
 -- where it is accepted
-count-accepted : (s key : List ℕ) (least most line at v : ℕ) (rest : List ℕ) (next : ℕ) → countAt key least most line (drop at s) ≡ accepted v rest
+count-accepted : (s key : List ℕ) (least most line at v : ℕ) (rest : List ℕ) (next : ℕ) → countJudged key least most line (drop at s) ≡ accepted v rest
     → cursorOf s rest ≡ next → CountFound s key least most line at v next
-unfolding countAt
+unfolding countJudged
 count-accepted s key least most line at v rest next e q = by-accepted line (between least most) never (countLine key (drop at s)) v rest e (λ p w c.
     let t : Passed s at rest next = passed s at text rest next (spelled p) some q in
     let r = between-range least most v w in
@@ -119,10 +120,10 @@ count-accepted s key least most line at v rest next e q = by-accepted line (betw
     spelled p = simp append-assoc (count-sound key (drop at s) v rest p)
 
 -- where the answer is a count, that line is there
-pub count-found : (s key : List ℕ) (least most line at v next : ℕ) → countAnswer s (countAt key least most line (drop at s)) ≡ Count v next
+pub count-found : (s key : List ℕ) (least most line at v next : ℕ) → countAnswer s (countJudged key least most line (drop at s)) ≡ Count v next
     → CountFound s key least most line at v next
 unfolding countAnswer
-count-found s key least most line at v next e = by-answer Count s (countAt key least most line (drop at s)) (Count v next) e (omega arith) (λ w rest q f.
+count-found s key least most line at v next e = by-answer Count s (countJudged key least most line (drop at s)) (Count v next) e (omega arith) (λ w rest q f.
     let same : w ≡ v = cc in count-accepted s key least most line at v rest next (q ∙ ap (λ (x : ℕ). accepted x rest) same) (cc))
 
 -- ---- hidden quantities
@@ -130,7 +131,7 @@ count-found s key least most line at v next e = by-answer Count s (countAt key l
 -- a line of hidden quantities, of 1 to n, from the cursor `at` to the cursor `next`, whose set is told
 pub record HiddenFound (s : List ℕ) (n line at set next : ℕ) : Type 0 where
   pub members : List ℕ
-  pub is : hiddenAt n line (drop at s) ≡ accepted members (drop next s)
+  pub is : hiddenJudged n line (drop at s) ≡ accepted members (drop next s)
   pub told : set ≡ setOf members
   pub within : allWithin n members ≡ true
   pub increase : IncreasingFrom 0 members
@@ -138,9 +139,9 @@ pub record HiddenFound (s : List ℕ) (n line at set next : ℕ) : Type 0 where
   pub inside : next ≤ length s
 
 -- where it is accepted
-hidden-accepted : (s : List ℕ) (n line at : ℕ) (qs rest : List ℕ) (set next : ℕ) → hiddenAt n line (drop at s) ≡ accepted qs rest → setOf qs ≡ set
+hidden-accepted : (s : List ℕ) (n line at : ℕ) (qs rest : List ℕ) (set next : ℕ) → hiddenJudged n line (drop at s) ≡ accepted qs rest → setOf qs ≡ set
     → cursorOf s rest ≡ next → HiddenFound s n line at set next
-unfolding hiddenAt
+unfolding hiddenJudged
 hidden-accepted s n line at qs rest set next e f q = by-accepted line (allWithin n) never (hiddenLine (drop at s)) qs rest e (λ p w c.
     let t : Passed s at rest next = passed s at (lineText (hidden qs)) rest next (hidden-sound (drop at s) qs rest p) (line-some (hidden qs)) q in
     record {
@@ -154,11 +155,11 @@ hidden-accepted s n line at qs rest set next e f q = by-accepted line (allWithin
     })
 
 -- where the answer is a hidden set, that line is there
-pub hidden-found : (s : List ℕ) (n line at set next : ℕ) → hiddenAnswer s (hiddenAt n line (drop at s)) ≡ Hidden set next
+pub hidden-found : (s : List ℕ) (n line at set next : ℕ) → hiddenAnswer s (hiddenJudged n line (drop at s)) ≡ Hidden set next
     → HiddenFound s n line at set next
 unfolding hiddenAnswer
 hidden-found s n line at set next e =
-    by-answer (λ qs. Hidden (setOf qs)) s (hiddenAt n line (drop at s)) (Hidden set next) e (omega arith) (λ qs rest q f.
+    by-answer (λ qs. Hidden (setOf qs)) s (hiddenJudged n line (drop at s)) (Hidden set next) e (omega arith) (λ qs rest q f.
     hidden-accepted s n line at qs rest set next q (cc) (cc))
 
 -- ---- a rule
@@ -166,7 +167,7 @@ hidden-found s n line at set next e =
 -- a line of a rule, in its limits and not cancelling, from the cursor `at` to the cursor `next`, which is told as r
 pub record RuleFound (s : List ℕ) (n limit line at : ℕ) (r : Rule) (next : ℕ) : Type 0 where
   pub written : Written
-  pub is : ruleAt n limit line (drop at s) ≡ accepted written (drop next s)
+  pub is : ruleJudged n limit line (drop at s) ≡ accepted written (drop next s)
   pub told : r ≡ writtenRule written
   pub within : ruleWithin n limit written ≡ true
   pub stays : cancelling written ≡ false
@@ -175,18 +176,18 @@ pub record RuleFound (s : List ℕ) (n limit line at : ℕ) (r : Rule) (next : �
 
 -- where it is accepted
 rule-accepted : (s : List ℕ) (n limit line at : ℕ) (w : Written) (rest : List ℕ) (r : Rule) (next : ℕ)
-    → ruleAt n limit line (drop at s) ≡ accepted w rest → writtenRule w ≡ r → cursorOf s rest ≡ next → RuleFound s n limit line at r next
-unfolding ruleAt
+    → ruleJudged n limit line (drop at s) ≡ accepted w rest → writtenRule w ≡ r → cursorOf s rest ≡ next → RuleFound s n limit line at r next
+unfolding ruleJudged
 rule-accepted s n limit line at w rest r next e f q = by-accepted line (ruleWithin n limit) cancelling (ruleLine (drop at s)) w rest e (λ p o c.
     let t : Passed s at rest next = passed s at (lineText (rule w)) rest next (rule-sound (drop at s) w rest p) (line-some (rule w)) q in
     record { written = w; is = e ∙ ap (accepted w) (t .follow); told = sym f; within = o; stays = c; after = t .later; inside = t .limit })
 
 -- where the answer is a rule, that line is there
-pub rule-found : (s : List ℕ) (n limit line at : ℕ) (r : Rule) (next : ℕ) → ruleAnswer s (ruleAt n limit line (drop at s)) ≡ RuleRead r next
+pub rule-found : (s : List ℕ) (n limit line at : ℕ) (r : Rule) (next : ℕ) → ruleAnswer s (ruleJudged n limit line (drop at s)) ≡ RuleRead r next
     → RuleFound s n limit line at r next
 unfolding ruleAnswer
 rule-found s n limit line at r next e =
-    by-answer (λ w. RuleRead (writtenRule w)) s (ruleAt n limit line (drop at s)) (RuleRead r next) e (omega arith) (λ w rest q f.
+    by-answer (λ w. RuleRead (writtenRule w)) s (ruleJudged n limit line (drop at s)) (RuleRead r next) e (omega arith) (λ w rest q f.
     rule-accepted s n limit line at w rest r next q (cc) (cc))
 
 -- ---- lines that are refused

@@ -21,11 +21,12 @@ use Rattle.numerals.proofs.Numerals.{NumeralFound, numeral-run}
 use Rattle.numerals.proofs.Order.{smaller-numeral}
 use Rattle.rules.specs.declared.refusal.Refusal.the-variants.{Malformed, OutOfLimit}
 use Rattle.rules.specs.Limits.{maxQuantities}
+use Rattle.rules.specs.Hidden.{setOf}
 use Rattle.lines.specs.declared.answer.Answer.{Answer}
 use Rattle.lines.specs.declared.answer.Answer.the-variants.{Hidden, Refused}
 use Rattle.lines.specs.Spelling.{hiddenKey, quantityWithin, allWithin}
-use Rattle.lines.specs.Lines.{withFirst, membersAfter, membersFrom, listOf, hiddenLine, judged, accepted, refused, never, hiddenAt}
-use Rattle.lines.specs.Answers.{setOf, answerOf, hiddenAnswer}
+use Rattle.lines.specs.Lines.{withFirst, membersAfter, membersFrom, listOf, hiddenLine, judged, accepted, refused, never, hiddenJudged}
+use Rattle.lines.specs.Answers.{answerOf, hiddenAnswer}
 use Rattle.lines.specs.Listed.{memberBit, endAnswer, Ending, listAnswer}
 use Rattle.lines.proofs.Ends.{by-end}
 use Rattle.lines.proofs.Bits.{bit-inside, within-told, bit-told, room-told, room-more}
@@ -232,14 +233,14 @@ module _ {n line : ℕ} {s : List ℕ} {whole : Answer} {set : ℕ} {within : Bo
 -- ---- the line
 
 -- a line without its key is malformed
-pub hidden-unkeyed : (n line : ℕ) (s u : List ℕ) → startsWith hiddenKey u ≡ false → hiddenAnswer s (hiddenAt n line u) ≡ Refused (Malformed line)
-unfolding hiddenAt hiddenLine hiddenAnswer judged
+pub hidden-unkeyed : (n line : ℕ) (s u : List ℕ) → startsWith hiddenKey u ≡ false → hiddenAnswer s (hiddenJudged n line u) ≡ Refused (Malformed line)
+unfolding hiddenJudged hiddenLine hiddenAnswer judged
 hidden-unkeyed n line s u e = rw (expect-not hiddenKey u listOf e)
 
 -- after its key it has a list
 keyed : (n line : ℕ) (s : List ℕ) (at : ℕ) → startsWith hiddenKey (drop at s) ≡ true
-    → hiddenAnswer s (hiddenAt n line (drop at s)) ≡ hiddenAnswer s (judged line (allWithin n) never (listOf (drop (at + length hiddenKey) s)))
-unfolding hiddenAt hiddenLine
+    → hiddenAnswer s (hiddenJudged n line (drop at s)) ≡ hiddenAnswer s (judged line (allWithin n) never (listOf (drop (at + length hiddenKey) s)))
+unfolding hiddenJudged hiddenLine
 keyed n line s at e = ap (λ (p : Parsed (List ℕ)). hiddenAnswer s (judged line (allWithin n) never p))
     (expect-key hiddenKey (drop at s) listOf e ∙ ap listOf (drop-drop (length hiddenKey) at s))
 
@@ -257,7 +258,7 @@ list-some (b ∷ u) h = rw (kind-test-fails LineEnd b refl h)
 
 -- the answer of an empty list
 pub hidden-none : (n line : ℕ) (s : List ℕ) (at : ℕ) → startsWith hiddenKey (drop at s) ≡ true → kindAt (drop (at + length hiddenKey) s) ≡ LineEnd
-    → hiddenAnswer s (hiddenAt n line (drop at s)) ≡ Hidden 0 (at + length hiddenKey + 1)
+    → hiddenAnswer s (hiddenJudged n line (drop at s)) ≡ Hidden 0 (at + length hiddenKey + 1)
 unfolding hiddenAnswer judged setOf
 hidden-none n line s at e k = keyed n line s at e
     ∙ rw (list-none (drop (at + length hiddenKey) s) k, drop-drop 1 (at + length hiddenKey) s)
@@ -265,5 +266,5 @@ hidden-none n line s at e k = keyed n line s at e
 
 -- and of any other
 pub hidden-some : (n line : ℕ) (s : List ℕ) (at : ℕ) → startsWith hiddenKey (drop at s) ≡ true → (kindAt (drop (at + length hiddenKey) s) ≡ LineEnd → ⊥)
-    → hiddenAnswer s (hiddenAt n line (drop at s)) ≡ listAnswer n line s (drop (at + length hiddenKey) s)
+    → hiddenAnswer s (hiddenJudged n line (drop at s)) ≡ listAnswer n line s (drop (at + length hiddenKey) s)
 hidden-some n line s at e h = keyed n line s at e ∙ rw (list-some (drop (at + length hiddenKey) s) h)

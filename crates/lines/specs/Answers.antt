@@ -2,7 +2,7 @@
 use mathlib.Core.Path.{_≡_}
 use mathlib.Core.Bool.{cond, _&&_}
 use mathlib.Core.List.{List, [], _∷_}
-use Prim.Native.Nat.{ℕ, suc, _+_, _-_, _^_}
+use Prim.Native.Nat.{ℕ, suc}
 use lib.Dec.{leb}
 use lib.IntN.{ℤ, pos, negsuc, negℤ, natAbs, _+ℤ_}
 use Rattle.numerals.specs.Bytes.{colon}
@@ -10,6 +10,7 @@ use Rattle.numerals.specs.Decimal.{capped}
 use Rattle.numerals.specs.Parsing.{Parsed, parsed, malformed, andThen, expect, cursorOf}
 use Rattle.rules.specs.declared.refusal.Refusal.{Refusal}
 use Rattle.rules.specs.declared.refusal.Refusal.the-variants.{Size, Malformed, OutOfLimit, Cancelling}
+use Rattle.rules.specs.Hidden.{setOf}
 use Rattle.rules.specs.Steps.{isNone, ruleOf}
 use Rattle.lines.specs.declared.answer.Answer.{Answer}
 use Rattle.lines.specs.declared.answer.Answer.the-variants.{Count, Hidden, Rule, Refused}
@@ -20,12 +21,7 @@ use Rattle.lines.specs.declared.spelled.Spelled.the-variants.{One, Two, 
 use Rattle.lines.specs.Spelling.{Term, Written, one, two, quantityWithin, signedQuantity, writtenRule}
 use Rattle.lines.specs.Lines.{termOf, boundLine, Judged, accepted, refused}
 
--- the hidden set of a list of quantity numbers, as a number: bit q - 1 for quantity q
-unfoldable pub setOf : List ℕ → ℕ
-setOf [] = 0
-setOf (q ∷ qs) = 2 ^ (q - 1) + setOf qs
-
--- an integer as the program has it, as far as values are told
+-- an integer as the program has it, its magnitude capped
 abbrev pub told : ℤ → ℤ
 told (pos v) = pos (capped v)
 told (negsuc v) = negℤ (pos (capped (suc v)))

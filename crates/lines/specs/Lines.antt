@@ -98,11 +98,11 @@ abbrev pub between : ℕ → ℕ → ℕ → Bool
 between least most v = cond (leb least v) (leb v most) false
 
 -- a line of a key and a number in these limits
-unfoldable pub countAt : List ℕ → ℕ → ℕ → ℕ → List ℕ → Judged ℕ
-countAt key least most line u = judged line (between least most) never (countLine key u)
+unfoldable pub countJudged : List ℕ → ℕ → ℕ → ℕ → List ℕ → Judged ℕ
+countJudged key least most line u = judged line (between least most) never (countLine key u)
 
-unfoldable pub hiddenAt : ℕ → ℕ → List ℕ → Judged (List ℕ)
-hiddenAt n line u = judged line (allWithin n) never (hiddenLine u)
+unfoldable pub hiddenJudged : ℕ → ℕ → List ℕ → Judged (List ℕ)
+hiddenJudged n line u = judged line (allWithin n) never (hiddenLine u)
 
-unfoldable pub ruleAt : ℕ → ℕ → ℕ → List ℕ → Judged Written
-ruleAt n limit line u = judged line (ruleWithin n limit) cancelling (ruleLine u)
+unfoldable pub ruleJudged : ℕ → ℕ → ℕ → List ℕ → Judged Written
+ruleJudged n limit line u = judged line (ruleWithin n limit) cancelling (ruleLine u)

@@ -2,10 +2,11 @@
 use mathlib.Core.Path.{_≡_}
 use mathlib.Core.Bool.{Bool, cond}
 use mathlib.Core.List.{List}
-use Prim.Native.Nat.{ℕ, _-_, _^_}
+use Prim.Native.Nat.{ℕ}
 use lib.ListN.{length}
 use Rattle.numerals.specs.declared.byte.Kind.{Kind}
 use Rattle.numerals.specs.declared.byte.Kind.the-variants.{LineEnd}
+use Rattle.rules.specs.Hidden.{bitOf}
 use Rattle.rules.specs.declared.refusal.Refusal.the-variants.{Malformed, OutOfLimit}
 use Rattle.lines.specs.declared.answer.Answer.{Answer}
 use Rattle.lines.specs.declared.answer.Answer.the-variants.{Hidden, Refused}
@@ -15,7 +16,7 @@ use Rattle.lines.specs.Answers.{hiddenAnswer}
 
 -- what the number q adds to the hidden set over n quantities
 unfoldable pub memberBit : ℕ → ℕ → ℕ
-memberBit n q = cond (quantityWithin n q) (2 ^ (q - 1)) 0
+memberBit n q = cond (quantityWithin n q) (bitOf q) 0
 
 -- the answer at the end of a line with this set, its numbers being within their limits or not
 abbrev pub endAnswer : ℕ → ℕ → Bool → ℕ → Answer

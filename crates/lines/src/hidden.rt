@@ -12,7 +12,7 @@ ghost use Prim.Native.Nat.{_+_, _*_, _^_, _<_, _≤_};
 ghost use lib.ListN.{drop};
 ghost use Rattle.rules.specs.Limits.{maxQuantities};
 ghost use Rattle.lines.specs.Spelling.{quantityWithin};
-ghost use Rattle.lines.specs.Lines.{hiddenAt};
+ghost use Rattle.lines.specs.Lines.{hiddenJudged};
 ghost use Rattle.lines.specs.Answers.{hiddenAnswer};
 ghost use Rattle.lines.specs.Listed.{memberBit, Ending, listAnswer};
 
@@ -41,9 +41,8 @@ impl Members {
                 within: false,
             };
         }
-        let bit = q - 1;
         Members {
-            set: self.set + (1 << bit),
+            set: self.set + rules::hidden::bit(q as usize),
             within: self.within,
         }
     }
@@ -101,7 +100,7 @@ fn listed(s: &[u8], at: usize, n: usize, line: usize) -> Answer
 // The line at the cursor, in a text over `n` quantities. A list that does not increase is malformed, also where its numbers are outside their limits.
 pub fn hidden_line(s: &[u8], at: usize, n: usize, line: usize) -> Answer
     requires { ⌜ n ≤ maxQuantities ⌝ }
-    ensures { λ r. ⌜ r ≡ hiddenAnswer (now (s .entry)) (hiddenAt n line (drop at (now (s .entry)))) ⌝ }
+    ensures { λ r. ⌜ r ≡ hiddenAnswer (now (s .entry)) (hiddenJudged n line (drop at (now (s .entry)))) ⌝ }
 {
     let key = b"hidden=";
     if !byte::has_key(s, at, key) {

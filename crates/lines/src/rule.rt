@@ -13,7 +13,7 @@ ghost use Rattle.numerals.specs.Decimal.{cap};
 ghost use Rattle.rules.specs.Limits.{maxQuantities};
 ghost use Rattle.lines.specs.declared.spelled.Spelled.the-variants.{One, Two};
 ghost use Rattle.lines.specs.Spelling.{quantityWithin};
-ghost use Rattle.lines.specs.Lines.{ruleAt};
+ghost use Rattle.lines.specs.Lines.{ruleJudged};
 ghost use Rattle.lines.specs.Answers.{ruleAnswer, formAnswer};
 
 // Whether a signed quantity number, as far as it is told, is of one of 1 to `n`.
@@ -80,7 +80,7 @@ fn two(
 // The rule line at the cursor, in a text over `n` quantities with bounds up to `limit` in magnitude.
 pub fn rule_line(s: &[u8], at: usize, n: usize, limit: u64, line: usize) -> Answer
     requires { ⌜ (n ≤ maxQuantities) × (limit < cap) ⌝ }
-    ensures { λ r. ⌜ r ≡ ruleAnswer (now (s .entry)) (ruleAt n limit line (drop at (now (s .entry)))) ⌝ }
+    ensures { λ r. ⌜ r ≡ ruleAnswer (now (s .entry)) (ruleJudged n limit line (drop at (now (s .entry)))) ⌝ }
 {
     let form = spelled::spelled_at(s, at);
     match form {

@@ -95,7 +95,7 @@ module _ (limit : ℕ) where
   told-answer s (refused Size) t = absurd t
   told-answer s (refused (Malformed line)) t =
       reached limit s (t .opening) line (t .rest) (t .reached)
-      ∙ malformed-answer (t .opening) (t .rest) (t .none) (t .unfinished)
+      ∙ malformed-answer (t .opening) (t .rest) (t .none) (t .follows)
       ∙ ap (λ (n : ℕ). refused (Malformed n)) (sym (t .reached .number))
   told-answer s (refused (OutOfLimit line)) t =
       reached limit s (t .opening) line (lineText (t .found) ++ t .rest) (t .reached)

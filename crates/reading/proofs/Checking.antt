@@ -9,8 +9,8 @@ use Rattle.rules.specs.declared.refusal.Refusal.{Refusal}
 use Rattle.rules.specs.declared.refusal.Refusal.the-variants.{Size}
 use Rattle.rules.specs.Limits.{maxQuantities, maxRules, maxBound, maxText}
 use Rattle.lines.specs.Spelling.{Line, Written, quantities, hidden, rules, quantitiesKey, rulesKey, lineText, allWithin}
-use Rattle.lines.specs.Lines.{Judged, accepted, refused, never, between, countLine, hiddenLine, countAt, hiddenAt}
-use Rattle.lines.specs.Answers.{setOf}
+use Rattle.lines.specs.Lines.{Judged, accepted, refused, never, between, countLine, hiddenLine, countJudged, hiddenJudged}
+use Rattle.rules.specs.Hidden.{setOf}
 use Rattle.lines.proofs.Spellings.{quantities-sound, hidden-sound, rules-sound}
 use Rattle.lines.proofs.Found.{by-accepted}
 use Rattle.reading.specs.declared.check.Checked.the-variants.{Sheet}
@@ -32,10 +32,10 @@ unfolding headerText linesText
 header-length c = simp length-append (omega arith)
 
 -- header lines that are accepted are those of the contents
-header-end : (c : Contents) (s u v w : List ℕ) → countAt quantitiesKey 1 maxQuantities 1 s ≡ accepted (c .count) u
-    → hiddenAt (c .count) 2 u ≡ accepted (c .hiddens) v → countAt rulesKey 0 maxRules 3 v ≡ accepted (length (c .written)) w
+header-end : (c : Contents) (s u v w : List ℕ) → countJudged quantitiesKey 1 maxQuantities 1 s ≡ accepted (c .count) u
+    → hiddenJudged (c .count) 2 u ≡ accepted (c .hiddens) v → countJudged rulesKey 0 maxRules 3 v ≡ accepted (length (c .written)) w
     → length s ≡ length (headerText c) + length w
-unfolding countAt hiddenAt
+unfolding countJudged hiddenJudged
 header-end c s u v w e d g =
     by-accepted 1 (between 1 maxQuantities) never (countLine quantitiesKey s) (c .count) u e (λ p _ _.
     by-accepted 2 (allWithin (c .count)) never (hiddenLine u) (c .hiddens) v d (λ q _ _.
@@ -57,24 +57,24 @@ size-checked s h = rw (lt-ltb maxText (length s) h)
 
 module _ (s : List ℕ) (h : length s ≤ maxText) where
   -- its first line is refused
-  pub first-checked : (f : Refusal) → countAt quantitiesKey 1 maxQuantities 1 s ≡ refused f → Failed f ≡ checkedOf (checkText s)
+  pub first-checked : (f : Refusal) → countJudged quantitiesKey 1 maxQuantities 1 s ≡ refused f → Failed f ≡ checkedOf (checkText s)
   unfolding checkText checkedOf linesFrom onward
   first-checked f e = rw (le-ltb maxText (length s) h, e)
 
-  module _ (n : ℕ) (u : List ℕ) (e : countAt quantitiesKey 1 maxQuantities 1 s ≡ accepted n u) where
+  module _ (n : ℕ) (u : List ℕ) (e : countJudged quantitiesKey 1 maxQuantities 1 s ≡ accepted n u) where
     -- its second line is
-    pub second-checked : (f : Refusal) → hiddenAt n 2 u ≡ refused f → Failed f ≡ checkedOf (checkText s)
+    pub second-checked : (f : Refusal) → hiddenJudged n 2 u ≡ refused f → Failed f ≡ checkedOf (checkText s)
     unfolding checkText checkedOf linesFrom onward
     second-checked f d = rw (le-ltb maxText (length s) h, e, d)
 
-    module _ (qs v : List ℕ) (d : hiddenAt n 2 u ≡ accepted qs v) where
+    module _ (qs v : List ℕ) (d : hiddenJudged n 2 u ≡ accepted qs v) where
       -- its third line is
-      pub third-checked : (f : Refusal) → countAt rulesKey 0 maxRules 3 v ≡ refused f → Failed f ≡ checkedOf (checkText s)
+      pub third-checked : (f : Refusal) → countJudged rulesKey 0 maxRules 3 v ≡ refused f → Failed f ≡ checkedOf (checkText s)
       unfolding checkText checkedOf linesFrom onward
       third-checked f g = rw (le-ltb maxText (length s) h, e, d, g)
 
       -- the lines of the rules decide
-      pub rules-checked : (m body : ℕ) → body ≤ length s → countAt rulesKey 0 maxRules 3 v ≡ accepted m (drop body s)
+      pub rules-checked : (m body : ℕ) → body ≤ length s → countJudged rulesKey 0 maxRules 3 v ≡ accepted m (drop body s)
           → checkedRules n (setOf qs) m body (rulesFrom n maxBound m 4 (drop body s)) ≡ checkedOf (checkText s)
       unfolding checkText linesFrom onward checkedOf checkedRules
       rules-checked m body l g = rw (le-ltb maxText (length s) h, e, d, g) (go (rulesFrom n maxBound m 4 (drop body s)) refl)

@@ -20,7 +20,7 @@ use Rattle.tables.specs.declared.reply.Reply.the-variants.{Done}
 use Rattle.tables.specs.Tables.{tableSize, serves, emptyTable, ruleReply, putReply, putRule, putAll}
 use Rattle.tables.specs.Promises.{Emptied, Put}
 use Rattle.lines.specs.Spelling.{Written, lineWithin, writtenRule, writtenRules}
-use Rattle.lines.specs.Lines.{accepted, refused, ruleAt}
+use Rattle.lines.specs.Lines.{accepted, refused, ruleJudged}
 use Rattle.lines.proofs.Found.{RuleFound}
 use Rattle.reading.specs.Reading.{rulesFrom, checkText, filled}
 use Rattle.reading.specs.Promises.{Passed}
@@ -89,7 +89,7 @@ module _ (s : List ℕ) (n count body : ℕ) (p : Passed s n count body) (t : Li
 
 module _ (s : List ℕ) (n count : ℕ) (t₀ t : List ℤ) (at i : ℕ) (f : Filling s n count t₀ t at i) where
   -- no line is refused on the way
-  pub never-stuck : (g : Refusal) → i < count → ruleAt n maxBound (i + 4) (drop at s) ≡ refused g → ⊥
+  pub never-stuck : (g : Refusal) → i < count → ruleJudged n maxBound (i + 4) (drop at s) ≡ refused g → ⊥
   never-stuck g h e = not-accepted (sym e ∙ rules-next n maxBound count i (drop at s) (f .left) h (f .lines) .line)
 
   -- the next rule is put in
@@ -113,7 +113,7 @@ module _ (s : List ℕ) (n count : ℕ) (t₀ t : List ℤ) (at i : ℕ) (f : Fi
       rest = cc (w .line, k .is)
 
       done : ruleReply n (halvedOf q) ≡ Done
-      done = rw (k .told) (fine-accepted n (k .written) (record { formed = tt; within = k .within; distinct = k .stays }))
+      done = rw (k .told) (fine-accepted n (k .written) (record { formed = tt; within = k .within; uncancelled = k .stays }))
 
       put : u ≡ putRule t (writtenRule (w .first))
       put = put-table n q t r u e done p ∙ ap (putRule t) (k .told ∙ ap writtenRule (sym first))

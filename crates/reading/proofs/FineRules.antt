@@ -109,7 +109,7 @@ fine-accepted n (two x y c) f =
     let v = term-in n y (q .1) in
     let w = bound-within c (leb-true (natAbs c) maxBound (p .1)) in
     rw (t .some, v .some) (two-accepted n (literalOf (signedQuantity x)) (literalOf (signedQuantity y)) c (t .inside) (v .inside)
-    (λ e. opposite-cancels (x .negative) (y .negative) (x .quantity) (y .quantity) (t .least) (v .least) (f .distinct)
+    (λ e. opposite-cancels (x .negative) (y .negative) (x .quantity) (y .quantity) (t .least) (v .least) (f .uncancelled)
     (rw (t .code, v .code) at e)) w)
 
 -- so all of them are

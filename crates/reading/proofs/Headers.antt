@@ -10,7 +10,7 @@ use Rattle.rules.specs.Limits.{maxQuantities, maxRules, maxBound}
 use Rattle.tables.specs.Tables.{AllAccepted}
 use Rattle.tables.proofs.Tests.{both-true}
 use Rattle.lines.specs.Spelling.{Written, rule, lineText, lineWithin, writtenRules}
-use Rattle.lines.specs.Lines.{accepted, judged, ruleAt}
+use Rattle.lines.specs.Lines.{accepted, judged, ruleJudged}
 use Rattle.lines.proofs.Spellings.{rule-complete}
 use Rattle.reading.specs.Texts.{Contents, ruleLines, linesText, headerText, sheetText}
 use Rattle.reading.specs.Meaning.{Fine, AllFine, Spells}
@@ -20,9 +20,9 @@ use Rattle.reading.proofs.Means.{text-means}
 use Rattle.reading.proofs.FineRules.{all-accepted}
 
 -- a fine rule line is accepted, and so are all
-rule-read : (n limit line : ℕ) (w : Written) (u : List ℕ) → Fine n limit (rule w) → ruleAt n limit line (lineText (rule w) ++ u) ≡ accepted w u
-unfolding ruleAt judged lineWithin
-rule-read n limit line w u f = rw (rule-complete w u, f .within, f .distinct)
+rule-read : (n limit line : ℕ) (w : Written) (u : List ℕ) → Fine n limit (rule w) → ruleJudged n limit line (lineText (rule w) ++ u) ≡ accepted w u
+unfolding ruleJudged judged lineWithin
+rule-read n limit line w u f = rw (rule-complete w u, f .within, f .uncancelled)
 
 rules-read : (n limit line : ℕ) (ws : List Written) → AllFine n limit (ruleLines ws)
     → rulesFrom n limit (length ws) line (linesText (ruleLines ws)) ≡ accepted ws []

@@ -11,7 +11,7 @@ use borrow.Author.Tests.{lt-ltb}
 use Rattle.numerals.specs.Parsing.{Parsed}
 use Rattle.rules.specs.Limits.{maxQuantities, maxRules}
 use Rattle.lines.specs.Spelling.{Written, Line, quantities, rules, rule, quantitiesKey, rulesKey, lineWithin, lineCancels}
-use Rattle.lines.specs.Lines.{Judged, accepted, judged, never, between, countLine, countAt, hiddenAt, ruleAt}
+use Rattle.lines.specs.Lines.{Judged, accepted, judged, never, between, countLine, countJudged, hiddenJudged, ruleJudged}
 use Rattle.reading.specs.Texts.{Contents, ruleLines}
 use Rattle.reading.specs.Meaning.{Opening, start, counted, headed, ruled, linesOf, countOf, dueKind, Fine, AllFine, AtMost}
 use Rattle.reading.specs.Reading.{onward, rulesFrom, linesFrom}
@@ -30,8 +30,8 @@ withRules n qs rs more u = accepted (record { count = n; hiddens = qs; written =
 unfoldable pub goOn : ℕ → Opening → List ℕ → Judged Contents
 goOn limit start u = linesFrom limit u
 goOn limit (counted n) u =
-    onward (hiddenAt n 2 u) (λ qs v. onward (countAt rulesKey 0 maxRules 3 v) (λ m w. onward (rulesFrom n limit m 4 w) (withRules n qs [])))
-goOn limit (headed n qs) u = onward (countAt rulesKey 0 maxRules 3 u) (λ m w. onward (rulesFrom n limit m 4 w) (withRules n qs []))
+    onward (hiddenJudged n 2 u) (λ qs v. onward (countJudged rulesKey 0 maxRules 3 v) (λ m w. onward (rulesFrom n limit m 4 w) (withRules n qs [])))
+goOn limit (headed n qs) u = onward (countJudged rulesKey 0 maxRules 3 u) (λ m w. onward (rulesFrom n limit m 4 w) (withRules n qs []))
 goOn limit (ruled n qs m rs) u = onward (rulesFrom n limit (m - length rs) (lineOf (ruled n qs m rs)) u) (withRules n qs rs)
 
 -- a line of a kind judged after an opening
@@ -58,7 +58,7 @@ between-and least most v = go (leb least v)
 
 -- first the number of quantities
 pub due-start : (limit : ℕ) → Due limit start 0 counted
-unfolding goOn linesFrom countAt lineWithin
+unfolding goOn linesFrom countJudged lineWithin
 due-start limit = record {
   due = refl;
   some = omega arith;
@@ -66,13 +66,13 @@ due-start limit = record {
       (judged-same 1 (between 1 maxQuantities) (λ n. lineWithin 0 limit (quantities n)) never never
       (between-and 1 maxQuantities) (λ n. refl) (countLine quantitiesKey u));
   lines = λ n. refl;
-  fine = λ n all f. (record { formed = tt; within = f .within; distinct = refl }, tt);
+  fine = λ n all f. (record { formed = tt; within = f .within; uncancelled = refl }, tt);
   most = λ n h. tt;
 }
 
 -- then the hidden list
 pub due-counted : (limit n : ℕ) → Due limit (counted n) 1 (headed n)
-unfolding goOn hiddenAt lineWithin
+unfolding goOn hiddenJudged lineWithin
 due-counted limit n = record {
   due = refl;
   some = omega arith;
@@ -84,7 +84,7 @@ due-counted limit n = record {
 
 -- then the number of rules
 pub due-headed : (limit n : ℕ) (qs : List ℕ) → Due limit (headed n qs) 2 (λ m. ruled n qs m [])
-unfolding goOn countAt lineWithin
+unfolding goOn countJudged lineWithin
 due-headed limit n qs = record {
   due = refl;
   some = omega arith;
@@ -110,11 +110,11 @@ allFine-append n limit (x ∷ ls) l all f = (all .0, allFine-append n limit ls l
 -- rules are read one after the other
 rules-go : (limit n : ℕ) (qs : List ℕ) (rs : List Written) (k line : ℕ) (u : List ℕ)
     → onward (rulesFrom n limit (suc k) line u) (withRules n qs rs)
-    ≡ onward (ruleAt n limit line u) (λ r v. onward (rulesFrom n limit k (suc line) v) (withRules n qs (rs ++ r ∷ [])))
+    ≡ onward (ruleJudged n limit line u) (λ r v. onward (rulesFrom n limit k (suc line) v) (withRules n qs (rs ++ r ∷ [])))
 unfolding rulesFrom onward
 rules-go limit n qs rs k line u =
-    onward-onward (ruleAt n limit line u) _ _
-    ∙ onward-same (ruleAt n limit line u) _ _
+    onward-onward (ruleJudged n limit line u) _ _
+    ∙ onward-same (ruleJudged n limit line u) _ _
     (λ r v. onward-onward (rulesFrom n limit k (suc line) v) _ _
     ∙ onward-same (rulesFrom n limit k (suc line) v) _ _ (λ more w. rw (append-assoc rs (r ∷ []) more)))
 
@@ -140,7 +140,7 @@ module _ (limit n : ℕ) (qs : List ℕ) (m : ℕ) (rs : List Written) (h : leng
 
   -- so a rule is due while there are fewer than N
   pub due-ruled : Due limit (ruled n qs m rs) 3 (oneMore n qs m rs)
-  unfolding goOn ruleAt lineWithin
+  unfolding goOn ruleJudged lineWithin
   due-ruled = record {
     due = rw (lt-ltb (length rs) m h);
     some = omega arith;

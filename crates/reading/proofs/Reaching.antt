@@ -20,7 +20,7 @@ module _ (limit : ℕ) where
   unfolding linesText
   passed {o} {k} d a ls u f =
       ap (goOn limit o) (append-assoc (lineText (lineWith k a)) (linesText ls) u)
-      ∙ spelled d a (linesText ls ++ u) true false (f .formed) (f .within) (f .distinct)
+      ∙ spelled d a (linesText ls ++ u) true false (f .formed) (f .within) (f .uncancelled)
 
   -- so are rules, one after the other
   rules-passed : (n : ℕ) (qs : List ℕ) (m : ℕ) (rs more : List Written) (u : List ℕ) → AllFine n limit (ruleLines more) → length rs + length more ≤ m
@@ -35,7 +35,7 @@ module _ (limit : ℕ) where
   -- the first line's limits do not ask n
   first-fine : (n : ℕ) → Fine n limit (quantities n) → Fine 0 limit (quantities n)
   unfolding lineWithin
-  first-fine n f = record { formed = f .formed; within = f .within; distinct = f .distinct }
+  first-fine n f = record { formed = f .formed; within = f .within; uncancelled = f .uncancelled }
 
   -- so are all lines of an opening
   opening-passed : (o : Opening) (u : List ℕ) → AllFine (countOf o) limit (linesOf o) → AtMost o

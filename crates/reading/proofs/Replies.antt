@@ -12,7 +12,7 @@ use Rattle.places.specs.Numbering.{blockStart}
 use Rattle.rules.specs.declared.refusal.Refusal.{Refusal}
 use Rattle.rules.specs.declared.refusal.Refusal.the-variants.{TooShort}
 use Rattle.lines.specs.Lines.{Judged, accepted, refused}
-use Rattle.lines.specs.Answers.{setOf}
+use Rattle.rules.specs.Hidden.{setOf}
 use Rattle.reading.specs.declared.read.Reading.the-variants.{Accepted, Refused}
 use Rattle.reading.specs.Texts.{Contents}
 use Rattle.reading.specs.Meaning.{FailsFor, RefusedFor, AcceptedAs}

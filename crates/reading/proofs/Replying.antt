@@ -12,7 +12,7 @@ use Rattle.rules.specs.declared.refusal.Refusal.the-variants.{TooShort}
 use Rattle.rules.specs.Limits.{maxQuantities}
 use Rattle.tables.specs.Tables.{tableSize}
 use Rattle.lines.specs.Lines.{Judged, accepted, refused}
-use Rattle.lines.specs.Answers.{setOf}
+use Rattle.rules.specs.Hidden.{setOf}
 use Rattle.reading.specs.declared.check.Checked.{Checked}
 use Rattle.reading.specs.declared.check.Checked.the-variants.{Sheet}
 use Rattle.reading.specs.declared.check.Checked.the-variants.{Refused as Failed}

@@ -8,7 +8,7 @@ use lib.Seq.{drop-cons}
 use Rattle.rules.specs.declared.refusal.Refusal.{Refusal}
 use Rattle.rules.specs.declared.refusal.Refusal.the-variants.{Malformed}
 use Rattle.lines.specs.Spelling.{Written}
-use Rattle.lines.specs.Lines.{Judged, accepted, refused, ruleAt}
+use Rattle.lines.specs.Lines.{Judged, accepted, refused, ruleJudged}
 use Rattle.reading.specs.declared.check.Checked.the-variants.{Sheet}
 use Rattle.reading.specs.declared.check.Checked.the-variants.{Refused as Failed}
 use Rattle.reading.specs.Reading.{onward, rulesFrom, checkedRules}
@@ -55,14 +55,14 @@ none-left m i h = omega arith
 
 -- a line that is refused ends it, and after one that is accepted the others are read
 module _ (n limit m i : ℕ) (u : List ℕ) (h : i < m) where
-  rules-ends : (f : Refusal) → ruleAt n limit (i + 4) u ≡ refused f → rulesFrom n limit (m - i) (i + 4) u ≡ refused f
+  rules-ends : (f : Refusal) → ruleJudged n limit (i + 4) u ≡ refused f → rulesFrom n limit (m - i) (i + 4) u ≡ refused f
   unfolding rulesFrom
-  rules-ends f e = rw (left-here m i h) (onward-ends (ruleAt n limit (i + 4) u) _ f e)
+  rules-ends f e = rw (left-here m i h) (onward-ends (ruleJudged n limit (i + 4) u) _ f e)
 
-  rules-goes : (w : Written) (v : List ℕ) → ruleAt n limit (i + 4) u ≡ accepted w v
+  rules-goes : (w : Written) (v : List ℕ) → ruleJudged n limit (i + 4) u ≡ accepted w v
       → rulesFrom n limit (m - i) (i + 4) u ≡ onward (rulesFrom n limit (m - (i + 1)) (i + 1 + 4) v) (λ rs. accepted (w ∷ rs))
   unfolding rulesFrom
-  rules-goes w v e = rw (left-here m i h, next-line i) (onward-goes (ruleAt n limit (i + 4) u) _ w v e)
+  rules-goes w v e = rw (left-here m i h, next-line i) (onward-goes (ruleJudged n limit (i + 4) u) _ w v e)
 
 -- ---- what the checker has of it
 
@@ -75,13 +75,13 @@ checked-more n set m body w (refused f) = refl
 
 module _ (n set limit m body i : ℕ) where
   -- a line that is refused ends it
-  pub checked-ends : (u : List ℕ) (f : Refusal) → i < m → ruleAt n limit (i + 4) u ≡ refused f
+  pub checked-ends : (u : List ℕ) (f : Refusal) → i < m → ruleJudged n limit (i + 4) u ≡ refused f
       → checkedRules n set m body (rulesFrom n limit (m - i) (i + 4) u) ≡ Failed f
   unfolding checkedRules
   checked-ends u f h e = rw (rules-ends n limit m i u h f e)
 
   -- after one that is accepted the others decide
-  pub checked-goes : (u : List ℕ) (w : Written) (v : List ℕ) → i < m → ruleAt n limit (i + 4) u ≡ accepted w v
+  pub checked-goes : (u : List ℕ) (w : Written) (v : List ℕ) → i < m → ruleJudged n limit (i + 4) u ≡ accepted w v
       → checkedRules n set m body (rulesFrom n limit (m - i) (i + 4) u) ≡ checkedRules n set m body (rulesFrom n limit (m - (i + 1)) (i + 1 + 4) v)
   checked-goes u w v h e = rw (rules-goes n limit m i u h w v e) (checked-more n set m body w (rulesFrom n limit (m - (i + 1)) (i + 1 + 4) v))
 
@@ -106,7 +106,7 @@ unfolding rulesFrom
 rules-count n limit zero line [] ws v e = (let z : [] ≡ ws = cc in ap length (sym z), cc)
 rules-count n limit zero line (b ∷ u) ws v e = not-accepted e
 rules-count n limit (suc k) line u ws v e =
-    let p = onward-accepted (ruleAt n limit line u) _ ws v e in
+    let p = onward-accepted (ruleJudged n limit line u) _ ws v e in
     let q = onward-accepted (rulesFrom n limit k (suc line) (p .rest)) _ ws v (p .then) in
     let r = rules-count n limit k (suc line) (p .rest) (q .value) (q .rest) (q .first) in
     let z : p .value ∷ q .value ≡ ws = cc in
@@ -117,7 +117,7 @@ pub record Next (n limit m i : ℕ) (u : List ℕ) (ws : List Written) : Type 0 
   pub first : Written
   pub others : List Written
   pub rest : List ℕ
-  pub line : ruleAt n limit (i + 4) u ≡ accepted first rest
+  pub line : ruleJudged n limit (i + 4) u ≡ accepted first rest
   pub further : rulesFrom n limit (m - (i + 1)) (i + 1 + 4) rest ≡ accepted others []
   pub all : ws ≡ first ∷ others
 
@@ -125,7 +125,7 @@ pub rules-next : (n limit m i : ℕ) (u : List ℕ) (ws : List Written) → i < 
     → Next n limit m i u ws
 unfolding rulesFrom
 rules-next n limit m i u ws h e =
-    let p = onward-accepted (ruleAt n limit (i + 4) u) _ ws [] (rw (left-here m i h) at e) in
+    let p = onward-accepted (ruleJudged n limit (i + 4) u) _ ws [] (rw (left-here m i h) at e) in
     let q = onward-accepted (rulesFrom n limit (m - (i + 1)) (suc (i + 4)) (p .rest)) _ ws [] (p .then) in
     let z : q .rest ≡ [] = cc in
     record {

@@ -60,7 +60,7 @@ module _ (limit : ℕ) (s : List ℕ) where
     rest = b ∷ u;
     reached = r;
     none = λ l e f v q. omega (arith, kind-below l, ended-due limit n qs m rs h);
-    unfinished = λ e q. let z : _≡_ {A = ℕ} 0 1 = cc in omega arith;
+    follows = λ e q. let z : _≡_ {A = ℕ} 0 1 = cc in omega arith;
   })
 
   -- ---- a line, and what is told after it
@@ -90,7 +90,7 @@ module _ (limit : ℕ) (s : List ℕ) where
       within = e;
       cancels = g;
     }
-    answer-tells a v r f true e false g = after a v (reaches-next d a v r (record { formed = f; within = e; distinct = g }))
+    answer-tells a v r f true e false g = after a v (reaches-next d a v r (record { formed = f; within = e; uncancelled = g }))
 
     -- a line that is spelled, and then any line
     spelled-tells : (a : Value k) (v : List ℕ) → At limit s o (lineText (lineWith k a) ++ v) → WellFormed (lineWith k a)
@@ -111,7 +111,7 @@ module _ (limit : ℕ) (s : List ℕ) where
           rest = u;
           reached = r;
           none = none;
-          unfinished = λ e q. omega (arith, d .due, d .some);
+          follows = λ e q. omega (arith, d .due, d .some);
         })
 
   -- ---- each opening in turn, from the last

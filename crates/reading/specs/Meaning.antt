@@ -12,7 +12,7 @@ use Rattle.rules.specs.declared.refusal.Refusal.the-variants.{Size, Malformed, 
 use Rattle.rules.specs.Limits.{maxBound, maxText}
 use Rattle.lines.specs.Spelling.{Written, Line, quantities, hidden, rules, rule, lineText, WellFormed, lineWithin, lineCancels}
 use Rattle.lines.specs.Lines.{Judged, accepted, refused}
-use Rattle.lines.specs.Answers.{setOf}
+use Rattle.rules.specs.Hidden.{setOf}
 use Rattle.reading.specs.Texts.{Contents, ruleLines, linesText, sheetText}
 
 -- ---- the first lines of a text
@@ -56,7 +56,7 @@ dueKind (ruled n qs m rs) = cond (ltb (length rs) m) 3 4
 pub record Fine (n limit : ℕ) (l : Line) : Type 0 where
   pub formed : WellFormed l
   pub within : lineWithin n limit l ≡ true
-  pub distinct : lineCancels l ≡ false
+  pub uncancelled : lineCancels l ≡ false
 
 abbrev pub AllFine : ℕ → ℕ → List Line → Type 0
 AllFine n limit [] = Unit {0}
@@ -91,7 +91,7 @@ pub record MalformedAt (limit : ℕ) (s : List ℕ) (line : ℕ) : Type 0 where
   pub rest : List ℕ
   pub reached : Reaches limit s opening line rest
   pub none : (l : Line) → lineKind l ≡ dueKind opening → WellFormed l → (u : List ℕ) → rest ≡ lineText l ++ u → ⊥
-  pub unfinished : dueKind opening ≡ 4 → rest ≡ [] → ⊥
+  pub follows : dueKind opening ≡ 4 → rest ≡ [] → ⊥
 
 -- 3: the line due is spelled here, with a number outside its limit
 pub record OutsideAt (limit : ℕ) (s : List ℕ) (line : ℕ) : Type 0 where

@@ -12,8 +12,8 @@ use Rattle.rules.specs.Limits.{maxQuantities, maxBound, maxRules, maxText}
 use Rattle.rules.specs.Refusal.{refusalNumber, refusalValues}
 use Rattle.tables.specs.Tables.{tableOf}
 use Rattle.lines.specs.Spelling.{Written, quantitiesKey, rulesKey, writtenRules}
-use Rattle.lines.specs.Lines.{Judged, accepted, refused, countAt, hiddenAt, ruleAt}
-use Rattle.lines.specs.Answers.{setOf}
+use Rattle.lines.specs.Lines.{Judged, accepted, refused, countJudged, hiddenJudged, ruleJudged}
+use Rattle.rules.specs.Hidden.{setOf}
 use Rattle.reading.specs.declared.check.Checked.{Checked}
 use Rattle.reading.specs.declared.check.Checked.the-variants.{Sheet}
 use Rattle.reading.specs.declared.check.Checked.the-variants.{Refused as Failed}
@@ -31,14 +31,14 @@ unfoldable pub rulesFrom : ℕ → ℕ → ℕ → ℕ → List ℕ → Judged (
 rulesFrom n limit zero line [] = accepted [] []
 rulesFrom n limit zero line (b ∷ u) = refused (Malformed line)
 rulesFrom n limit (suc k) line u =
-    onward (ruleAt n limit line u) (λ r v. onward (rulesFrom n limit k (suc line) v) (λ rs. accepted (r ∷ rs)))
+    onward (ruleJudged n limit line u) (λ r v. onward (rulesFrom n limit k (suc line) v) (λ rs. accepted (r ∷ rs)))
 
 -- the lines of a text
 unfoldable pub linesFrom : ℕ → List ℕ → Judged Contents
 linesFrom limit s =
-    onward (countAt quantitiesKey 1 maxQuantities 1 s) (λ n u.
-    onward (hiddenAt n 2 u) (λ qs v.
-    onward (countAt rulesKey 0 maxRules 3 v) (λ m w.
+    onward (countJudged quantitiesKey 1 maxQuantities 1 s) (λ n u.
+    onward (hiddenJudged n 2 u) (λ qs v.
+    onward (countJudged rulesKey 0 maxRules 3 v) (λ m w.
     onward (rulesFrom n limit m 4 w) (λ rs. accepted (record { count = n; hiddens = qs; written = rs })))))
 
 -- what a text writes, or its refusal: 1 for its size, else that of the first line that fails

@@ -1,6 +1,8 @@
 // The hidden set, a number with bit q - 1 for quantity q, decoded here alone.
 ghost use mathlib.Core.Path.{_≡_};
-ghost use Rattle.rules.specs.Hidden.{hiddenIn};
+ghost use Prim.Native.Nat.{_≤_};
+ghost use Rattle.rules.specs.Hidden.{hiddenIn, bitOf};
+ghost use Rattle.rules.specs.Limits.{maxQuantities};
 ghost use Rattle.rules.specs.Promises.{InRange};
 
 // The bits of a set's type.
@@ -18,6 +20,15 @@ pub fn is_hidden(set: u32, q: usize) -> bool
     }
     let bit = q - 1;
     (set >> bit) % 2 == 1
+}
+
+// The set of quantity `q` alone.
+pub fn bit(q: usize) -> u32
+    requires { ⌜ (1 ≤ q) × (q ≤ maxQuantities) ⌝ }
+    ensures { λ r. ⌜ r ≡ bitOf q ⌝ }
+{
+    let place = q - 1;
+    1 << place
 }
 
 // Whether the set has no quantity past `n`; where `n` is at least the number of bits every set is so.

@@ -51,11 +51,11 @@ bound-within (negsuc v) h = le-leb (suc v) maxBound (omega (arith, within-to h))
 -- a rule that has a place and a bound of a sheet may stand in a text
 rule-fine : (n : ℕ) (r : Rule) → HasPlace n r → Within (pos maxBound) (boundOf r) → Fine n maxBound (rule (writtenOf r))
 unfolding writtenOf lineWithin cancelling
-rule-fine n (One x c) u w = record { formed = tt; within = rw (literal-within n x u, bound-within c w); distinct = refl }
+rule-fine n (One x c) u w = record { formed = tt; within = rw (literal-within n x u, bound-within c w); uncancelled = refl }
 rule-fine n (Two x y c) u w = record {
   formed = tt;
   within = rw (literal-within n x (u .0), literal-within n y (u .1), bound-within c w);
-  distinct = rw (ne-eqb (quantityOf x) (quantityOf y) (u .2));
+  uncancelled = rw (ne-eqb (quantityOf x) (quantityOf y) (u .2));
 }
 rule-fine n (Nothing c) u w = absurd u
 
@@ -83,11 +83,11 @@ module _ (n set : ℕ) (t : List ℤ) (some : 1 ≤ n) (most : n ≤ maxQuantiti
   written-spells = record {
     text = refl;
     fine = (
-      record { formed = tt; within = rw (le-leb 1 n some, le-leb n maxQuantities most); distinct = refl },
+      record { formed = tt; within = rw (le-leb 1 n some, le-leb n maxQuantities most); uncancelled = refl },
       (
-        record { formed = hidden-increasing n set; within = hidden-within n set; distinct = refl },
+        record { formed = hidden-increasing n set; within = hidden-within n set; uncancelled = refl },
         (
-          record { formed = tt; within = le-leb (length (tableRules n t)) maxRules (omega (arith, rules-count 0 front, size)); distinct = refl },
+          record { formed = tt; within = le-leb (length (tableRules n t)) maxRules (omega (arith, rules-count 0 front, size)); uncancelled = refl },
           rules-fine n 0 front (omega (arith, size)) inside,
         ),
       ),

@@ -28,13 +28,13 @@ use Rattle.numerals.specs.Decimal.{decimalUpTo, decimal, signedDecimal}
 use Rattle.numerals.proofs.Decimals.{decimal-width, signed-width}
 use Rattle.lines.specs.Spelling.{Written, termText, ruleText, joinedText, listText, valueText, lineText}
 use Rattle.reading.specs.Texts.{Contents, ruleLines, linesText, headerText, sheetText}
-use Rattle.writing.specs.Writing.{termOf, writtenOf, ruleLineText, rulesAt, tableRules, hiddenFrom, hiddenList, contentsOf, writtenText}
+use Rattle.writing.specs.Writing.{literalTerm, writtenOf, ruleLineText, rulesAt, tableRules, hiddenFrom, hiddenList, contentsOf, writtenText}
 use Rattle.writing.proofs.Meanings.{front-word, AreWords}
 
 -- ---- a rule's line
 
 -- a literal of one of 32 quantities
-term-length : (x : ℕ) → x < 64 → length (termText (termOf x)) ≤ 3
+term-length : (x : ℕ) → x < 64 → length (termText (literalTerm x)) ≤ 3
 unfolding termText
 term-length x h = omega (arith, decimal-width 1 (quantityOf x) (omega arith))
 

@@ -20,29 +20,29 @@ use Rattle.rules.specs.Literal.{quantityOf}
 use Rattle.rules.specs.Meaning.{boundOf}
 use Rattle.tables.specs.Places.{HasPlace}
 use Rattle.lines.specs.Spelling.{ruleKey, termText, ruleText, valueText, lineText}
-use Rattle.writing.specs.Writing.{termOf, writtenOf, termsText, boundText, ruleLineText}
+use Rattle.writing.specs.Writing.{literalTerm, writtenOf, termsText, boundText, ruleLineText}
 
 -- ---- a literal
 
 -- its sign and its quantity's number
-pub term-text : (x b : ℕ) → cond (eqb (x % 2) 1) minus plus ≡ b → termText (termOf x) ≡ (b ∷ []) ++ decimal (quantityOf x)
+pub term-text : (x b : ℕ) → cond (eqb (x % 2) 1) minus plus ≡ b → termText (literalTerm x) ≡ (b ∷ []) ++ decimal (quantityOf x)
 unfolding termText
 term-text x b e = ap (λ (s : ℕ). s ∷ decimal (quantityOf x)) e
 
 -- one byte more than the number
-pub term-length : (x : ℕ) → length (termText (termOf x)) ≡ suc (length (decimal (quantityOf x)))
+pub term-length : (x : ℕ) → length (termText (literalTerm x)) ≡ suc (length (decimal (quantityOf x)))
 unfolding termText
 term-length x = refl
 
 -- ---- the terms of a rule
 
 -- of one literal
-pub terms-one : {x : ℕ} {c : ℤ} {r : Rule} → r ≡ One x c → termsText r ≡ termText (termOf x)
+pub terms-one : {x : ℕ} {c : ℤ} {r : Rule} → r ≡ One x c → termsText r ≡ termText (literalTerm x)
 unfolding termsText
 terms-one e = ap termsText e
 
 -- of two
-pub terms-two : {x y : ℕ} {c : ℤ} {r : Rule} → r ≡ Two x y c → termsText r ≡ termText (termOf x) ++ termText (termOf y)
+pub terms-two : {x y : ℕ} {c : ℤ} {r : Rule} → r ≡ Two x y c → termsText r ≡ termText (literalTerm x) ++ termText (literalTerm y)
 unfolding termsText
 terms-two e = ap termsText e
 
@@ -53,8 +53,8 @@ terms-bare e = ap termsText e
 
 -- the length of two
 pub terms-two-length : {x y : ℕ} {c : ℤ} {r : Rule} → r ≡ Two x y c
-    → length (termsText r) ≡ length (termText (termOf x)) + length (termText (termOf y))
-terms-two-length {x} {y} e = ap length (terms-two e) ∙ length-append (termText (termOf x)) (termText (termOf y))
+    → length (termsText r) ≡ length (termText (literalTerm x)) + length (termText (literalTerm y))
+terms-two-length {x} {y} e = ap length (terms-two e) ∙ length-append (termText (literalTerm x)) (termText (literalTerm y))
 
 -- ---- a rule's line
 
@@ -85,18 +85,18 @@ pub measured-short : {c d : ℤ} {b : ℕ} → mag c < 2 ^ 63 → d ≡ c → b 
 measured-short {c} h e m = omega (arith, rw e at m, word-short c (record { sfits = h }))
 
 -- a literal of 32 bits has at most 11
-pub literal-small : (x : ℕ) → x < 2 ^ 32 → length (termText (termOf x)) ≤ 11
+pub literal-small : (x : ℕ) → x < 2 ^ 32 → length (termText (literalTerm x)) ≤ 11
 literal-small x h = omega (arith, term-length x, decimal-width 9 (quantityOf x) (omega arith))
 
 -- a literal of a sheet has at most 3
-pub literal-short : (x : ℕ) → x < 2 * maxQuantities → length (termText (termOf x)) ≤ 3
+pub literal-short : (x : ℕ) → x < 2 * maxQuantities → length (termText (literalTerm x)) ≤ 3
 literal-short x h = omega (arith, term-length x, decimal-width 1 (quantityOf x) (omega arith))
 
 -- the terms of a table's rule have at most 6
 terms-short : (r : Rule) → HasPlace maxQuantities r → length (termsText r) ≤ 6
 unfolding termsText
 terms-short (One x c) p = omega (arith, literal-short x p)
-terms-short (Two x y c) p = omega (arith, length-append (termText (termOf x)) (termText (termOf y)), literal-short x (p .0), literal-short y (p .1))
+terms-short (Two x y c) p = omega (arith, length-append (termText (literalTerm x)) (termText (literalTerm y)), literal-short x (p .0), literal-short y (p .1))
 terms-short (Nothing c) p = absurd p
 
 -- and its line at most 33

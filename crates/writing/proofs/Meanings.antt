@@ -30,19 +30,19 @@ use Rattle.tables.specs.Meaning.{ruleIn, Satisfies, MeetsAll}
 use Rattle.tables.proofs.Tests.{clash}
 use Rattle.tables.proofs.Places.{ruleAt-bound, ruleAt-found}
 use Rattle.lines.specs.Spelling.{signedQuantity, writtenRule, writtenRules}
-use Rattle.writing.specs.Writing.{termOf, writtenOf, rulesAt, tableRules}
+use Rattle.writing.specs.Writing.{literalTerm, writtenOf, rulesAt, tableRules}
 
 -- ---- a rule
 
 -- the signed number of a literal is that literal's
-signed-literal : (x : ℕ) → literalOf (signedQuantity (termOf x)) ≡ x
+signed-literal : (x : ℕ) → literalOf (signedQuantity (literalTerm x)) ≡ x
 signed-literal x = ⊎-elim
     (λ e. rw (ne-eqb (x % 2) 1 (omega arith), add-one (x / 2)) (omega arith))
     (λ e. rw (eq-eqb (x % 2) 1 e, add-one (x / 2)) (omega arith))
     (sign-cases x)
 
 -- and it names a quantity
-signed-some : (x : ℕ) → isNone (signedQuantity (termOf x)) ≡ false
+signed-some : (x : ℕ) → isNone (signedQuantity (literalTerm x)) ≡ false
 signed-some x = ⊎-elim
     (λ e. rw (ne-eqb (x % 2) 1 (omega arith), add-one (x / 2)))
     (λ e. rw (eq-eqb (x % 2) 1 e, add-one (x / 2)))

@@ -12,7 +12,7 @@ use lib.Pow.{pow-lt, pow-add, shl-shr, shr-shr, high}
 use borrow.Author.Tests.{ltb-true, ltb-false, le-leb, eqb-true, eqb-false, eq-eqb, ne-eqb}
 use Rattle.rules.specs.Hidden.{hiddenIn, setWithin}
 use Rattle.lines.specs.Spelling.{IncreasingFrom, allWithin}
-use Rattle.lines.specs.Answers.{setOf}
+use Rattle.rules.specs.Hidden.{setOf}
 use Rattle.writing.specs.Writing.{hiddenFrom, hiddenList}
 
 -- ---- the list

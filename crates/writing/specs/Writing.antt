@@ -28,19 +28,19 @@ use Rattle.writing.specs.declared.write.Writing.the-variants.{Text, Refu
 -- ---- rules
 
 -- a literal as a signed quantity number
-abbrev pub termOf : ℕ → Term
-termOf x = record { negative = eqb (x % 2) 1; quantity = quantityOf x }
+abbrev pub literalTerm : ℕ → Term
+literalTerm x = record { negative = eqb (x % 2) 1; quantity = quantityOf x }
 
 -- a rule as it is written; a bare one, which no table holds, has the term +0
 unfoldable pub writtenOf : Rule → Written
-writtenOf (One x c) = one (termOf x) c
-writtenOf (Two x y c) = two (termOf x) (termOf y) c
+writtenOf (One x c) = one (literalTerm x) c
+writtenOf (Two x y c) = two (literalTerm x) (literalTerm y) c
 writtenOf (Nothing c) = one (record { negative = false; quantity = 0 }) c
 
 -- the terms of a rule as they are written
 unfoldable pub termsText : Rule → List ℕ
-termsText (One x c) = termText (termOf x)
-termsText (Two x y c) = termText (termOf x) ++ termText (termOf y)
+termsText (One x c) = termText (literalTerm x)
+termsText (Two x y c) = termText (literalTerm x) ++ termText (literalTerm y)
 termsText (Nothing c) = plus ∷ digitZero ∷ []
 
 -- a bound with the colon before it and the line's end

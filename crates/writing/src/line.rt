@@ -7,19 +7,19 @@ ghost use Prim.Native.Nat.{_+_, _≤_};
 ghost use lib.ListN.{length};
 ghost use Rattle.numerals.specs.Writing.{Spliced};
 ghost use Rattle.lines.specs.Spelling.{termText};
-ghost use Rattle.writing.specs.Writing.{termOf, termsText, boundText, ruleLineText};
+ghost use Rattle.writing.specs.Writing.{literalTerm, termsText, boundText, ruleLineText};
 
 // How many bytes a literal takes, as +1 or -12.
 fn term_width(x: u32) -> usize
-    ensures { λ r. ⌜ r ≡ length (termText (termOf x)) ⌝ }
+    ensures { λ r. ⌜ r ≡ length (termText (literalTerm x)) ⌝ }
 {
     1 + write::width(literal::quantity(x) as u64)
 }
 
 // Writes a literal; answers the cursor after it.
 fn put_term(out: &mut [u8], at: usize, x: u32) -> usize
-    requires { ⌜ at + length (termText (termOf x)) ≤ length (now out) ⌝ }
-    ensures { λ r. ⌜ Spliced (now (out .entry)) at (termText (termOf x)) r (now (out .exit)) ⌝ }
+    requires { ⌜ at + length (termText (literalTerm x)) ≤ length (now out) ⌝ }
+    ensures { λ r. ⌜ Spliced (now (out .entry)) at (termText (literalTerm x)) r (now (out .exit)) ⌝ }
 {
     let q = literal::quantity(x) as u64;
     if x % 2 == 1 {

@@ -13,7 +13,7 @@ use Rattle.numerals.specs.Parsing.{parsed, andThen, startsWith, kindAt}
 use Rattle.numerals.proofs.Keys.{kind-else, kind-inside, starts-length}
 use Rattle.numerals.proofs.Numerals.{NumeralFound, numeral-found, numeral-none}
 use Rattle.lines.specs.declared.answer.Answer.the-variants.{Count}
-use Rattle.lines.specs.Lines.{ended, countAt}
+use Rattle.lines.specs.Lines.{ended, countJudged}
 use Rattle.lines.specs.Answers.{countAnswer}
 use Rattle.lines.proofs.Ends.{ended-here, ended-not}
 use Rattle.lines.proofs.Counts.{formAnswer, count-unkeyed, count-keyed, count-malformed, count-low, count-high, count-inside}
@@ -78,7 +78,7 @@ found c = let n = c .before .before in let a = start c .args in
 
 -- the answer is that of the line's end after it
 numbered : (c : tie.After-got) → let a = start c .args in
-    countAnswer (now (a .s)) (countAt (now (a .key)) (a .least) (a .most) (a .line) (drop (a .at) (now (a .s))))
+    countAnswer (now (a .s)) (countJudged (now (a .key)) (a .least) (a .most) (a .line) (drop (a .at) (now (a .s))))
     ≡ formAnswer (now (a .s)) (a .least) (a .most) (a .line) (ended (found c .value) (drop (c .got .given .0 .1 .0) (now (a .s))))
 unfolding andThen
 numbered c = let a = start c .args in
@@ -108,7 +108,7 @@ end-inside c = let g = c .before .before .before .before in let a = start g .arg
 
 -- the answer is that of the number
 read : (c : tie.After-enum-told2) → let g = c .before .before .before .before in let a = start g .args in
-    countAnswer (now (a .s)) (countAt (now (a .key)) (a .least) (a .most) (a .line) (drop (a .at) (now (a .s))))
+    countAnswer (now (a .s)) (countJudged (now (a .key)) (a .least) (a .most) (a .line) (drop (a .at) (now (a .s))))
     ≡ formAnswer (now (a .s)) (a .least) (a .most) (a .line) (parsed (found g .value) (drop (g .got .given .0 .1 .0 + 1) (now (a .s))))
 read c = let g = c .before .before .before .before in let a = start g .args in
     numbered g ∙ rw (ended-here (found g .value) (now (a .s)) (g .got .given .0 .1 .0) (line-end c))

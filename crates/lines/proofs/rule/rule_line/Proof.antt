@@ -6,7 +6,7 @@ use borrow.Author.Needs.{needs}
 use Rattle.integers.proofs.Parts.{held-value}
 use Rattle.lines.specs.declared.spelled.Spelled.{Spelled}
 use Rattle.lines.specs.declared.spelled.Spelled.the-variants.{One, Two, Nothing}
-use Rattle.lines.specs.Lines.{ruleLine, ruleAt}
+use Rattle.lines.specs.Lines.{ruleLine, ruleJudged}
 use Rattle.lines.specs.Answers.{formAnswer, ruleAnswer}
 use Rattle.lines.proofs.RuleLimits.{form-judged}
 use Rattle.lines.proofs.rule.rule_line.Statement.{statement}
@@ -19,8 +19,8 @@ spelled-at-requires c κs = search needs
 judged-form : (c : tie.After-spelled-at) → let a = c .before .before .args in
     (f : Spelled) → c .spelled-at .result ≡ f
     → formAnswer (a .n) (a .limit) (a .line) f
-    ≡ ruleAnswer (now (a .s)) (ruleAt (a .n) (a .limit) (a .line) (drop (a .at) (now (a .s))))
-unfolding ruleAt
+    ≡ ruleAnswer (now (a .s)) (ruleJudged (a .n) (a .limit) (a .line) (drop (a .at) (now (a .s))))
+unfolding ruleJudged
 judged-form c f e = let t = c .before .before in let a = t .args in
     ap (formAnswer (a .n) (a .limit) (a .line)) (sym e ∙ c .spelled-at .ensures)
     ∙ form-judged (a .n) (a .limit) (a .line) (now (a .s)) (ruleLine (drop (a .at) (now (a .s)))) (t .pre .0) (t .pre .1)

@@ -9,7 +9,7 @@ use denote.Ref.{now}
 use borrow.Author.Needs.{needs}
 use Rattle.rules.specs.Limits.{maxQuantities, maxRules, maxText}
 use Rattle.lines.specs.Spelling.{quantitiesKey, rulesKey}
-use Rattle.lines.specs.Lines.{countAt, hiddenAt}
+use Rattle.lines.specs.Lines.{countJudged, hiddenJudged}
 use Rattle.lines.specs.Answers.{refusalOf}
 use Rattle.lines.proofs.Found.{CountFound, HiddenFound, count-found, hidden-found, count-refused, hidden-refused}
 use Rattle.reading.proofs.Promised.{check-promised}
@@ -75,7 +75,7 @@ refused-requires c κs = search needs
 
 returns-2 : tie.Need-returns-2
 returns-2 c = let l = c .before .before in let s = now (l .before .before .before .before .args .s) in let a = l .count-line .result in
-    let f = count-refused s (countAt quantitiesKey 1 maxQuantities 1 s) a (l .count-line .ensures) (c .before .match .keys2) in
+    let f = count-refused s (countJudged quantitiesKey 1 maxQuantities 1 s) a (l .count-line .ensures) (c .before .match .keys2) in
     check-promised _ _ (c .refused .ensures ∙ first-checked s (l .before .before .if1 .left) (refusalOf a) (f .is))
 
 hidden-line-requires : tie.Need-hidden-line-requires
@@ -89,7 +89,7 @@ refused-requires-2 c κs = search needs
 
 returns-3 : tie.Need-returns-3
 returns-3 c = let l = c .before .before in let f = l .before in let a = l .hidden-line .result in let u = drop (secondAt f) (textOf f) in
-    let r = hidden-refused (textOf f) (hiddenAt (countOf f) 2 u) a (l .hidden-line .ensures) (c .before .match2 .keys2) in
+    let r = hidden-refused (textOf f) (hiddenJudged (countOf f) 2 u) a (l .hidden-line .ensures) (c .before .match2 .keys2) in
     check-promised _ _ (c .refused2 .ensures ∙ second-checked (textOf f) (small f) (countOf f) u (first f .is) (refusalOf a) (r .is))
 
 slice-aggregate-count-line-2 : tie.Need-slice-aggregate-count-line-2
@@ -107,7 +107,7 @@ refused-requires-3 c κs = search needs
 returns-4 : tie.Need-returns-4
 returns-4 c = let l = c .before .before in let k = l .before .before in let f = k .before .before .before .before in let a = l .count-line2 .result in
     let v = drop (thirdAt k) (textOf f) in
-    let r = count-refused (textOf f) (countAt rulesKey 0 maxRules 3 v) a (l .count-line2 .ensures) (c .before .match3 .keys2) in
+    let r = count-refused (textOf f) (countJudged rulesKey 0 maxRules 3 v) a (l .count-line2 .ensures) (c .before .match3 .keys2) in
     check-promised _ _ (c .refused3 .ensures ∙ third-checked (textOf f) (small f) (countOf f) (drop (secondAt f) (textOf f)) (first f .is)
     (second k .members) v (second k .is) (refusalOf a) (r .is))
 

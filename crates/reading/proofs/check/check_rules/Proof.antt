@@ -8,7 +8,7 @@ use lib.ListN.{drop}
 use denote.Ref.{now}
 use borrow.Author.Needs.{needs}
 use Rattle.lines.specs.Answers.{refusalOf}
-use Rattle.lines.specs.Lines.{ruleAt}
+use Rattle.lines.specs.Lines.{ruleJudged}
 use Rattle.lines.proofs.Found.{rule-found, rule-refused}
 use Rattle.reading.specs.Reading.{rulesFrom, checkedRules}
 use Rattle.reading.proofs.RuleLines.{checked-ends, checked-goes, checked-over, checked-done}
@@ -42,7 +42,7 @@ refused-requires c κs = search needs
 returns : tie.Need-returns Inv-loop μ-loop
 returns c = let g = c .before .before in let l = g .before .before in let a = l .before .before .args in let u = drop (l .loop .at) (now (a .s)) in
     let r = g .rule-line .result in
-    let f = rule-refused (now (a .s)) (ruleAt (a .n) (a .limit) (l .loop .i + 4) u) r (g .rule-line .ensures) (c .before .match .keys2) in
+    let f = rule-refused (now (a .s)) (ruleJudged (a .n) (a .limit) (l .loop .i + 4) u) r (g .rule-line .ensures) (c .before .match .keys2) in
     c .refused .ensures
     ∙ sym (checked-ends (a .n) (a .hidden) (a .limit) (a .count) (a .body) (l .loop .i) u (refusalOf r) (g .before .loop-test .taken) (f .is))
     ∙ l .loop .inv .1

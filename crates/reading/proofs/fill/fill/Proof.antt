@@ -8,7 +8,7 @@ use denote.Ref.{now}
 use borrow.Author.Needs.{needs}
 use Rattle.rules.specs.Limits.{maxBound}
 use Rattle.lines.specs.Answers.{refusalOf}
-use Rattle.lines.specs.Lines.{ruleAt}
+use Rattle.lines.specs.Lines.{ruleJudged}
 use Rattle.lines.proofs.Found.{rule-found, rule-refused}
 use Rattle.reading.specs.Reading.{checkText, filled}
 use Rattle.reading.proofs.Headers.{Opened, passed-opened}
@@ -63,7 +63,7 @@ same-length c = long (c .before .before .before)
 returns : tie.Need-returns Inv-loop μ-loop
 returns c = let g = c .before in let l = g .before .before in let a = l .before .before .before .before .before .args in
     let u = drop (l .loop .at) (now (a .s)) in let r = g .rule-line .result in
-    let f = rule-refused (now (a .s)) (ruleAt (a .n) maxBound (l .loop .i + 4) u) r (g .rule-line .ensures) (c .match .keys2) in
+    let f = rule-refused (now (a .s)) (ruleJudged (a .n) maxBound (l .loop .i + 4) u) r (g .rule-line .ensures) (c .match .keys2) in
     absurd (never-stuck (now (a .s)) (a .n) (a .count) (l .before .before .empty .last .1 .0) (l .loop .table) (l .loop .at) (l .loop .i)
     (l .loop .inv) (refusalOf r) (g .before .loop-test .taken) (f .is))
 

@@ -12,7 +12,7 @@ use Rattle.numerals.specs.Bytes.{plus, minus}
 use Rattle.numerals.specs.Decimal.{decimal}
 use Rattle.numerals.proofs.Splices.{spliced-more}
 use Rattle.lines.specs.Spelling.{termText}
-use Rattle.writing.specs.Writing.{termOf}
+use Rattle.writing.specs.Writing.{literalTerm}
 use Rattle.writing.proofs.Lines.{term-text, term-length}
 use Rattle.writing.proofs.line.put_term.Statement.{statement}
 use Rattle.writing.proofs.line.put_term.Tie as tie
@@ -21,12 +21,12 @@ quantity-requires : tie.Need-quantity-requires
 quantity-requires c κs = search needs
 
 -- a literal takes its sign and the number of its quantity
-room : (q : tie.After-quantity) → length (termText (termOf (q .before .before .args .x))) ≡ suc (length (decimal (q .quantity .result)))
+room : (q : tie.After-quantity) → length (termText (literalTerm (q .before .before .args .x))) ≡ suc (length (decimal (q .quantity .result)))
 room q = rw (q .quantity .ensures) (term-length (q .before .before .args .x))
 
 -- they are its text
 text : (q : tie.After-quantity) (b : ℕ) → cond (eqb (q .before .before .args .x % 2) 1) minus plus ≡ b
-    → termText (termOf (q .before .before .args .x)) ≡ (b ∷ []) ++ decimal (q .quantity .result)
+    → termText (literalTerm (q .before .before .args .x)) ≡ (b ∷ []) ++ decimal (q .quantity .result)
 text q b e = rw (q .quantity .ensures) (term-text (q .before .before .args .x) b e)
 
 put-byte-requires : tie.Need-put-byte-requires

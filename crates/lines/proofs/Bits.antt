@@ -1,12 +1,11 @@
 -- The hidden set as numbers are added to it, each above all before it: its bits stay apart, so that sums are sets. Assumes nothing.
 use mathlib.Core.Path.{_≡_, refl, sym, _∙_, ap}
 use mathlib.Core.Bool.{Bool, true, false}
-use Prim.Native.Nat.{ℕ, zero, suc, _+_, _-_, _*_, _%_, _^_, _≤_, _<_}
+use Prim.Native.Nat.{ℕ, suc, _+_, _-_, _*_, _^_, _≤_, _<_}
 use native.Mathlib.Nat.{lt-of-lt-of-le}
-use native.Mathlib.Numerals.{unary-clauses}
 use native.Mathlib.Omega.{arith}
 use lib.Dec.{leb}
-use lib.Pow.{pow-mono, pow-add}
+use lib.Pow.{pow-mono}
 use borrow.Author.Tests.{leb-true, le-leb, lt-leb}
 use Rattle.numerals.specs.Decimal.{capped}
 use Rattle.numerals.proofs.Cases.{both-true}

@@ -23,8 +23,7 @@ use Rattle.rules.specs.Hidden.{setOf}
 use Rattle.lines.specs.declared.answer.Answer.{Answer}
 use Rattle.lines.specs.declared.answer.Answer.the-variants.{Count, Hidden, Refused}
 use Rattle.lines.specs.declared.answer.Answer.the-variants.{Rule as RuleRead}
-use Rattle.lines.specs.Spelling.{Line, Written, quantities, hidden, rules, rule, lineText}
-use Rattle.lines.specs.Spelling.{IncreasingFrom, allWithin, ruleWithin, cancelling, writtenRule}
+use Rattle.lines.specs.Spelling.{Line, Written, quantities, hidden, rules, rule, lineText, IncreasingFrom, allWithin, ruleWithin, cancelling, writtenRule}
 use Rattle.lines.specs.Lines.{Judged, accepted, refused, judged, never, between, countLine, hiddenLine, ruleLine, countJudged, hiddenJudged, ruleJudged}
 use Rattle.lines.specs.Answers.{answerOf, countAnswer, hiddenAnswer, ruleAnswer, refusalOf}
 use Rattle.lines.proofs.answer.Answer.{the-type}

@@ -13,3 +13,4 @@ pub mod Told
 pub mod SignedNumbers
 pub mod RuleForms
 pub mod RuleLimits
+pub mod SetMembers

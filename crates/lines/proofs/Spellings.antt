@@ -8,8 +8,7 @@ use Rattle.numerals.specs.Decimal.{decimal}
 use Rattle.numerals.specs.Parsing.{parsed, andThen, numeralOf}
 use Rattle.numerals.proofs.Keys.{expect-append}
 use Rattle.numerals.proofs.Numerals.{numeral-sound, numeral-complete}
-use Rattle.lines.specs.Spelling.{Written, quantities, hidden, rules, rule, quantitiesKey, hiddenKey, rulesKey, ruleKey}
-use Rattle.lines.specs.Spelling.{ruleText, listText, valueText, lineText, IncreasingFrom}
+use Rattle.lines.specs.Spelling.{Written, quantities, hidden, rules, rule, quantitiesKey, hiddenKey, rulesKey, ruleKey, ruleText, listText, valueText, lineText, IncreasingFrom}
 use Rattle.lines.specs.Lines.{ended, countLine, listOf, hiddenLine, termOf, afterTerm, ruleLine}
 use Rattle.lines.proofs.Forms.{by-both, both-read, by-key, ended-sound, ended-complete, line-parts}
 use Rattle.lines.proofs.WrittenRules.{rule-value-sound, rule-value-complete}

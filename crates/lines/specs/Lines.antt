@@ -2,7 +2,7 @@
 -- 3 before 4).
 use mathlib.Core.Bool.{Bool, false, true, cond}
 use mathlib.Core.List.{List, [], _∷_}
-use Prim.Native.Nat.{ℕ, zero, suc, _+_, _-_, _^_}
+use Prim.Native.Nat.{ℕ, zero, suc}
 use lib.Dec.{leb, eqb}
 use lib.IntN.{ℤ, pos, negsuc}
 use lib.ListN.{length}
@@ -10,8 +10,7 @@ use Rattle.numerals.specs.Bytes.{newline, plus, comma, minus, colon}
 use Rattle.numerals.specs.Parsing.{Parsed, parsed, malformed, andThen, expect, numeralOf}
 use Rattle.rules.specs.declared.refusal.Refusal.{Refusal}
 use Rattle.rules.specs.declared.refusal.Refusal.the-variants.{Malformed, OutOfLimit, Cancelling}
-use Rattle.rules.specs.Limits.{maxQuantities, maxRules}
-use Rattle.lines.specs.Spelling.{Term, Written, one, two, quantitiesKey, hiddenKey, rulesKey, ruleKey, quantityWithin, allWithin, ruleWithin, cancelling}
+use Rattle.lines.specs.Spelling.{Term, Written, one, two, hiddenKey, ruleKey, allWithin, ruleWithin, cancelling}
 
 -- ---- the form of each line
 

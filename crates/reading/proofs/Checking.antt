@@ -13,7 +13,7 @@ use Rattle.lines.specs.Lines.{Judged, accepted, refused, never, between, countL
 use Rattle.rules.specs.Hidden.{setOf}
 use Rattle.lines.proofs.Spellings.{quantities-sound, hidden-sound, rules-sound}
 use Rattle.lines.proofs.Found.{by-accepted}
-use Rattle.reading.specs.declared.check.Checked.the-variants.{Sheet}
+use Rattle.reading.specs.declared.check.Checked.the-variants.{Passed}
 use Rattle.reading.specs.declared.check.Checked.the-variants.{Refused as Failed}
 use Rattle.reading.specs.Texts.{Contents, linesText, headerText}
 use Rattle.reading.specs.Reading.{onward, rulesFrom, linesFrom, checkText, checkedOf, checkedRules}
@@ -88,5 +88,5 @@ module _ (s : List ℕ) (h : length s ≤ maxText) where
           go : (j : Judged (List Written)) → rulesFrom n maxBound m 4 (drop body s) ≡ j
               → checkedRules n (setOf qs) m body j ≡ checkedOf (onward j (λ rs. accepted (made rs)))
           go (accepted ws x) q =
-              let k : length ws ≡ m = rules-count n maxBound m 4 (drop body s) ws x q .0 in ap₂ (Sheet n (setOf qs)) (sym k) (begins ws k)
+              let k : length ws ≡ m = rules-count n maxBound m 4 (drop body s) ws x q .0 in ap₂ (Passed n (setOf qs)) (sym k) (begins ws k)
           go (refused f) q = refl

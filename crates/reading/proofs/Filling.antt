@@ -23,9 +23,10 @@ use Rattle.lines.specs.Spelling.{Written, lineWithin, writtenRule, writtenRules
 use Rattle.lines.specs.Lines.{accepted, refused, ruleJudged}
 use Rattle.lines.proofs.Found.{RuleFound}
 use Rattle.reading.specs.Reading.{rulesFrom, checkText, filled}
-use Rattle.reading.specs.Promises.{Passed}
+use Rattle.reading.specs.Meaning.{Passes}
 use Rattle.reading.proofs.FineRules.{fine-accepted}
 use Rattle.reading.proofs.RuleLines.{not-accepted, Next, rules-next, rules-none}
+use Rattle.reading.proofs.Means.{spelled-check}
 use Rattle.reading.proofs.Headers.{Opened, passed-opened}
 use Rattle.reading.proofs.Fronts.{filled-from}
 
@@ -56,9 +57,13 @@ pub record Filling (s : List ℕ) (n count : ℕ) (table₀ table : List ℤ) (a
   pub goal : putAll table (writtenRules left) ≡ filled (checkText s) table₀
   pub kept : length table ≡ length table₀
 
-module _ (s : List ℕ) (n count body : ℕ) (p : Passed s n count body) (t : List ℤ) (r : Reply) (u : List ℤ) (l : blockStart n ≤ length t)
+module _ (s : List ℕ) (n count body : ℕ) (p : Passes s n count body) (t : List ℤ) (r : Reply) (u : List ℤ) (l : blockStart n ≤ length t)
     (e : Emptied n t r u) where
-  -- what the text has
+  -- the text is accepted
+  passed : checkText s ≡ accepted (p .contents) []
+  passed = spelled-check s (p .contents) (p .small) (p .spelled)
+
+  -- what it has
   opened : Opened s n count body (p .contents .written)
   opened = passed-opened s n count body p
 
@@ -76,7 +81,7 @@ module _ (s : List ℕ) (n count body : ℕ) (p : Passed s n count body) (t : Li
   begins : putAll u (writtenRules (p .contents .written)) ≡ filled (checkText s) u
   begins =
       ap (λ (v : List ℤ). putAll v (writtenRules (p .contents .written))) (emptied ∙ ap (λ (v : List ℤ). emptyTable n ++ v) (sym stays))
-      ∙ rw (p .passed) (filled-from n (p .contents) [] u (p .counts) (opened .rules))
+      ∙ rw (passed) (filled-from n (p .contents) [] u (p .counts) (opened .rules))
 
   -- at the start all rules are left
   pub filling-begins : Filling s n count u u body 0
@@ -85,7 +90,7 @@ module _ (s : List ℕ) (n count body : ℕ) (p : Passed s n count body) (t : Li
   -- what the loop asks for is what was asked for before the table was emptied
   pub filled-emptied : filled (checkText s) u ≡ filled (checkText s) t
   unfolding filled
-  filled-emptied = rw (p .passed, ← p .counts, stays)
+  filled-emptied = rw (passed, ← p .counts, stays)
 
 module _ (s : List ℕ) (n count : ℕ) (t₀ t : List ℤ) (at i : ℕ) (f : Filling s n count t₀ t at i) where
   -- no line is refused on the way

@@ -13,10 +13,8 @@ use Rattle.lines.specs.Spelling.{Written, rule, lineText, lineWithin, writtenRu
 use Rattle.lines.specs.Lines.{accepted, judged, ruleJudged}
 use Rattle.lines.proofs.Spellings.{rule-complete}
 use Rattle.reading.specs.Texts.{Contents, ruleLines, linesText, headerText, sheetText}
-use Rattle.reading.specs.Meaning.{Fine, AllFine, Spells}
+use Rattle.reading.specs.Meaning.{Fine, AllFine, Spells, Passes}
 use Rattle.reading.specs.Reading.{onward, rulesFrom}
-use Rattle.reading.specs.Promises.{Passed}
-use Rattle.reading.proofs.Means.{text-means}
 use Rattle.reading.proofs.FineRules.{all-accepted}
 
 -- a fine rule line is accepted, and so are all
@@ -56,6 +54,6 @@ spelled-opened s c p =
     }
 
 -- and so of a text that passed
-pub passed-opened : (s : List ℕ) (n count body : ℕ) (p : Passed s n count body) → Opened s n count body (p .contents .written)
+pub passed-opened : (s : List ℕ) (n count body : ℕ) (p : Passes s n count body) → Opened s n count body (p .contents .written)
 passed-opened s n count body p =
-    rw (p .counts, p .rules, p .begins) (spelled-opened s (p .contents) (text-means s (accepted (p .contents) []) .0 (p .passed) .1))
+    rw (p .counts, p .rules, p .begins) (spelled-opened s (p .contents) (p .spelled))

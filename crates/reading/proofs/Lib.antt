@@ -9,7 +9,9 @@ pub mod Reaching
 pub mod Answering
 pub mod Means
 pub mod FineRules
+pub mod Passing
 pub mod Replies
+pub mod Numbers
 pub mod Promised
 pub mod RuleLines
 pub mod Headers

@@ -6,7 +6,6 @@ use Prim.Native.Nat.{ℕ, _<_}
 use native.Mathlib.Omega.{arith}
 use lib.IntN.{ℤ, pos}
 use lib.ListN.{length, drop, length-append, List·getD-append}
-use lib.Seq.{drop-at}
 use Rattle.words.specs.Change.{wordAt}
 use Rattle.places.specs.Numbering.{blockStart}
 use Rattle.rules.specs.declared.refusal.Refusal.{Refusal}
@@ -17,16 +16,16 @@ use Rattle.tables.specs.Meaning.{Satisfies, MeetsAll}
 use Rattle.tables.proofs.Lists.{tableOf-length, tableOf-meaning}
 use Rattle.lines.specs.Spelling.{writtenRules}
 use Rattle.lines.specs.Lines.{accepted}
-use Rattle.reading.specs.declared.check.Checked.{Checked}
 use Rattle.reading.specs.declared.read.Reading.{Reading}
 use Rattle.reading.specs.declared.read.Reading.the-variants.{Accepted, Refused}
 use Rattle.reading.specs.Texts.{Contents}
 use Rattle.reading.specs.Meaning.{Spells}
-use Rattle.reading.specs.Reading.{checkText, checkedOf, readReply, filled, readTable}
-use Rattle.reading.specs.Promises.{TextChecked, ReadInto}
-use Rattle.reading.proofs.Means.{text-means, spelled-check}
+use Rattle.reading.specs.Reading.{checkText, readReply, filled, readTable, readingNumber}
+use Rattle.reading.specs.Promises.{ReadInto}
+use Rattle.reading.proofs.Means.{spelled-check}
 use Rattle.reading.proofs.FineRules.{all-accepted}
 use Rattle.reading.proofs.Replies.{reading-refused, reading-accepted}
+use Rattle.reading.proofs.Numbers.{returns-refused, refused-returns, returns-accepted, accepted-returns, zero-accepted}
 
 -- words past the table of n quantities do not matter
 front-satisfied : (n : ℕ) (a v : List ℤ) (σ : Assignment) → length a ≡ blockStart n → Satisfies n (a ++ v) σ ↔ Satisfies n a σ
@@ -69,7 +68,7 @@ module _ (s : List ℕ) (t : List ℤ) where
   -- the contents of a text that is accepted, and its table
   record Held (n : ℕ) (c : Contents) : Type 0 where
     counts : n ≡ c .count
-    table : readTable s t ≡ tableOf n (writtenRules (c .written)) ++ drop (blockStart n) t
+    table : readTable s t ≡ tableOf (c .count) (writtenRules (c .written)) ++ drop (blockStart (c .count)) t
 
   held : (n set : ℕ) → readReply s (length t) ≡ Accepted n set → (c : Contents) → Spells maxBound s c → Held n c
   held n set e c p =
@@ -78,38 +77,36 @@ module _ (s : List ℕ) (t : List ℤ) where
       let other = spelled-check s (a .contents) (a .small) (a .spelled) in
       let same : a .contents ≡ c = cc in
       let k : n ≡ c .count = subst (λ (x : Contents). n ≡ x .count) same (a .counts) in
-      record { counts = k; table = rw k (reading-filled s t n set c [] e q) }
+      record { counts = k; table = reading-filled s t n set c [] e q }
 
   -- the table holds what the text writes
-  pub reading-meaning : (n set : ℕ) → readReply s (length t) ≡ Accepted n set → (c : Contents) → Spells maxBound s c
-      → (σ : Assignment) → Satisfies n (readTable s t) σ ↔ MeetsAll σ (writtenRules (c .written))
+  reading-meaning : (n set : ℕ) → readReply s (length t) ≡ Accepted n set → (c : Contents) → Spells maxBound s c
+      → (σ : Assignment) → Satisfies (c .count) (readTable s t) σ ↔ MeetsAll σ (writtenRules (c .written))
   reading-meaning n set e c p σ =
       let h = held n set e c p in
       let rs = writtenRules (c .written) in
-      let f = front-satisfied n (tableOf n rs) (drop (blockStart n) t) σ (tableOf-length n rs) in
-      let m = tableOf-meaning n rs σ (rw (h .counts) (all-accepted (c .count) (c .written) (p .fine .1 .1 .1))) in
+      let f = front-satisfied (c .count) (tableOf (c .count) rs) (drop (blockStart (c .count)) t) σ (tableOf-length (c .count) rs) in
+      let m = tableOf-meaning (c .count) rs σ (all-accepted (c .count) (c .written) (p .fine .1 .1 .1)) in
       rw (h .table) (λ z. m .0 (f .0 z), λ z. f .1 (m .1 z))
 
-  -- and words past it stay
-  pub reading-rest : (n set : ℕ) → readReply s (length t) ≡ Accepted n set → drop (blockStart n) (readTable s t) ≡ drop (blockStart n) t
-  reading-rest n set e =
-      let a = reading-accepted s (length t) n set .0 e in
-      let h = held n set e (a .contents) (a .spelled) in
-      let rs = writtenRules (a .contents .written) in
-      rw (h .table) (drop-at (tableOf n rs) (drop (blockStart n) t) (blockStart n) (tableOf-length n rs))
+  -- the table stays where the number is not 0
+  kept : (readingNumber (readReply s (length t)) ≡ 0 → ⊥) → readTable s t ≡ t
+  kept h = go (readReply s (length t)) refl h
+    where
+      go : (r : Reading) → readReply s (length t) ≡ r → (readingNumber r ≡ 0 → ⊥) → readTable s t ≡ t
+      go (Accepted n set) e h = absurd (h refl)
+      go (Refused f) e h = reading-kept s t f e
 
   -- all that reading into a table promises
   pub read-promised : (r : Reading) (t' : List ℤ) → r ≡ readReply s (length t) → t' ≡ readTable s t → ReadInto s t r t'
   read-promised r t' e f = subst₂ (ReadInto s t) (sym e) (sym f) (record {
     reply = refl;
     words = refl;
-    refused = reading-refused s (length t);
-    accepted = reading-accepted s (length t);
-    meaning = reading-meaning;
-    rest = reading-rest;
-    kept = reading-kept s t;
+    refused = λ f. let w = reading-refused s (length t) f in
+        (λ z. w .0 (returns-refused (readReply s (length t)) f z), λ z. refused-returns (readReply s (length t)) f (w .1 z));
+    accepted = λ n set. let w = reading-accepted s (length t) n set in
+        (λ z. w .0 (returns-accepted (readReply s (length t)) n set z), λ z. accepted-returns (readReply s (length t)) n set (w .1 z));
+    filled = λ z c p. let a = zero-accepted (readReply s (length t)) z in held (a .count) (a .set) (a .is) c p .table;
+    meaning = λ z. let a = zero-accepted (readReply s (length t)) z in reading-meaning (a .count) (a .set) (a .is);
+    kept = kept;
   })
-
--- all that checking a text promises
-pub check-promised : (s : List ℕ) (r : Checked) → r ≡ checkedOf (checkText s) → TextChecked s r
-check-promised s r e = record { reply = e; meaning = text-means s }

@@ -12,10 +12,13 @@ use Rattle.places.specs.Numbering.{blockStart}
 use Rattle.rules.specs.declared.refusal.Refusal.{Refusal}
 use Rattle.rules.specs.declared.refusal.Refusal.the-variants.{TooShort}
 use Rattle.lines.specs.Lines.{Judged, accepted, refused}
-use Rattle.rules.specs.Hidden.{setOf}
+use Rattle.rules.specs.Hidden.{hiddenIn, setOf, isListed}
+use Rattle.rules.specs.Limits.{maxBound}
+use Rattle.lines.specs.Spelling.{lineWithin}
+use Rattle.lines.proofs.SetMembers.{list-members}
 use Rattle.reading.specs.declared.read.Reading.the-variants.{Accepted, Refused}
 use Rattle.reading.specs.Texts.{Contents}
-use Rattle.reading.specs.Meaning.{FailsFor, RefusedFor, AcceptedAs}
+use Rattle.reading.specs.Meaning.{Spells, FailsFor, RefusedFor, AcceptedAs}
 use Rattle.reading.specs.Reading.{checkText, replyTo, readReply}
 use Rattle.reading.proofs.Means.{text-means, spelled-check}
 
@@ -28,6 +31,11 @@ same-refusal : {f g : Refusal} → Refused f ≡ Refused g → f ≡ g
 same-refusal e = cc
 
 -- ---- the reply to a text that was checked
+
+-- the hidden set of a text has the members of its list
+spelled-members : (s : List ℕ) (c : Contents) → Spells maxBound s c → (q : ℕ) → hiddenIn (setOf (c .hiddens)) q ≡ isListed q (c .hiddens)
+unfolding lineWithin
+spelled-members s c p = let f = p .fine .1 .0 in list-members (c .count) (c .hiddens) (f .formed) (f .within)
 
 module _ (s : List ℕ) (words : ℕ) where
   pub reply-checked : (j : Judged Contents) → checkText s ≡ j → readReply s words ≡ replyTo words j
@@ -90,7 +98,8 @@ module _ (s : List ℕ) (words : ℕ) where
               let h = ltb-false words (blockStart (c .count)) t in
               let r : Accepted n set ≡ Accepted (c .count) (setOf (c .hiddens)) = sym e ∙ reply-accepted s words c u q h in
               let k : n ≡ c .count = cc in
-              record { contents = c; small = m .0; spelled = m .1; counts = k; hides = cc; enough = rw k h }
+              let z : set ≡ setOf (c .hiddens) = cc in
+              record { contents = c; small = m .0; spelled = m .1; counts = k; hides = z; members = λ q. rw z (spelled-members s c (m .1) q); enough = rw k h }
 
   accepted-reply : (n set : ℕ) → AcceptedAs s words n set → readReply s words ≡ Accepted n set
   accepted-reply n set h =

@@ -1,6 +1,6 @@
 -- Each way of reading a text into a table: the text is refused, the table is too short, or it is filled. Assumes nothing.
-use mathlib.Core.Path.{_≡_, refl, sym, _∙_, ap}
-use mathlib.Core.List.{List}
+use mathlib.Core.Path.{_≡_, sym, _∙_}
+use mathlib.Core.List.{List, []}
 use Prim.Native.Nat.{ℕ, _≤_, _<_}
 use native.Mathlib.Omega.{arith}
 use lib.IntN.{ℤ}
@@ -11,59 +11,17 @@ use Rattle.rules.specs.declared.refusal.Refusal.{Refusal}
 use Rattle.rules.specs.declared.refusal.Refusal.the-variants.{TooShort}
 use Rattle.rules.specs.Limits.{maxQuantities}
 use Rattle.tables.specs.Tables.{tableSize}
-use Rattle.lines.specs.Lines.{Judged, accepted, refused}
-use Rattle.rules.specs.Hidden.{setOf}
+use Rattle.lines.specs.Lines.{accepted}
 use Rattle.reading.specs.declared.check.Checked.{Checked}
-use Rattle.reading.specs.declared.check.Checked.the-variants.{Sheet}
 use Rattle.reading.specs.declared.check.Checked.the-variants.{Refused as Failed}
 use Rattle.reading.specs.declared.read.Reading.{Reading}
 use Rattle.reading.specs.declared.read.Reading.the-variants.{Accepted, Refused}
-use Rattle.reading.specs.Texts.{Contents}
 use Rattle.reading.specs.Reading.{checkText, checkedOf, refusedBy, replyTo, readReply, filled, readTable}
-use Rattle.reading.specs.Promises.{Passed, ReadInto}
-use Rattle.reading.proofs.Means.{text-means}
+use Rattle.reading.specs.Promises.{ReadInto}
+use Rattle.reading.proofs.Means.{spelled-check}
+use Rattle.reading.proofs.Passing.{Sheeted, failed-refused}
 use Rattle.reading.proofs.Promised.{reading-kept, read-promised}
 use Rattle.reading.proofs.Headers.{passed-opened}
-
--- ---- what the check's answer tells
-
--- a text that passed, with the hidden set too
-pub record Sheeted (s : List ℕ) (n set m body : ℕ) : Type 0 where
-  pub text : Passed s n m body
-  pub hides : set ≡ setOf (text .contents .hiddens)
-
--- a sheet is no refusal
-not-sheet {ℓ} : {X : Type ℓ} {n set m body : ℕ} {f : Refusal} → Sheet n set m body ≡ Failed f → X
-not-sheet e = let z : _≡_ {A = ℕ} 0 1 = cc in let y : ⊥ = omega arith in absurd y
-
--- a sheet is a text that passed
-pub sheet-passed : (s : List ℕ) (r : Checked) (n set m body : ℕ) → r ≡ checkedOf (checkText s) → r ≡ Sheet n set m body → Sheeted s n set m body
-unfolding checkedOf
-sheet-passed s r n set m body e q = go (checkText s) refl (sym q ∙ e)
-  where
-    go : (j : Judged Contents) → checkText s ≡ j → Sheet n set m body ≡ checkedOf j → Sheeted s n set m body
-    go (accepted c u) d f = record {
-      text = record {
-        contents = c;
-        passed = d ∙ ap (accepted c) (text-means s (accepted c u) .0 d .2);
-        counts = cc;
-        rules = cc;
-        begins = cc;
-      };
-      hides = cc;
-    }
-    go (refused g) d f = not-sheet f
-
--- a refusal is that of the text
-failed-refused : (s : List ℕ) (r : Checked) (f : Refusal) → r ≡ checkedOf (checkText s) → r ≡ Failed f → checkText s ≡ refused f
-unfolding checkedOf
-failed-refused s r f e q = go (checkText s) (sym q ∙ e)
-  where
-    go : (j : Judged Contents) → Failed f ≡ checkedOf j → j ≡ refused f
-    go (accepted c u) d = not-sheet (sym d)
-    go (refused g) d = let z : g ≡ f = cc in ap refused z
-
--- ---- each way of reading
 
 -- the text is refused
 pub read-refused : (s : List ℕ) (t : List ℤ) (r : Checked) (f : Refusal) (a : Reading) → r ≡ checkedOf (checkText s) → r ≡ Failed f → a ≡ refusedBy r
@@ -72,6 +30,10 @@ unfolding readReply replyTo readTable
 read-refused s t r f a e q d = read-promised s t a t (rw (d, q, failed-refused s r f e q)) (rw (failed-refused s r f e q))
 
 module _ (s : List ℕ) (n set m body needed : ℕ) (p : Sheeted s n set m body) (k : needed ≡ tableSize n) where
+  -- the text is accepted
+  passed : checkText s ≡ accepted (p .text .contents) []
+  passed = spelled-check s (p .text .contents) (p .text .small) (p .text .spelled)
+
   -- the words that are needed are those of the table
   size-is : needed ≡ blockStart n
   unfolding tableSize
@@ -84,7 +46,7 @@ module _ (s : List ℕ) (n set m body needed : ℕ) (p : Sheeted s n set m body)
   -- the table is too short
   short-reply : (words : ℕ) → words < needed → readReply s words ≡ Refused (TooShort needed)
   unfolding readReply replyTo
-  short-reply words l = rw (p .text .passed, ← p .text .counts, ← size-is, lt-ltb words needed l)
+  short-reply words l = rw (passed, ← p .text .counts, ← size-is, lt-ltb words needed l)
 
   pub read-short : (t : List ℤ) → length t < needed → ReadInto s t (Refused (TooShort needed)) t
   read-short t l =
@@ -93,7 +55,7 @@ module _ (s : List ℕ) (n set m body needed : ℕ) (p : Sheeted s n set m body)
   -- it is filled
   done-reply : (words : ℕ) → needed ≤ words → readReply s words ≡ Accepted n set
   unfolding readReply replyTo
-  done-reply words l = rw (p .text .passed, ← p .text .counts, ← size-is, le-ltb words needed l, ← p .hides)
+  done-reply words l = rw (passed, ← p .text .counts, ← size-is, le-ltb words needed l, ← p .hides)
 
   pub read-done : (t u : List ℤ) → needed ≤ length t → u ≡ filled (checkText s) t → ReadInto s t (Accepted n set) u
   unfolding readTable

@@ -9,7 +9,7 @@ use Rattle.rules.specs.declared.refusal.Refusal.{Refusal}
 use Rattle.rules.specs.declared.refusal.Refusal.the-variants.{Malformed}
 use Rattle.lines.specs.Spelling.{Written}
 use Rattle.lines.specs.Lines.{Judged, accepted, refused, ruleJudged}
-use Rattle.reading.specs.declared.check.Checked.the-variants.{Sheet}
+use Rattle.reading.specs.declared.check.Checked.the-variants.{Passed}
 use Rattle.reading.specs.declared.check.Checked.the-variants.{Refused as Failed}
 use Rattle.reading.specs.Reading.{onward, rulesFrom, checkedRules}
 
@@ -93,7 +93,7 @@ module _ (n set limit m body i : ℕ) where
 
   -- where nothing follows, all is read
   pub checked-done : (s : List ℕ) (at : ℕ) → m ≤ i → length s ≤ at
-      → checkedRules n set m body (rulesFrom n limit (m - i) (i + 4) (drop at s)) ≡ Sheet n set m body
+      → checkedRules n set m body (rulesFrom n limit (m - i) (i + 4) (drop at s)) ≡ Passed n set m body
   unfolding rulesFrom checkedRules
   checked-done s at l k = rw (none-left m i l, drop-of-length-le s k)
 

@@ -13,8 +13,7 @@ use Rattle.rules.specs.declared.refusal.Refusal.the-variants.{Size, Malformed, 
 use Rattle.lines.specs.Spelling.{Written, lineText, WellFormed, lineWithin, lineCancels}
 use Rattle.lines.specs.Lines.{Judged, accepted, refused}
 use Rattle.reading.specs.Texts.{Contents, linesText}
-use Rattle.reading.specs.Meaning.{Opening, counted, headed, ruled, linesOf, countOf, AllFine, Reaches}
-use Rattle.reading.specs.Meaning.{Spells, MalformedAt, OutsideAt, CancelsAt}
+use Rattle.reading.specs.Meaning.{Opening, counted, headed, ruled, linesOf, countOf, AllFine, Reaches, Spells, MalformedAt, OutsideAt, CancelsAt}
 use Rattle.reading.specs.Reading.{linesFrom}
 use Rattle.reading.proofs.Readers.{Value, lineWith, lineWith-kind}
 use Rattle.reading.proofs.Openings.{lineOf, goOn, Due, due-start, due-counted, due-headed, due-ruled}

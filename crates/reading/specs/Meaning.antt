@@ -1,4 +1,4 @@
--- When a text is accepted, and when and at which line it is refused, said of spellings alone.
+-- When a text is accepted, and when and at which line it is refused, said by how lines are spelled; nothing is read here.
 use mathlib.Core.Path.{_≡_}
 use mathlib.Core.Bool.{true, false, cond}
 use mathlib.Core.Logic.{_⊎_}
@@ -12,8 +12,8 @@ use Rattle.rules.specs.declared.refusal.Refusal.the-variants.{Size, Malformed, 
 use Rattle.rules.specs.Limits.{maxBound, maxText}
 use Rattle.lines.specs.Spelling.{Written, Line, quantities, hidden, rules, rule, lineText, WellFormed, lineWithin, lineCancels}
 use Rattle.lines.specs.Lines.{Judged, accepted, refused}
-use Rattle.rules.specs.Hidden.{setOf}
-use Rattle.reading.specs.Texts.{Contents, ruleLines, linesText, sheetText}
+use Rattle.rules.specs.Hidden.{hiddenIn, setOf, isListed}
+use Rattle.reading.specs.Texts.{Contents, ruleLines, linesText, headerText, sheetText}
 
 -- ---- the first lines of a text
 
@@ -129,6 +129,15 @@ abbrev pub Means : List ℕ → Judged Contents → Type 0
 Means s (accepted c u) = (length s ≤ maxText) × Spells maxBound s c × (u ≡ [])
 Means s (refused f) = FailsFor s f
 
+-- the text passes by itself, with n, the number of its rules, and the cursor at which their lines begin
+pub record Passes (s : List ℕ) (n m body : ℕ) : Type 0 where
+  pub contents : Contents
+  pub small : length s ≤ maxText
+  pub spelled : Spells maxBound s contents
+  pub counts : n ≡ contents .count
+  pub rules : m ≡ length (contents .written)
+  pub begins : body ≡ length (headerText contents)
+
 -- ---- into a table of so many words
 
 -- the text is fine, and the table too short for it
@@ -150,4 +159,5 @@ pub record AcceptedAs (s : List ℕ) (words n set : ℕ) : Type 0 where
   pub spelled : Spells maxBound s contents
   pub counts : n ≡ contents .count
   pub hides : set ≡ setOf (contents .hiddens)
+  pub members : (q : ℕ) → hiddenIn set q ≡ isListed q (contents .hiddens)
   pub enough : blockStart n ≤ words

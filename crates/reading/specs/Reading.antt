@@ -1,4 +1,5 @@
 -- Reading a text: its lines from the first, then the table (document 01, 'Returned to the caller').
+use mathlib.Core.Path.{_≡_}
 use mathlib.Core.Bool.{Bool, true, false, cond}
 use mathlib.Core.List.{List, [], _∷_, _++_}
 use Prim.Native.Nat.{ℕ, zero, suc}
@@ -6,16 +7,15 @@ use lib.Dec.{ltb}
 use lib.IntN.{ℤ}
 use lib.ListN.{length, drop}
 use Rattle.places.specs.Numbering.{blockStart}
-use Rattle.rules.specs.declared.refusal.Refusal.{Refusal}
 use Rattle.rules.specs.declared.refusal.Refusal.the-variants.{Size, Malformed, TooShort}
 use Rattle.rules.specs.Limits.{maxQuantities, maxBound, maxRules, maxText}
-use Rattle.rules.specs.Refusal.{refusalNumber, refusalValues}
+use Rattle.rules.specs.Refusal.{refusalNumber, refusalValues, refusalValue}
 use Rattle.tables.specs.Tables.{tableOf}
 use Rattle.lines.specs.Spelling.{Written, quantitiesKey, rulesKey, writtenRules}
 use Rattle.lines.specs.Lines.{Judged, accepted, refused, countJudged, hiddenJudged, ruleJudged}
 use Rattle.rules.specs.Hidden.{setOf}
 use Rattle.reading.specs.declared.check.Checked.{Checked}
-use Rattle.reading.specs.declared.check.Checked.the-variants.{Sheet}
+use Rattle.reading.specs.declared.check.Checked.the-variants.{Passed}
 use Rattle.reading.specs.declared.check.Checked.the-variants.{Refused as Failed}
 use Rattle.reading.specs.declared.read.Reading.{Reading}
 use Rattle.reading.specs.declared.read.Reading.the-variants.{Accepted, Refused}
@@ -49,19 +49,19 @@ checkText s = cond (ltb maxText (length s)) (refused Size) (linesFrom maxBound s
 
 -- n, the hidden set, the number of rules, and the cursor at which the rule lines begin; or the refusal
 unfoldable pub checkedOf : Judged Contents → Checked
-checkedOf (accepted c u) = Sheet (c .count) (setOf (c .hiddens)) (length (c .written)) (length (headerText c))
+checkedOf (accepted c u) = Passed (c .count) (setOf (c .hiddens)) (length (c .written)) (length (headerText c))
 checkedOf (refused r) = Failed r
 
 -- the same from the rule lines, where the header is read
 unfoldable pub checkedRules : ℕ → ℕ → ℕ → ℕ → Judged (List Written) → Checked
-checkedRules n set m body (accepted rs u) = Sheet n set m body
+checkedRules n set m body (accepted rs u) = Passed n set m body
 checkedRules n set m body (refused r) = Failed r
 
 -- ---- into a table
 
 -- the refusal of a text that did not pass; one that did has none of its own
 abbrev pub refusedBy : Checked → Reading
-refusedBy (Sheet n set m body) = Refused Size
+refusedBy (Passed n set m body) = Refused Size
 refusedBy (Failed r) = Refused r
 
 -- the reply of reading into a table of so many words: the last check is its length
@@ -95,3 +95,12 @@ readingNumber (Refused r) = refusalNumber r
 abbrev pub readingValues : Reading → List ℕ
 readingValues (Accepted n set) = n ∷ set ∷ []
 readingValues (Refused r) = refusalValues r
+
+-- a refusal's line or length as one number, 0 where there is none
+abbrev pub readingValue : Reading → ℕ
+readingValue (Accepted n set) = 0
+readingValue (Refused r) = refusalValue r
+
+-- the reply is returned by this number and these values
+abbrev pub Returns : Reading → ℕ → List ℕ → Type 0
+Returns r number values = (readingNumber r ≡ number) × (readingValues r ≡ values)

@@ -18,7 +18,7 @@ ghost use Rattle.reading.specs.Promises.{TextChecked};
 
 pub enum Checked {
     // n, the hidden set, the number of rules, and the cursor at which their lines begin
-    Sheet {
+    Passed {
         quantities: usize,
         hidden: u32,
         rules: usize,
@@ -29,7 +29,7 @@ pub enum Checked {
     },
 }
 
-// A text's refusal, from that of a line.
+// A text's refusal, from the answer of a line that is refused.
 fn refused(answer: Answer) -> Checked
     ensures { λ r. ⌜ r ≡ Failed (refusalOf answer) ⌝ }
 {
@@ -58,7 +58,7 @@ fn check_rules(s: &[u8], n: usize, hidden: u32, limit: u64, count: usize, body: 
             refusal: Refusal::Malformed { line: count + 4 },
         };
     }
-    Checked::Sheet {
+    Checked::Passed {
         quantities: n,
         hidden,
         rules: count,
@@ -66,7 +66,7 @@ fn check_rules(s: &[u8], n: usize, hidden: u32, limit: u64, count: usize, body: 
     }
 }
 
-// Checks a text.
+// Checks a text, a sheet or a script: its size, the three lines of its header, then its rules.
 pub fn check(s: &[u8]) -> Checked
     ensures { λ r. ⌜ TextChecked (now (s .entry)) r ⌝ }
 {

@@ -8,11 +8,11 @@ ghost use Prim.Native.Nat.{_≤_};
 ghost use lib.ListN.{length};
 ghost use Rattle.places.specs.Numbering.{blockStart};
 ghost use Rattle.reading.specs.Reading.{checkText, filled};
-ghost use Rattle.reading.specs.Promises.{Passed};
+ghost use Rattle.reading.specs.Meaning.{Passes};
 
-// Fills the first words of the table with the rules of a text over `n` quantities, whose `count` rule lines begin at the cursor `body`.
+// Fills the first 2n² words of the table with the rules of a text over `n` quantities, whose `count` rule lines begin at the cursor `body`.
 pub fn fill(s: &[u8], n: usize, count: usize, body: usize, table: &mut [i64])
-    requires { ⌜ Passed (now s) n count body × (blockStart n ≤ length (now table)) ⌝ }
+    requires { ⌜ Passes (now s) n count body × (blockStart n ≤ length (now table)) ⌝ }
     ensures { λ _. ⌜ now (table .exit) ≡ filled (checkText (now (s .entry))) (now (table .entry)) ⌝ }
 {
     table::empty(n, table);

@@ -2,9 +2,10 @@
 use crate::check;
 use crate::check::Checked;
 use crate::fill;
+use rules::refusal;
 use rules::refusal::Refusal;
 ghost use mathlib.Core.Path.{_≡_};
-ghost use Rattle.reading.specs.Reading.{refusedBy};
+ghost use Rattle.reading.specs.Reading.{refusedBy, readingNumber, readingValue};
 ghost use Rattle.reading.specs.Promises.{ReadInto};
 
 pub enum Reading {
@@ -13,12 +14,40 @@ pub enum Reading {
     Refused { refusal: Refusal },
 }
 
-// The refusal of a text that did not pass.
+impl Reading {
+    // Document 01's number of a refusal; 0 where the text is accepted.
+    pub fn number(self) -> u32
+        ensures { λ r. ⌜ r ≡ readingNumber self ⌝ }
+    {
+        match self {
+            Reading::Accepted {
+                quantities: _,
+                hidden: _,
+            } => 0,
+            Reading::Refused { refusal } => refusal::number(refusal),
+        }
+    }
+
+    // What is returned beside a refusal's number, a line or the length needed; 0 where there is nothing.
+    pub fn value(self) -> usize
+        ensures { λ r. ⌜ r ≡ readingValue self ⌝ }
+    {
+        match self {
+            Reading::Accepted {
+                quantities: _,
+                hidden: _,
+            } => 0,
+            Reading::Refused { refusal } => refusal::value(refusal),
+        }
+    }
+}
+
+// The refusal of a text that did not pass; 1 where it did, which no caller asks.
 fn refused(checked: Checked) -> Reading
     ensures { λ r. ⌜ r ≡ refusedBy checked ⌝ }
 {
     match checked {
-        Checked::Sheet {
+        Checked::Passed {
             quantities: _,
             hidden: _,
             rules: _,
@@ -30,12 +59,12 @@ fn refused(checked: Checked) -> Reading
     }
 }
 
-// Reads a text into the first words of a table: the text is checked first, and last that the table is long enough.
+// Reads a text into the first 2n² words of a table: the text is checked first, and last that the table is long enough.
 pub fn read(s: &[u8], table: &mut [i64]) -> Reading
     ensures { λ r. ⌜ ReadInto (now (s .entry)) (now (table .entry)) r (now (table .exit)) ⌝ }
 {
     let checked = check::check(s);
-    let Checked::Sheet {
+    let Checked::Passed {
         quantities,
         hidden,
         rules,

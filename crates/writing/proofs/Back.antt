@@ -25,9 +25,9 @@ use Rattle.tables.specs.Meaning.{WordsWithin}
 use Rattle.tables.proofs.Places.{ruleAt-bound, ruleAt-hasPlace}
 use Rattle.tables.proofs.Sizes.{small-start}
 use Rattle.lines.specs.Spelling.{rule, quantityWithin, lineWithin, cancelling}
-use Rattle.lines.specs.Lines.{Judged, accepted}
+use Rattle.lines.specs.Lines.{accepted}
 use Rattle.reading.specs.declared.read.Reading.the-variants.{Accepted}
-use Rattle.reading.specs.Texts.{Contents, ruleLines}
+use Rattle.reading.specs.Texts.{ruleLines}
 use Rattle.reading.specs.Meaning.{Fine, AllFine, Spells, Means}
 use Rattle.reading.proofs.Means.{text-means}
 use Rattle.reading.specs.Reading.{checkText, replyTo, readReply, filled, readTable}

@@ -27,8 +27,7 @@ use Rattle.words.specs.Change.{wordAt}
 use Rattle.lines.specs.Spelling.{Written, rule, quantitiesKey, hiddenKey, rulesKey, listText, valueText, lineText}
 use Rattle.reading.specs.Texts.{ruleLines, linesText, headerText, sheetText}
 use Rattle.writing.specs.declared.write.Measure.{Measure}
-use Rattle.writing.specs.Writing.{Measured, MeasuredMore, writtenOf, ruleLineText, rulesAt, placeText, rulesText}
-use Rattle.writing.specs.Writing.{hiddenList, countText, headText, tableRules, writtenText}
+use Rattle.writing.specs.Writing.{Measured, MeasuredMore, writtenOf, ruleLineText, rulesAt, placeText, rulesText, hiddenList, countText, headText, tableRules, writtenText}
 use Rattle.writing.proofs.Lines.{line-short}
 use Rattle.writing.proofs.ListTexts.{list-short}
 

@@ -1,6 +1,5 @@
 -- What the writer promises: the reply and every byte, for every input; what the text means; and that it is read back.
 use mathlib.Core.Path.{_≡_}
-use mathlib.Core.Bool.{true}
 use mathlib.Core.Logic.{_↔_}
 use mathlib.Core.List.{List, _++_}
 use Prim.Native.Nat.{ℕ, _≤_}
@@ -15,7 +14,7 @@ use Rattle.reading.specs.declared.read.Reading.the-variants.{Accepted}
 use Rattle.reading.specs.Reading.{readReply, readTable}
 use Rattle.writing.specs.declared.write.Writing.{Writing}
 use Rattle.writing.specs.declared.write.Writing.the-variants.{Text}
-use Rattle.writing.specs.Writing.{tableRules, writtenText, writeReply, written}
+use Rattle.writing.specs.Writing.{tableRules, writeReply, written}
 
 -- the longest text that can be written
 abbrev pub maxWritten : ℕ

@@ -14,7 +14,7 @@ use Rattle.rules.specs.declared.rule.Rule.the-variants.{One, Two, Nothing}
 use Rattle.rules.specs.declared.refusal.Refusal.the-variants.{Size, OutOfLimit, TooShort}
 use Rattle.rules.specs.Hidden.{hiddenIn, setWithin}
 use Rattle.rules.specs.Literal.{quantityOf}
-use Rattle.rules.specs.Refusal.{refusalNumber, refusalValues}
+use Rattle.rules.specs.Refusal.{refusalNumber, refusalValues, refusalValue}
 use Rattle.tables.specs.Places.{ruleAt}
 use Rattle.tables.specs.Tables.{hasRule, serves}
 use Rattle.numerals.specs.Bytes.{newline, plus, comma, digitZero, colon}
@@ -138,3 +138,8 @@ writingNumber (Refused r) = refusalNumber r
 abbrev pub writingValues : Writing → List ℕ
 writingValues (Text length) = length ∷ []
 writingValues (Refused r) = refusalValues r
+
+-- the same as one number, 0 where there is none
+abbrev pub writingValue : Writing → ℕ
+writingValue (Text length) = length
+writingValue (Refused r) = refusalValue r

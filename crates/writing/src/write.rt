@@ -2,22 +2,46 @@
 use crate::header;
 use crate::line;
 use rules::hidden;
+use rules::refusal;
 use rules::refusal::Refusal;
 use rules::sheet::Sheet;
 use tables::place;
 use tables::table;
+ghost use mathlib.Core.Path.{_≡_};
 ghost use Prim.Native.Nat.{_+_, _*_, _≤_, _<_};
 ghost use lib.ListN.{length, take};
 ghost use Rattle.places.specs.Numbering.{blockStart};
 ghost use Rattle.numerals.specs.Writing.{Spliced};
 ghost use Rattle.rules.specs.Limits.{maxQuantities};
-ghost use Rattle.writing.specs.Writing.{placeText, rulesText, Measured, MeasuredMore};
+ghost use Rattle.writing.specs.Writing.{placeText, rulesText, Measured, MeasuredMore, writingNumber, writingValue};
 ghost use Rattle.writing.specs.Promises.{TextWritten};
 
 pub enum Writing {
     // how many bytes were written
     Text { length: usize },
     Refused { refusal: Refusal },
+}
+
+impl Writing {
+    // Document 01's number of a refusal; 0 where the text is written.
+    pub fn number(self) -> u32
+        ensures { λ r. ⌜ r ≡ writingNumber self ⌝ }
+    {
+        match self {
+            Writing::Text { length: _ } => 0,
+            Writing::Refused { refusal } => refusal::number(refusal),
+        }
+    }
+
+    // The text's length, or what is returned beside a refusal's number, the length needed; 0 where there is nothing.
+    pub fn value(self) -> usize
+        ensures { λ r. ⌜ r ≡ writingValue self ⌝ }
+    {
+        match self {
+            Writing::Text { length } => length,
+            Writing::Refused { refusal } => refusal::value(refusal),
+        }
+    }
 }
 
 // How many rules a table has, and how many bytes their lines take.

@@ -12,7 +12,7 @@ use Rattle.lines.specs.Spelling.{quantitiesKey, rulesKey}
 use Rattle.lines.specs.Lines.{countJudged, hiddenJudged}
 use Rattle.lines.specs.Answers.{refusalOf}
 use Rattle.lines.proofs.Found.{CountFound, HiddenFound, count-found, hidden-found, count-refused, hidden-refused}
-use Rattle.reading.proofs.Promised.{check-promised}
+use Rattle.reading.proofs.Passing.{check-promised}
 use Rattle.reading.proofs.Checking.{size-checked, first-checked, second-checked, third-checked, rules-checked}
 use Rattle.reading.proofs.check.check.Statement.{statement}
 use Rattle.reading.proofs.check.check.Tie as tie

@@ -3,7 +3,8 @@ use mathlib.Core.List.{List}
 use Prim.Native.Nat.{ℕ}
 use denote.Ref.{now}
 use borrow.Author.Needs.{needs}
-use Rattle.reading.proofs.Replying.{Sheeted, sheet-passed, read-refused, room, read-short, read-done}
+use Rattle.reading.proofs.Passing.{Sheeted, sheet-passed}
+use Rattle.reading.proofs.Replying.{read-refused, room, read-short, read-done}
 use Rattle.reading.proofs.read.read.Statement.{statement}
 use Rattle.reading.proofs.read.read.Tie as tie
 

@@ -7,6 +7,35 @@ use lib.ListN.{length}
 use Rattle.tables.specs.Tables.{replyNumber, replyValue}
 use Rattle.keys.specs.Keys.{keyReply, assignmentReply}
 use Rattle.keys.specs.Promises.{Keyed, Assigned}
+use Rattle.reading.specs.declared.read.Reading.{Reading}
+use Rattle.reading.specs.declared.read.Reading.the-variants.{Accepted, Refused}
+use Rattle.reading.specs.Reading.{readReply, readingNumber, readingValue}
+use Rattle.reading.specs.Promises.{ReadInto}
+use Rattle.writing.specs.Writing.{writeReply, writingNumber, writingValue}
+use Rattle.writing.specs.Promises.{TextWritten}
+
+-- n or the hidden set after reading: that of the text where it is accepted, else as it was
+abbrev pub countRead : ℕ → Reading → ℕ
+countRead before (Accepted n set) = n
+countRead before (Refused r) = before
+
+abbrev pub setRead : ℕ → Reading → ℕ
+setRead before (Accepted n set) = set
+setRead before (Refused r) = before
+
+-- reading's number r and value v
+pub record ReadAnswer (text : List ℕ) (table : List ℤ) (n set r v n' set' : ℕ) (table' : List ℤ) : Type 0 where
+  pub number : r ≡ readingNumber (readReply text (length table))
+  pub value : v ≡ readingValue (readReply text (length table))
+  pub count : n' ≡ countRead n (readReply text (length table))
+  pub hidden : set' ≡ setRead set (readReply text (length table))
+  pub call : ReadInto text table (readReply text (length table)) table'
+
+-- writing's
+pub record WriteAnswer (n set : ℕ) (table : List ℤ) (out : List ℕ) (r v : ℕ) (out' : List ℕ) : Type 0 where
+  pub number : r ≡ writingNumber (writeReply n set table (length out))
+  pub value : v ≡ writingValue (writeReply n set table (length out))
+  pub call : TextWritten n set table out (writeReply n set table (length out)) out'
 
 -- the key call's number r and value v
 pub record KeyAnswer (n set : ℕ) (table workspace : List ℤ) (r v : ℕ) (table' workspace' : List ℤ) : Type 0 where

@@ -1,7 +1,49 @@
 // The calls for hosts in C and Rust. A call answers with document 01's number of its reply, 0 where it is not refused, and writes to `value` what document 01
-// returns beside it, a line or the length needed, 0 where there is nothing. C sees a slice as a pointer and its length in words. The host passes
+// returns beside it, a line or a length, 0 where there is nothing. C sees a slice as a pointer and its length in words. The host passes
 // true lengths, and no slice overlaps another.
-ghost use Rattle.acornsled.specs.Promises.{KeyAnswer, AssignmentAnswer};
+use reading::read::Reading;
+ghost use Rattle.acornsled.specs.Promises.{ReadAnswer, WriteAnswer, KeyAnswer, AssignmentAnswer};
+
+// Reads a text: where it answers 0, the table's first 2n² words hold its rules, and n and the hidden set are written to `quantities` and `hidden`.
+#[no_mangle]
+pub extern "C" fn acornsled_read(
+    text: &[u8],
+    table: &mut [i64],
+    quantities: &mut usize,
+    hidden: &mut u32,
+    value: &mut usize,
+) -> u32
+    ensures { λ r. ⌜ ReadAnswer (now (text .entry)) (now (table .entry)) (now (quantities .entry)) (now (hidden .entry)) r (now (value .exit)) (now (quantities .exit)) (now (hidden .exit)) (now (table .exit)) ⌝ }
+{
+    let reading = reading::read::read(text, table);
+    *value = reading.value();
+    let Reading::Accepted {
+        quantities: n,
+        hidden: set,
+    } = reading
+    else {
+        return reading.number();
+    };
+    *quantities = n;
+    *hidden = set;
+    0
+}
+
+// Writes a table and a hidden set as a text: where it answers 0, `value` is the text's length.
+#[no_mangle]
+pub extern "C" fn acornsled_write(
+    n: usize,
+    hidden: u32,
+    table: &[i64],
+    out: &mut [u8],
+    value: &mut usize,
+) -> u32
+    ensures { λ r. ⌜ WriteAnswer n hidden (now (table .entry)) (now (out .entry)) r (now (value .exit)) (now (out .exit)) ⌝ }
+{
+    let written = writing::write::write(n, hidden, table, out);
+    *value = written.value();
+    written.number()
+}
 
 // The key call: where it answers 0, the table's first 2n² words have become the key. The workspace needs as many.
 #[no_mangle]

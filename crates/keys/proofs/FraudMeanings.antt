@@ -22,7 +22,7 @@ use Rattle.tables.proofs.SheetA.{rules, of-one-and-three, of-two, completes, al
 use Rattle.elimination.specs.Hiding.{eliminated}
 use Rattle.keys.specs.Keys.{keyChecks, assignmentChecks}
 use Rattle.keys.specs.Promises.{Keyed, Assigned}
-use Rattle.keys.proofs.Starred.{Case, sheetTable, sheetA, seenLate, steps}
+use Rattle.keys.proofs.Sheets.{Case, sheetTable, sheetA, seenLate, steps}
 use Rattle.keys.proofs.Frauds.{chain, blanked}
 
 -- demand 2 of a table that is to be a sheet's key: it allows visible integers exactly when some integers for the hidden quantities satisfy the sheet

@@ -12,7 +12,7 @@ use Rattle.rules.specs.Steps.{ruleOf}
 use Rattle.tables.specs.Tables.{emptyTable, tableOf, cleared}
 use Rattle.elimination.specs.Hiding.{bareBelow, loneWord, contradicts, eliminated}
 use Rattle.keys.specs.Keys.{refuted}
-use Rattle.keys.proofs.Starred.{Case, sheetTable, keyTable, replyTo, Passes, sheetA, seenLate, steps}
+use Rattle.keys.proofs.Sheets.{Case, sheetTable, keyTable, replyTo, Passes, sheetA, seenLate, steps}
 
 -- tables that differ at a place are not the same
 differ : (s t : List ℤ) (k : ℕ) → ltZ (wordAt s k) (wordAt t k) ≡ true → s ≡ t → ⊥

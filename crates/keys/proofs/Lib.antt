@@ -1,4 +1,4 @@
--- The laws of keys: several quantities hidden, 'no assignment', sums that fit, values read back; what the calls' proofs share; the starred cases and the
+-- The laws of keys: several quantities hidden, 'no assignment', sums that fit, values read back; what the calls' proofs share; two sheets of document 01 and the
 -- frauds on named sheets.
 pub mod Several
 pub mod Fitting
@@ -10,6 +10,6 @@ pub mod Copying
 pub mod Deciding
 pub mod Checking
 pub mod Promised
-pub mod Starred
+pub mod Sheets
 pub mod Frauds
 pub mod FraudMeanings

@@ -63,9 +63,18 @@ pub fn same_reply(reply: Reply, due: Reply) -> Result<(), String> {
     Ok(())
 }
 
-fn kept(name: &str, lent: &Lent, free: usize) -> Result<(), String> {
+/// Has nothing changed but the first `free` words, or bytes?
+pub fn kept<T: Copy + PartialEq>(name: &str, lent: &Lent<T>, free: usize) -> Result<(), String> {
     if lent.kept_but(free) {
         return Ok(());
     }
     Err(format!("{name}: a word changed that is not of its first {free}"))
+}
+
+/// Each of these words against the one that was due.
+pub fn same_words(found: &[i64], due: &[i64]) -> Result<(), String> {
+    match (0..due.len()).find(|&place| found[place] != due[place]) {
+        Some(place) => Err(format!("place {place}: word {}, due {}", found[place], due[place])),
+        None => Ok(()),
+    }
 }

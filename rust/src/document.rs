@@ -3,19 +3,20 @@
 use crate::check;
 use crate::counts::Counts;
 use crate::library::{Library, NO_ASSIGNMENT};
-use crate::meaning::{size, terms, Literal, Term, NO_RULE};
+use crate::meaning::{size, Literal};
 use crate::random::Random;
 use crate::sheets::Sheet;
+use crate::text::written::{self, Written};
 
 /// A rule as written: two signed quantities, the second 0 where there is none, and the bound.
-type Written = (i64, i64, i64);
+type Short = (i64, i64, i64);
 
 struct Example {
     n: usize,
     hidden: u32,
-    rules: &'static [Written],
+    rules: &'static [Short],
     /// the key's rules, or none where there is no assignment
-    key: Option<&'static [Written]>,
+    key: Option<&'static [Short]>,
 }
 
 const BILLION: i64 = 1_000_000_000;
@@ -61,19 +62,12 @@ fn stated(library: &dyn Library, example: &Example, sheet: &Sheet) -> Result<(),
 }
 
 /// The table that these rules are read into.
-fn table(n: usize, rules: &[Written]) -> Vec<i64> {
-    let mut table = vec![NO_RULE; size(n)];
-    let all = terms(n);
-    for &(first, second, bound) in rules {
-        let doubled = first == second;
-        let term = Term { first: literal(first), second: (second != 0 && !doubled).then(|| literal(second)) };
-        // the lower quantity comes first in a table, and so it does in the examples but for sheet A's +3-2
-        let turned = Term { first: term.second.unwrap_or(term.first), second: term.second.map(|_| term.first) };
-        let place = all.iter().position(|t| *t == term || *t == turned);
-        let word = &mut table[place.expect("the rule names quantities of the sheet")];
-        *word = (*word).min(if doubled { bound.div_euclid(2) } else { bound });
-    }
-    table
+fn table(n: usize, rules: &[Short]) -> Vec<i64> {
+    let written = |&(first, second, bound): &Short| {
+        let second = (second != 0).then(|| literal(second));
+        Written { first: literal(first), second, bound }
+    };
+    written::table(n, &rules.iter().map(written).collect::<Vec<_>>())
 }
 
 fn literal(signed: i64) -> Literal {

@@ -2,7 +2,7 @@
 //! it has, and what the integers of an assignment have to be.
 
 use crate::brute;
-use crate::calls::same_reply;
+use crate::calls::{same_reply, same_words};
 use crate::graph::{self, Closure};
 use crate::library::{Reply, DONE, NO_ASSIGNMENT};
 use crate::meaning::{broken, largest_bound, rules, size, Rule};
@@ -100,12 +100,5 @@ impl Due<'_> {
         let reply = plain::key(n, hidden, &mut table, &mut vec![0; size(n)]);
         same_reply(reply, self.reply())?;
         self.answer.as_ref().map_or(Ok(()), |answer| same_words(&table, &answer.key))
-    }
-}
-
-fn same_words(found: &[i64], due: &[i64]) -> Result<(), String> {
-    match (0..due.len()).find(|&place| found[place] != due[place]) {
-        Some(place) => Err(format!("place {place}: word {}, due {}", found[place], due[place])),
-        None => Ok(()),
     }
 }

@@ -2,39 +2,62 @@
 
 use crate::random::Random;
 
-/// Words on either side. A call that takes one quantity too many writes a block too far: 4q - 2 words for quantity q, 130
-/// for a 33rd. That and a count wrong by a few words is seen; a word written beyond the margin is not.
+/// Words, or bytes, on either side. A call that takes one quantity too many writes a block too far: 4q - 2 words for
+/// quantity q, 130 for a 33rd; a line too many is some 30 bytes. That and a count wrong by a few is seen; what is
+/// written beyond the margin is not.
 const MARGIN: usize = 256;
 
-/// How many words are lent beyond those needed: none half of the time, so that a call that goes too far meets the margin.
+/// How many words are lent beyond those needed: none half of the time, so that a call that goes too far meets the
+/// margin.
 pub fn further(random: &mut Random) -> usize {
     random.pick(&[0, 0, 1, 9])
 }
 
-pub struct Lent {
-    words: Vec<i64>,
+/// Words of a table or bytes of a text.
+pub struct Lent<T = i64> {
+    words: Vec<T>,
     /// the same words before the call
-    before: Vec<i64>,
+    before: Vec<T>,
 }
 
 impl Lent {
     /// Lends these words, between margins of any content.
     pub fn new(content: &[i64], random: &mut Random) -> Lent {
-        let mut words = random.words(MARGIN);
-        words.extend_from_slice(content);
-        words.extend(random.words(MARGIN));
+        Lent::between(random.words(MARGIN), content, random.words(MARGIN))
+    }
+}
+
+impl Lent<u8> {
+    /// Lends these bytes, between margins of any content.
+    pub fn bytes(content: &[u8], random: &mut Random) -> Lent<u8> {
+        Lent::between(random.bytes(MARGIN), content, random.bytes(MARGIN))
+    }
+
+    /// Lends a text. Half of the time a byte 10 stands behind it, which would end its last line if it were looked at.
+    pub fn text(content: &[u8], random: &mut Random) -> Lent<u8> {
+        let mut behind = random.bytes(MARGIN);
+        if random.chance(50) {
+            behind[0] = b'\n';
+        }
+        Lent::between(random.bytes(MARGIN), content, behind)
+    }
+}
+
+impl<T: Copy + PartialEq> Lent<T> {
+    fn between(left: Vec<T>, content: &[T], right: Vec<T>) -> Lent<T> {
+        let words = [&left, content, &right].concat();
         let before = words.clone();
         Lent { words, before }
     }
 
     /// What the call is given.
-    pub fn slice(&mut self) -> &mut [i64] {
+    pub fn slice(&mut self) -> &mut [T] {
         let end = self.words.len() - MARGIN;
         &mut self.words[MARGIN..end]
     }
 
     /// What the call has left.
-    pub fn left(&self) -> &[i64] {
+    pub fn left(&self) -> &[T] {
         &self.words[MARGIN..self.words.len() - MARGIN]
     }
 

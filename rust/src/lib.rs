@@ -1,10 +1,12 @@
-//! Judges Acornsled's static library from Rust: every reply of its two calls, its number and its value, and every lent
-//! word, against document 01.
+//! Judges Acornsled's static library from Rust: every reply of its four calls, its number and its value, and every lent
+//! word and byte, against document 01.
 //!
 //! What a sheet means is decided by enumeration on small sheets (`brute`) and by shortest paths on all (`graph`), and
 //! neither eliminates a quantity. How far they are independent of the fact that hiding rests on, `graph` says. The key's
 //! words are compared with document 01's steps, written by its own words (`naive`); so is what the benchmark measures
 //! against, the library's design in ordinary Rust (`plain`).
+//!
+//! What a text says is decided by spelling (`text`), and held against a parser in ordinary Rust (`plain_text`).
 
 pub mod brute;
 pub mod calls;
@@ -19,6 +21,7 @@ pub mod library;
 pub mod meaning;
 pub mod naive;
 pub mod plain;
+pub mod plain_text;
 pub mod random;
 pub mod run;
 pub mod sheets;
@@ -26,3 +29,4 @@ pub mod sheets;
 mod stand_in;
 pub mod state;
 pub mod sys;
+pub mod text;

@@ -1,10 +1,10 @@
-//! The two calls that are judged, and their replies. The judge knows the calls as a trait, so that it can be tried on
-//! wrong answers too.
+//! The four calls that are judged, and their replies. The judge knows the calls as traits, so that it can be tried on
+//! wrong answers too: one for the calls on tables, one for the calls on texts.
 
 use std::fmt;
 
-/// The number of document 01, 'Returned to the caller', and what is returned beside it: a line or the length needed, 0
-/// where there is nothing.
+/// The number of document 01, 'Returned to the caller', and what is returned beside it: a line, the length needed or
+/// the length of a text written, 0 where there is nothing.
 #[derive(Clone, Copy, PartialEq, Eq, Debug)]
 pub struct Reply {
     pub number: u32,
@@ -13,13 +13,33 @@ pub struct Reply {
 
 pub const DONE: Reply = Reply { number: 0, value: 0 };
 pub const SIZE: Reply = Reply { number: 1, value: 0 };
-/// The value is line 0, for neither call reads a text.
+/// The value is line 0: the limit is passed outside of a text.
 pub const PAST_LIMIT: Reply = Reply { number: 3, value: 0 };
 pub const NO_ASSIGNMENT: Reply = Reply { number: 5, value: 0 };
 
-/// The lent words are fewer than needed.
+/// The lent words or bytes are fewer than needed.
 pub fn too_short(needed: usize) -> Reply {
     Reply { number: 6, value: needed }
+}
+
+/// A line of a text is malformed or missing.
+pub fn malformed(line: usize) -> Reply {
+    Reply { number: 2, value: line }
+}
+
+/// A line of a text has a number outside its limit.
+pub fn past_limit(line: usize) -> Reply {
+    Reply { number: 3, value: line }
+}
+
+/// A line of a text is a rule `+q-q` or `-q+q`.
+pub fn cancelling(line: usize) -> Reply {
+    Reply { number: 4, value: line }
+}
+
+/// A text of this length is written.
+pub fn written(length: usize) -> Reply {
+    Reply { number: 0, value: length }
 }
 
 /// Shared by threads, for two may call at once.
@@ -29,6 +49,22 @@ pub trait Library: Sync {
 
     /// Writes n integers that satisfy the table's rules to the first n words of `values`.
     fn assignment(&self, n: usize, table: &[i64], workspace: &mut [i64], values: &mut [i64]) -> Reply;
+}
+
+/// What a reading gives beside the table.
+#[derive(Clone, Copy, PartialEq, Eq, Debug)]
+pub struct Header {
+    pub quantities: usize,
+    pub hidden: u32,
+}
+
+/// Shared by threads, as above.
+pub trait Texts: Sync {
+    /// Replaces the header and the table's first 2n² words by what the text says.
+    fn read(&self, text: &[u8], table: &mut [i64], header: &mut Header) -> Reply;
+
+    /// Writes the table's text to the first bytes of `out`.
+    fn write(&self, n: usize, hidden: u32, table: &[i64], out: &mut [u8]) -> Reply;
 }
 
 impl fmt::Display for Reply {

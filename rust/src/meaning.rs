@@ -6,6 +6,8 @@ use std::fmt;
 /// The limits of a sheet (document 01, 'Sheet limits' and 'The table').
 pub const MOST_QUANTITIES: usize = 32;
 pub const LIMIT: i64 = 1_000_000_000;
+pub const MOST_RULES: usize = 2_048;
+pub const MOST_BYTES: usize = 65_536;
 pub const NO_RULE: i64 = i64::MAX;
 
 /// A quantity, numbered from 1, with a sign of 1 or -1.
@@ -74,7 +76,7 @@ pub fn is_in(set: u32, q: usize) -> bool {
 }
 
 /// The words of a table of n quantities.
-pub fn size(n: usize) -> usize {
+pub const fn size(n: usize) -> usize {
     2 * n * n
 }
 

@@ -1,6 +1,6 @@
-//! The two calls in ordinary Rust, as the library makes them: what its times are measured against. Hiding is document
-//! 01's step. 'No assignment' is decided by a device of the program's own: each quantity is eliminated among the later
-//! ones alone, which is less work and leaves what the choice of integers needs.
+//! The two calls on tables in ordinary Rust, as the library makes them: what its times are measured against. Hiding is
+//! document 01's step. 'No assignment' is decided by a device of the program's own: each quantity is eliminated among the
+//! later ones alone, which is less work and leaves what the choice of integers needs.
 //!
 //! A quantity has a number from 0 here, and quantity k the literals 2k, for plus, and 2k + 1. One literal x stands at place
 //! 2 (x/2)² + x%2; two literals x < y of different quantities stand at 2 (y/2)² + 2 + 2x + y%2.

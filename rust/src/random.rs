@@ -1,13 +1,13 @@
-//! A seeded generator of numbers (splitmix64): the same seed gives the same sheets everywhere, so that a failure can be
-//! run again.
+//! A seeded generator of numbers (splitmix64): the same seed gives the same sheets and texts everywhere, so that a
+//! failure can be run again.
 
 pub struct Random {
     state: u64,
 }
 
 impl Random {
-    /// The generator of one numbered sheet of a seed. Each sheet has its own, so that it does not depend on how much the
-    /// sheets before it drew.
+    /// The generator of one numbered sheet or text of a seed. Each has its own, so that it does not depend on how much
+    /// those before it drew.
     pub fn new(seed: u64, number: u64) -> Random {
         let mut start = Random { state: seed };
         let state = start.word() ^ number.wrapping_mul(0xd134_2543_de82_ef95);
@@ -51,5 +51,11 @@ impl Random {
     /// Words of any value, as a caller's memory may hold.
     pub fn words(&mut self, length: usize) -> Vec<i64> {
         (0..length).map(|_| self.word() as i64).collect()
+    }
+
+    /// Bytes of any value.
+    pub fn bytes(&mut self, length: usize) -> Vec<u8> {
+        let words = self.words(length.div_ceil(8));
+        words.iter().flat_map(|word| word.to_le_bytes()).take(length).collect()
     }
 }

@@ -109,7 +109,7 @@ fn planted(n: usize, range: i64, slack: i64, random: &mut Random) -> Bounds {
 }
 
 /// No quantity, all, one, those up to one, those from one on, few, half or most.
-fn hidden_set(n: usize, random: &mut Random) -> u32 {
+pub fn hidden_set(n: usize, random: &mut Random) -> u32 {
     let all = u32::MAX >> (MOST_QUANTITIES - n);
     let one = 1 << random.below(n);
     let (a, b) = (random.word() as u32, random.word() as u32);

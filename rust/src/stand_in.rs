@@ -1,7 +1,9 @@
-//! The static library's two functions over `plain`, under the same names: with the feature `plain` the declarations in
-//! `sys` are tried where no archive is built (`tests/linked.rs`).
+//! The static library's four functions over `plain` and `plain_text`, under the same names: with the feature `plain`
+//! the declarations in `sys` are tried where no archive is built (`tests/linked.rs`).
 
+use crate::library::Header;
 use crate::plain;
+use crate::plain_text;
 use std::slice::{from_raw_parts, from_raw_parts_mut};
 
 #[no_mangle]
@@ -43,6 +45,45 @@ unsafe extern "C" fn acornsled_assignment(
         )
     };
     let reply = plain::assignment(n, table, workspace, values);
+    *value = reply.value;
+    reply.number
+}
+
+#[no_mangle]
+unsafe extern "C" fn acornsled_read(
+    text: *const u8,
+    text_len: usize,
+    table: *mut i64,
+    table_len: usize,
+    quantities: *mut usize,
+    hidden: *mut u32,
+    value: *mut usize,
+) -> u32 {
+    // SAFETY: as above.
+    let (text, table, value) =
+        unsafe { (from_raw_parts(text, text_len), from_raw_parts_mut(table, table_len), &mut *value) };
+    // SAFETY: as above.
+    let (quantities, hidden) = unsafe { (&mut *quantities, &mut *hidden) };
+    let mut header = Header { quantities: *quantities, hidden: *hidden };
+    let reply = plain_text::read(text, table, &mut header);
+    (*quantities, *hidden, *value) = (header.quantities, header.hidden, reply.value);
+    reply.number
+}
+
+#[no_mangle]
+unsafe extern "C" fn acornsled_write(
+    n: usize,
+    hidden: u32,
+    table: *const i64,
+    table_len: usize,
+    out: *mut u8,
+    out_len: usize,
+    value: *mut usize,
+) -> u32 {
+    // SAFETY: as above.
+    let (table, out, value) =
+        unsafe { (from_raw_parts(table, table_len), from_raw_parts_mut(out, out_len), &mut *value) };
+    let reply = plain_text::write(n, hidden, table, out);
     *value = reply.value;
     reply.number
 }

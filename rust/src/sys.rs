@@ -1,7 +1,7 @@
 //! The static library's exported functions, declared as C sees them, and a safe wrapper for each.
-//! Nothing compares these declarations with the library's source, so they are kept to the two that are judged.
+//! Nothing compares these declarations with the library's source, so they are kept to the four that are judged.
 
-use crate::library::{Library, Reply};
+use crate::library::{Header, Library, Reply, Texts};
 
 extern "C" {
     fn acornsled_key(
@@ -22,6 +22,26 @@ extern "C" {
         workspace_len: usize,
         values: *mut i64,
         values_len: usize,
+        value: *mut usize,
+    ) -> u32;
+
+    fn acornsled_read(
+        text: *const u8,
+        text_len: usize,
+        table: *mut i64,
+        table_len: usize,
+        quantities: *mut usize,
+        hidden: *mut u32,
+        value: *mut usize,
+    ) -> u32;
+
+    fn acornsled_write(
+        n: usize,
+        hidden: u32,
+        table: *const i64,
+        table_len: usize,
+        out: *mut u8,
+        out_len: usize,
         value: *mut usize,
     ) -> u32;
 }
@@ -58,6 +78,33 @@ impl Library for Linked {
                 &mut value,
             )
         };
+        Reply { number, value }
+    }
+}
+
+impl Texts for Linked {
+    fn read(&self, text: &[u8], table: &mut [i64], header: &mut Header) -> Reply {
+        let mut value = UNWRITTEN;
+        // SAFETY: as above; the text is only read, and the header's two parts are apart.
+        let number = unsafe {
+            acornsled_read(
+                text.as_ptr(),
+                text.len(),
+                table.as_mut_ptr(),
+                table.len(),
+                &mut header.quantities,
+                &mut header.hidden,
+                &mut value,
+            )
+        };
+        Reply { number, value }
+    }
+
+    fn write(&self, n: usize, hidden: u32, table: &[i64], out: &mut [u8]) -> Reply {
+        let mut value = UNWRITTEN;
+        let (out_len, out) = (out.len(), out.as_mut_ptr());
+        // SAFETY: as above; the table is only read.
+        let number = unsafe { acornsled_write(n, hidden, table.as_ptr(), table.len(), out, out_len, &mut value) };
         Reply { number, value }
     }
 }

@@ -3,9 +3,16 @@
 
 use judge::run;
 use judge::sys::Linked;
+use judge::text;
 
 #[test]
-fn the_linked_library_is_accepted() {
+fn the_linked_library_is_accepted_on_sheets() {
     let counts = run::all(&Linked, 1, 1000).unwrap_or_else(|failure| panic!("{failure}"));
     assert_eq!(counts.sheets, 1000);
+}
+
+#[test]
+fn the_linked_library_is_accepted_on_texts() {
+    // so many that every kind of reply has to be met
+    text::run::all(&Linked, 1, 2000).unwrap_or_else(|failure| panic!("{failure}"));
 }

@@ -1,9 +1,11 @@
-//! judge [SEED [COUNT]]: judges the linked library on COUNT random sheets. Prints one line; at the first failure it prints
-//! what failed and the input, and exits with 1.
+//! judge [SEED [COUNT]]: judges the linked library on COUNT random sheets, then on as many random texts. Prints a line
+//! for each; at the first failure it prints what failed and the input, and exits with 1.
 
 use judge::run;
 use judge::sys::Linked;
+use judge::text;
 use std::env;
+use std::fmt::Display;
 use std::process::exit;
 
 const SEED: u64 = 1;
@@ -16,7 +18,12 @@ fn main() {
         eprintln!("judge [SEED [COUNT]]");
         exit(2);
     };
-    match run::all(&Linked, seed, count) {
+    report(seed, run::all(&Linked, seed, count));
+    report(seed, text::run::all(&Linked, seed, count));
+}
+
+fn report(seed: u64, judged: Result<impl Display, String>) {
+    match judged {
         Ok(counts) => println!("judge: seed={seed} {counts} failures=0"),
         Err(failure) => {
             println!("judge: failed: {failure}");

@@ -1,30 +1,30 @@
-//! Times the linked library beside the same steps in ordinary Rust: 32 quantities, 16 of them hidden, an assignment, and
-//! rules at all 2,048 places or at 64 of them. One line for each call. A time is no failure.
+//! The calls on tables: 32 quantities, 16 of them hidden, an assignment, and rules at all 2,048 places or at 64 of
+//! them.
 
+use crate::times::{report, timed, Both, CALLS};
 use judge::library::{Library, DONE};
 use judge::meaning::{size, terms, LIMIT, MOST_QUANTITIES, NO_RULE};
 use judge::plain;
 use judge::random::Random;
 use judge::sys::Linked;
 use std::hint::black_box;
-use std::time::{Duration, Instant};
 
 const N: usize = MOST_QUANTITIES;
 /// Every second quantity.
 const HIDDEN: u32 = 0x5555_5555;
-const CALLS: usize = 2_001;
 
-fn main() {
+pub fn all() {
     let dense = full_sheet();
     let sparse = thinned(&dense);
     for sheet in [&dense, &sparse] {
-        report("key", sheet, key_times(sheet));
-        report("assignment", sheet, assignment_times(sheet));
+        let rules = sheet.iter().filter(|&&word| word != NO_RULE).count();
+        report(&format!("key, n {N}, {rules} rules"), key_times(sheet));
+        report(&format!("assignment, n {N}, {rules} rules"), assignment_times(sheet));
     }
 }
 
 /// Rules around random integers, so that these are an assignment and every bound is within the limits.
-fn full_sheet() -> Vec<i64> {
+pub fn full_sheet() -> Vec<i64> {
     let mut random = Random::new(1, 0);
     let slack = LIMIT / 5;
     let reach = (LIMIT - slack) / 2;
@@ -39,8 +39,8 @@ fn thinned(sheet: &[i64]) -> Vec<i64> {
     sheet.iter().enumerate().map(kept).collect()
 }
 
-/// The times of the library's calls and of the plain ones. The two take turns, so that both meet the same machine.
-fn key_times(sheet: &[i64]) -> [Vec<Duration>; 2] {
+/// The two take turns, so that both meet the same machine.
+fn key_times(sheet: &[i64]) -> Both {
     let mut times = [Vec::new(), Vec::new()];
     let mut table = sheet.to_vec();
     let mut workspace = vec![0; size(N)];
@@ -49,18 +49,17 @@ fn key_times(sheet: &[i64]) -> [Vec<Duration>; 2] {
         table.copy_from_slice(sheet);
         workspace.fill(0);
         let (table, workspace) = (black_box(&mut table[..]), black_box(&mut workspace[..]));
-        let start = Instant::now();
-        let reply = match call % 2 {
+        let (time, reply) = timed(|| match call % 2 {
             0 => Linked.key(N, HIDDEN, table, workspace),
             _ => plain::key(N, HIDDEN, table, workspace),
-        };
-        times[call % 2].push(start.elapsed());
+        });
+        times[call % 2].push(time);
         assert_eq!(reply, DONE);
     }
     times
 }
 
-fn assignment_times(sheet: &[i64]) -> [Vec<Duration>; 2] {
+fn assignment_times(sheet: &[i64]) -> Both {
     let mut times = [Vec::new(), Vec::new()];
     let mut workspace = vec![0; size(N)];
     let mut values = vec![0; N];
@@ -68,28 +67,12 @@ fn assignment_times(sheet: &[i64]) -> [Vec<Duration>; 2] {
         workspace.fill(0);
         values.fill(0);
         let (workspace, values) = (black_box(&mut workspace[..]), black_box(&mut values[..]));
-        let start = Instant::now();
-        let reply = match call % 2 {
+        let (time, reply) = timed(|| match call % 2 {
             0 => Linked.assignment(N, sheet, workspace, values),
             _ => plain::assignment(N, sheet, workspace, values),
-        };
-        times[call % 2].push(start.elapsed());
+        });
+        times[call % 2].push(time);
         assert_eq!(reply, DONE);
     }
     times
-}
-
-fn report(name: &str, sheet: &[i64], times: [Vec<Duration>; 2]) {
-    let [library, plain] = times.map(median);
-    let rules = sheet.iter().filter(|&&word| word != NO_RULE).count();
-    println!(
-        "{name}, n {N}, {rules} rules: ratio {:.2} (library {library:.1} us, plain Rust {plain:.1} us; medians of {CALLS} calls, buffers refilled before each)",
-        library / plain
-    );
-}
-
-/// In microseconds.
-fn median(mut times: Vec<Duration>) -> f64 {
-    times.sort();
-    times[times.len() / 2].as_secs_f64() * 1e6
 }

@@ -1,0 +1,113 @@
+-- What the key call and the writer answer for a sheet's table: the call refuses with 5 alone, and its key can be written. Assumes nothing.
+use mathlib.Core.Path.{_≡_, refl, sym, _∙_}
+use mathlib.Core.Bool.{Bool, true, false}
+use mathlib.Core.List.{List}
+use Prim.Native.Nat.{ℕ, _*_, _≤_}
+use native.Mathlib.Omega.{arith}
+use lib.IntN.{ℤ}
+use lib.ListN.{length}
+use Rattle.rules.specs.declared.refusal.Refusal.{Refusal}
+use Rattle.rules.specs.declared.refusal.Refusal.the-variants.{NoAssignment}
+use Rattle.rules.specs.Hidden.{hiddenIn, setWithin}
+use Rattle.rules.specs.Limits.{maxQuantities}
+use Rattle.tables.specs.declared.reply.Reply.{Reply}
+use Rattle.tables.specs.declared.reply.Reply.the-variants.{Done, Refused}
+use Rattle.tables.specs.Tables.{serves}
+use Rattle.tables.proofs.Sizes.{small-start}
+use Rattle.tables.proofs.Tests.{refused-done}
+use Rattle.keys.specs.Keys.{keyOf, refuted, keyChecks, keyReply, orNoAssignment}
+use Rattle.keys.specs.Promises.{Keyed}
+use Rattle.keys.proofs.Checking.{then-passed}
+use Rattle.numerals.specs.Writing.{Spliced}
+use Rattle.numerals.proofs.Splices.{splice-start}
+use Rattle.writing.specs.declared.write.Writing.{Writing}
+use Rattle.writing.specs.declared.write.Writing.the-variants.{Text}
+use Rattle.writing.specs.declared.write.Writing.the-variants.{Refused as Writing·Refused}
+use Rattle.writing.specs.Writing.{writtenText, written}
+use Rattle.writing.specs.Promises.{maxWritten, TextWritten}
+use Rattle.writing.proofs.Promised.{reply-text}
+use Rattle.reports.specs.Refusals.{refusalText}
+use Rattle.reports.specs.Keys.{tableReport, SheetTable}
+use Rattle.reports.proofs.Sheets.{fine-sheet, exactly-serves, key-checks, key-length}
+use Rattle.reports.proofs.Reports.{table-length}
+
+-- ---- the writer, where it can write
+
+-- a text and a refusal are two replies
+text-refused : {m : ℕ} {f : Refusal} → Text m ≡ Writing·Refused f → ⊥
+text-refused e = let z : _≡_ {A = ℕ} 0 1 = cc in omega arith
+
+-- texts of one reply have one length
+text-same : {m k : ℕ} → Text m ≡ Text k → m ≡ k
+text-same e = cc
+
+-- a table written where it serves, its hidden set is in its range, and the output has room
+module _ {n set : ℕ} {t : List ℤ} {out : List ℕ} {r : Writing} {out' : List ℕ} (w : TextWritten n set t out r out')
+    (p : (serves n (length t) ≡ true) × (setWithin n set ≡ true)) (h : length (writtenText n set t) ≤ length out) where
+  -- the reply is the text's length
+  replied : r ≡ Text (length (writtenText n set t))
+  replied = w .reply ∙ sym (reply-text n set t (length out) (length (writtenText n set t)) (p .0) (p .1) refl h)
+
+  -- it is not refused
+  pub never-refused : (f : Refusal) → r ≡ Writing·Refused f → ⊥
+  never-refused f e = text-refused (sym replied ∙ e)
+
+  -- its text stands at the start
+  pub text-spliced : (m : ℕ) → r ≡ Text m → Spliced out 0 (writtenText n set t) m out'
+  unfolding written
+  text-spliced m e = record {
+    cursor = omega (arith, text-same (sym e ∙ replied));
+    buffer = w .bytes ∙ rw (← w .reply, replied) (sym (splice-start out (writtenText n set t)));
+  }
+
+-- ---- a sheet's table
+
+-- its report is never longer than the longest text written
+pub report-room : {n set : ℕ} {t : List ℤ} → SheetTable n set t → length (tableReport n set t) ≤ maxWritten
+report-room s = rw (s .counts, s .hides, s .holds) (table-length (s .contents) (fine-sheet (s .contents) (s .fine)))
+
+-- ---- the key call on it, with a workspace for every table
+
+-- the reply by the decision tells it
+decided : (b : Bool) → orNoAssignment b ≡ Done → b ≡ false
+unfolding orNoAssignment
+decided true e = absurd (refused-done e)
+decided false e = refl
+
+refused-five : (b : Bool) (f : Refusal) → orNoAssignment b ≡ Refused f → (b ≡ true) × (f ≡ NoAssignment)
+unfolding orNoAssignment
+refused-five true f e = (refl, cc)
+refused-five false f e = absurd (refused-done (sym e))
+
+module _ {n set : ℕ} {t w : List ℤ} {r : Reply} {t' w' : List ℤ} (k : Keyed n set t w r t' w') (s : SheetTable n set t)
+    (h : 2 * (maxQuantities * maxQuantities) ≤ length w) where
+  -- its checks pass
+  replied-key : r ≡ orNoAssignment (refuted n t)
+  unfolding keyReply
+  replied-key =
+      let c = s .contents in
+      let f = fine-sheet c (s .fine) in
+      let checks : keyChecks n set t (length w) ≡ Done =
+      rw (s .counts, s .hides, s .holds) (key-checks c f (length w) (omega (arith, small-start (c .count) (f .most)))) in
+      k .reply ∙ then-passed (keyChecks n set t (length w)) (orNoAssignment (refuted n t)) checks
+
+  -- done: the table is the key
+  keyed : r ≡ Done → t' ≡ keyOf (hiddenIn set) n t
+  keyed e = k .words ∙ rw e
+
+  -- which can be written
+  pub key-serves : r ≡ Done → (serves n (length t') ≡ true) × (setWithin n set ≡ true)
+  key-serves e =
+      let c = s .contents in
+      let f = fine-sheet c (s .fine) in
+      rw (keyed e, s .counts, s .hides, s .holds) (rw (key-length c f) (exactly-serves (c .count) (f .some) (f .most)), f .range)
+
+  -- and its text is what is printed
+  pub report-done : r ≡ Done → tableReport n set t ≡ writtenText n set t'
+  unfolding tableReport
+  report-done e = rw (decided (refuted n t) (sym replied-key ∙ e), keyed e)
+
+  -- refused: what is printed is the refusal
+  pub report-refusal : (f : Refusal) → r ≡ Refused f → tableReport n set t ≡ refusalText f
+  unfolding tableReport
+  report-refusal f e = let d = refused-five (refuted n t) f (sym replied-key ∙ e) in rw (d .0, d .1)

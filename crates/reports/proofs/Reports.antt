@@ -1,0 +1,109 @@
+-- What *key* prints for a text, by what the text means: its refusal, 5, or the text of its key; and that it is never longer than the longest text written.
+-- Assumes nothing.
+use mathlib.Core.Path.{_≡_, refl, sym, _∙_, ap}
+use mathlib.Core.Bool.{Bool, true, false, cond}
+use mathlib.Core.List.{List, [], _++_}
+use Prim.Native.Nat.{ℕ, _≤_}
+use native.Mathlib.Omega.{arith}
+use lib.ListN.{length, drop, length-append}
+use lib.Seq.{length-take-le}
+use Rattle.rules.specs.declared.refusal.Refusal.{Refusal}
+use Rattle.rules.specs.declared.refusal.Refusal.the-variants.{NoAssignment}
+use Rattle.rules.specs.Limits.{maxBound, maxText}
+use Rattle.rules.specs.Meaning.{Assignment}
+use Rattle.keys.specs.Keys.{refuted}
+use Rattle.numerals.specs.Writing.{Spliced}
+use Rattle.numerals.proofs.Splices.{splice-start}
+use Rattle.lines.specs.Lines.{Judged, accepted, refused}
+use Rattle.reading.specs.Texts.{Contents, sheetText}
+use Rattle.reading.specs.Meaning.{Spells, FailsFor, Means}
+use Rattle.reading.specs.Reading.{checkText}
+use Rattle.writing.specs.Writing.{tableRules, writtenText}
+use Rattle.writing.specs.Promises.{maxWritten}
+use Rattle.writing.proofs.Meanings.{table-meaning}
+use Rattle.reports.specs.Refusals.{refusalText}
+use Rattle.reports.specs.Keys.{tableReport, reportOf, keyReport, rulesOf, KeyText, KeyPrinted}
+use Rattle.reading.proofs.Means.{text-means}
+use Rattle.reports.proofs.Sheets.{setIn, tableIn, keyIn, Sheet, fine-sheet, sheet-refuted, sheet-met, key-length, key-meaning, key-text-length}
+use Rattle.reports.proofs.Refusals.{refusal-width, refusal-length}
+
+-- ---- of a table
+
+-- refuted
+pub report-five : (c : Contents) → refuted (c .count) (tableIn c) ≡ true → tableReport (c .count) (setIn c) (tableIn c) ≡ refusalText NoAssignment
+unfolding tableReport
+report-five c e = rw e
+
+-- the contents that its key's text has
+abbrev pub keyContents : Contents → Contents
+keyContents c = record { count = c .count; hiddens = c .hiddens; written = tableRules (c .count) (keyIn c) }
+
+-- not refuted
+pub report-key : (c : Contents) → Sheet c → refuted (c .count) (tableIn c) ≡ false → tableReport (c .count) (setIn c) (tableIn c) ≡ sheetText (keyContents c)
+unfolding tableReport writtenText
+report-key c s e = rw (e, s .back)
+
+-- never longer than the longest text written
+pub table-length : (c : Contents) → Sheet c → length (tableReport (c .count) (setIn c) (tableIn c)) ≤ maxWritten
+unfolding tableReport
+table-length c s = go (refuted (c .count) (tableIn c))
+  where
+    go : (b : Bool) → length (cond b (refusalText NoAssignment) (writtenText (c .count) (setIn c) (keyIn c))) ≤ maxWritten
+    go true = omega (arith, refusal-width 0 NoAssignment (omega arith))
+    go false = key-text-length c s
+
+-- ---- of a text
+
+-- it is refused: the refusal
+pub report-refused : (s : List ℕ) (f : Refusal) → FailsFor s f → keyReport s ≡ refusalText f
+unfolding keyReport reportOf
+report-refused s f h = rw (text-means s (refused f) .1 h)
+
+-- it is accepted: what is printed of its table
+pub report-accepted : (s : List ℕ) (c : Contents) → length s ≤ maxText → Spells maxBound s c
+    → keyReport s ≡ tableReport (c .count) (setIn c) (tableIn c)
+unfolding keyReport reportOf
+report-accepted s c l p = rw (text-means s (accepted c []) .1 (l, p, refl))
+
+-- no integers meet its rules: 5
+pub report-none : (s : List ℕ) (c : Contents) → length s ≤ maxText → Spells maxBound s c → ((σ : Assignment) → rulesOf c σ → ⊥)
+    → keyReport s ≡ refusalText NoAssignment
+report-none s c l p none = report-accepted s c l p ∙ report-five c (sheet-refuted c (fine-sheet c (p .fine)) none)
+
+-- some do: the text of its key
+pub report-some : (s : List ℕ) (c : Contents) → length s ≤ maxText → Spells maxBound s c → (σ : Assignment) → rulesOf c σ → KeyText c (keyReport s)
+report-some s c l p σ₀ m =
+    let t = fine-sheet c (p .fine) in
+    record {
+      key = tableRules (c .count) (keyIn c);
+      spelled = report-accepted s c l p ∙ report-key c t (sheet-met c t σ₀ m);
+      meaning = λ σ.
+          let w = table-meaning (c .count) (keyIn c) (omega (arith, key-length c t)) σ in
+          let k = key-meaning c t σ₀ m σ in
+          (λ a. k .0 (w .1 a), λ a. w .0 (k .1 a));
+    }
+
+-- it is never longer than the longest text that can be written
+pub report-length : (s : List ℕ) → length (keyReport s) ≤ maxWritten
+unfolding keyReport reportOf
+report-length s = go (checkText s) (text-means s (checkText s) .0 refl)
+  where
+    go : (j : Judged Contents) → Means s j → length (reportOf j) ≤ maxWritten
+    go (accepted c u) m = table-length c (fine-sheet c (m .1 .fine))
+    go (refused f) m = omega (arith, refusal-length s f m)
+
+-- the record of the contract, where the text printed is known
+pub printed : {s out text : List ℕ} {end : ℕ} {out' : List ℕ} → keyReport s ≡ text → Spliced out 0 text end out' → KeyPrinted s out end out'
+printed {s} {out} {text} {end} {out'} e w =
+    let count : end ≡ length (keyReport s) = omega (arith, w .cursor, ap length e) in
+    let bytes : out' ≡ keyReport s ++ drop (length (keyReport s)) out = rw e (w .buffer ∙ splice-start out text) in
+    let room : end ≤ length out' = omega (arith, ap length bytes, length-append (keyReport s) (drop (length (keyReport s)) out)) in
+    record {
+      count = count;
+      bytes = bytes;
+      room = room;
+      front = sym (length-take-le end out' room);
+      refused = report-refused s;
+      none = report-none s;
+      some = report-some s;
+    }

@@ -1,0 +1,3 @@
+// What the programs print, from bytes to bytes: they only read and write.
+pub mod key;
+pub mod refusal;

@@ -1,17 +1,18 @@
--- What a written text means to the reader: every line of it is fine, so it is accepted with n, the hidden set and the table's words.
--- Assumes nothing.
+-- What a written text means to the reader: every line of it is fine, so within the sheet's limit it is accepted with n, the hidden set and the table's
+-- words. Assumes nothing.
 use mathlib.Core.Path.{_≡_, refl}
 use mathlib.Core.Bool.{Bool, true, false, cond}
 use mathlib.Core.List.{List, [], _∷_, _++_}
-use Prim.Native.Nat.{ℕ, suc, _+_, _*_, _≤_, _<_}
+use Prim.Native.Nat.{ℕ, suc, _+_, _*_, _^_, _≤_, _<_}
 use native.Mathlib.Omega.{arith}
-use lib.Dec.{leb}
 use lib.IntN.{ℤ, pos, negsuc, natAbs}
 use lib.ListN.{length, take, drop, length-take}
+use lib.Signed.{mag}
 use borrow.Author.Tests.{le-leb, le-ltb, ne-eqb}
 use Rattle.integers.specs.Bound.{Within}
 use Rattle.integers.proofs.Within.{within-to}
 use Rattle.integers.proofs.Parts.{positivePart, negativePart}
+use Rattle.words.specs.Change.{wordAt}
 use Rattle.places.specs.Numbering.{blockStart}
 use Rattle.rules.specs.declared.rule.Rule.{Rule}
 use Rattle.rules.specs.declared.rule.Rule.the-variants.{One, Two, Nothing}
@@ -32,7 +33,7 @@ use Rattle.reading.specs.Meaning.{Fine, AllFine, Spells, Means}
 use Rattle.reading.proofs.Means.{text-means}
 use Rattle.reading.specs.Reading.{checkText, replyTo, readReply, filled, readTable}
 use Rattle.writing.specs.Writing.{writtenOf, rulesAt, tableRules, contentsOf, writtenText}
-use Rattle.writing.proofs.Meanings.{front-word, Clean, table-back}
+use Rattle.writing.proofs.Meanings.{front-word, Clean, table-back, AreWords}
 use Rattle.writing.proofs.Members.{hidden-increasing, hidden-within, hidden-back}
 use Rattle.writing.proofs.Lengths.{rules-count, longest-sheet}
 
@@ -42,45 +43,54 @@ use Rattle.writing.proofs.Lengths.{rules-count, longest-sheet}
 literal-within : (n x : ℕ) → x < 2 * n → quantityWithin n (quantityOf x) ≡ true
 literal-within n x h = rw (le-leb 1 (quantityOf x) (omega arith), le-leb (quantityOf x) n (omega arith))
 
--- a bound of a sheet is at most the limit
-bound-within : (c : ℤ) → Within (pos maxBound) c → leb (natAbs c) maxBound ≡ true
-unfolding positivePart negativePart
-bound-within (pos v) h = le-leb v maxBound (omega (arith, within-to h))
-bound-within (negsuc v) h = le-leb (suc v) maxBound (omega (arith, within-to h))
-
--- a rule that has a place and a bound of a sheet may stand in a text
-rule-fine : (n : ℕ) (r : Rule) → HasPlace n r → Within (pos maxBound) (boundOf r) → Fine n maxBound (rule (writtenOf r))
+-- a rule that has a place may stand in a text, where its bound is in the text's limit
+rule-fine : (n limit : ℕ) (r : Rule) → HasPlace n r → natAbs (boundOf r) ≤ limit → Fine n limit (rule (writtenOf r))
 unfolding writtenOf lineWithin cancelling
-rule-fine n (One x c) u w = record { formed = tt; within = rw (literal-within n x u, bound-within c w); uncancelled = refl }
-rule-fine n (Two x y c) u w = record {
+rule-fine n limit (One x c) u w = record { formed = tt; within = rw (literal-within n x u, le-leb (natAbs c) limit w); uncancelled = refl }
+rule-fine n limit (Two x y c) u w = record {
   formed = tt;
-  within = rw (literal-within n x (u .0), literal-within n y (u .1), bound-within c w);
+  within = rw (literal-within n x (u .0), literal-within n y (u .1), le-leb (natAbs c) limit w);
   uncancelled = rw (ne-eqb (quantityOf x) (quantityOf y) (u .2));
 }
-rule-fine n (Nothing c) u w = absurd u
+rule-fine n limit (Nothing c) u w = absurd u
 
--- so may the rules of words from place i on
-rules-fine : (n i : ℕ) (t : List ℤ) → i + length t ≤ blockStart n → WordsWithin (length t) (pos maxBound) t
-    → AllFine n maxBound (ruleLines (rulesAt i t))
+-- each of the first m words that holds a rule is in the limit
+abbrev BoundsWithin : ℕ → ℕ → List ℤ → Type 0
+BoundsWithin m limit t = (k : ℕ) → k < m → k < length t → hasRule (wordAt t k) ≡ true → natAbs (wordAt t k) ≤ limit
+
+-- where they are, the rules of words from place i on may stand in a text
+rules-fine : (n limit i : ℕ) (t : List ℤ) → i + length t ≤ blockStart n → BoundsWithin (length t) limit t → AllFine n limit (ruleLines (rulesAt i t))
 unfolding rulesAt
-rules-fine n i [] l f = tt
-rules-fine n i (w ∷ t) l f =
-    go (rules-fine n (suc i) t (omega arith) (record { each = λ k b c e. f .each (suc k) (omega arith) (omega arith) e })) (hasRule w) refl
+rules-fine n limit i [] l f = tt
+rules-fine n limit i (w ∷ t) l f = go (rules-fine n limit (suc i) t (omega arith) (λ k b c e. f (suc k) (omega arith) (omega arith) e)) (hasRule w) refl
   where
-    go : AllFine n maxBound (ruleLines (rulesAt (suc i) t)) → (b : Bool) → hasRule w ≡ b
-        → AllFine n maxBound (ruleLines (cond b (writtenOf (ruleAt i w) ∷ rulesAt (suc i) t) (rulesAt (suc i) t)))
+    go : AllFine n limit (ruleLines (rulesAt (suc i) t)) → (b : Bool) → hasRule w ≡ b
+        → AllFine n limit (ruleLines (cond b (writtenOf (ruleAt i w) ∷ rulesAt (suc i) t) (rulesAt (suc i) t)))
     go ih true e =
-        (rule-fine n (ruleAt i w) (ruleAt-hasPlace n i w (omega arith)) (rw (ruleAt-bound i w) (f .each 0 (omega arith) (omega arith) e)), ih)
+        (rule-fine n limit (ruleAt i w) (ruleAt-hasPlace n i w (omega arith)) (rw (ruleAt-bound i w) (f 0 (omega arith) (omega arith) e)), ih)
     go ih false e = ih
+
+-- ---- limits
+
+-- a bound of a sheet is at most the sheet's limit
+bound-magnitude : (c : ℤ) → Within (pos maxBound) c → natAbs c ≤ maxBound
+unfolding positivePart negativePart
+bound-magnitude (pos v) h = omega (arith, within-to h)
+bound-magnitude (negsuc v) h = omega (arith, within-to h)
+
+-- a word of 64 bits is at most 2 ^ 63
+word-magnitude : (c : ℤ) → mag c < 2 ^ 63 → natAbs c ≤ 2 ^ 63
+word-magnitude (pos v) h = omega arith
+word-magnitude (negsuc v) h = omega arith
 
 -- ---- the text
 
--- n in its range, a set, and a table whose words that hold a rule are in the sheet's limit
-module _ (n set : ℕ) (t : List ℤ) (some : 1 ≤ n) (most : n ≤ maxQuantities) (words : WordsWithin (blockStart n) (pos maxBound) t) where
-  -- every line is fine
-  pub written-spells : Spells maxBound (writtenText n set t) (contentsOf n set t)
+-- n in its range, a set and a table
+module _ (n set : ℕ) (t : List ℤ) (some : 1 ≤ n) (most : n ≤ maxQuantities) where
+  -- every line is fine, in a limit that the words that hold a rule are in
+  written-spells : (limit : ℕ) → BoundsWithin (blockStart n) limit t → Spells limit (writtenText n set t) (contentsOf n set t)
   unfolding writtenText lineWithin
-  written-spells = record {
+  written-spells limit words = record {
     text = refl;
     fine = (
       record { formed = tt; within = rw (le-leb 1 n some, le-leb n maxQuantities most); uncancelled = refl },
@@ -88,7 +98,7 @@ module _ (n set : ℕ) (t : List ℤ) (some : 1 ≤ n) (most : n ≤ maxQuantiti
         record { formed = hidden-increasing n set; within = hidden-within n set; uncancelled = refl },
         (
           record { formed = tt; within = le-leb (length (tableRules n t)) maxRules (omega (arith, rules-count 0 front, size)); uncancelled = refl },
-          rules-fine n 0 front (omega (arith, size)) inside,
+          rules-fine n limit 0 front (omega (arith, size)) inside,
         ),
       ),
     );
@@ -100,22 +110,31 @@ module _ (n set : ℕ) (t : List ℤ) (some : 1 ≤ n) (most : n ≤ maxQuantiti
       size : (length front ≤ blockStart n) × (blockStart n ≤ 2048)
       size = omega (arith, length-take (blockStart n) t, small-start n most)
 
-      inside : WordsWithin (length front) (pos maxBound) front
-      inside = record { each = λ k b c e. let w = front-word (blockStart n) t k b in rw (w .2) (words .each k (w .0) (w .1) (rw (w .2) at e)) }
+      inside : BoundsWithin (length front) limit front
+      inside k b c e = let w = front-word (blockStart n) t k b in rw (w .2) (words k (w .0) (w .1) (rw (w .2) at e))
 
-  -- it means its contents
-  pub written-means : Means (writtenText n set t) (accepted (contentsOf n set t) [])
-  written-means = (omega (arith, longest-sheet n set t most words), written-spells, refl)
+  -- of any words
+  pub spells-words : AreWords (blockStart n) t → Spells (2 ^ 63) (writtenText n set t) (contentsOf n set t)
+  spells-words words = written-spells (2 ^ 63) (λ k b c e. word-magnitude (wordAt t k) (words k b))
+
+  -- of words in the sheet's limit
+  pub spells-sheet : WordsWithin (blockStart n) (pos maxBound) t → Spells maxBound (writtenText n set t) (contentsOf n set t)
+  spells-sheet words = written-spells maxBound (λ k b c e. bound-magnitude (wordAt t k) (words .each k b c e))
+
+  -- such a text means its contents
+  pub written-means : WordsWithin (blockStart n) (pos maxBound) t → Means (writtenText n set t) (accepted (contentsOf n set t) [])
+  written-means words = (omega (arith, longest-sheet n set t most words), spells-sheet words, refl)
 
   -- read into any table that is long enough, it gives n, the hidden set and the table's words back
-  pub written-back : setWithin n set ≡ true → blockStart n ≤ length t → Clean (blockStart n) t → (u : List ℤ) → blockStart n ≤ length u
+  pub written-back : WordsWithin (blockStart n) (pos maxBound) t → setWithin n set ≡ true → blockStart n ≤ length t → Clean (blockStart n) t
+      → (u : List ℤ) → blockStart n ≤ length u
       → (readReply (writtenText n set t) (length u) ≡ Accepted n set)
       × (readTable (writtenText n set t) u ≡ take (blockStart n) t ++ drop (blockStart n) u)
   unfolding readReply replyTo readTable filled
-  written-back within room clean u enough = (reply, rw (reply, checked, table-back n t room clean))
+  written-back words within room clean u enough = (reply, rw (reply, checked, table-back n t room clean))
     where
       checked : checkText (writtenText n set t) ≡ accepted (contentsOf n set t) []
-      checked = text-means (writtenText n set t) (accepted (contentsOf n set t) []) .1 written-means
+      checked = text-means (writtenText n set t) (accepted (contentsOf n set t) []) .1 (written-means words)
 
       reply : readReply (writtenText n set t) (length u) ≡ Accepted n set
       reply = rw (checked, le-ltb (length u) (blockStart n) enough, hidden-back n set within)

@@ -1,57 +1,31 @@
--- How long what is written is at most: a rule's line, the hidden list, and the text. Assumes nothing.
+-- How long what is written is at most: the rules' lines, the hidden list, and the text. Assumes nothing.
 use mathlib.Core.Path.{_≡_, refl}
 use mathlib.Core.Bool.{Bool, true, false, cond}
 use mathlib.Core.List.{List, [], _∷_}
-use Prim.Native.Nat.{ℕ, zero, suc, _+_, _-_, _*_, _^_, _≤_, _<_}
+use Prim.Native.Nat.{ℕ, zero, suc, _+_, _-_, _*_, _≤_, _<_}
 use native.Mathlib.Nat.{mul-le-mul-right}
 use native.Mathlib.Omega.{arith}
 use lib.IntN.{ℤ, pos, negsuc}
 use lib.ListN.{length, take, length-append, length-take}
-use lib.Signed.{mag}
 use Rattle.integers.specs.Bound.{Within}
 use Rattle.integers.proofs.Within.{within-to}
 use Rattle.integers.proofs.Parts.{positivePart, negativePart}
 use Rattle.words.specs.Change.{wordAt}
 use Rattle.places.specs.Numbering.{blockStart}
-use Rattle.rules.specs.declared.rule.Rule.{Rule}
-use Rattle.rules.specs.declared.rule.Rule.the-variants.{One, Two, Nothing}
 use Rattle.rules.specs.Hidden.{hiddenIn}
 use Rattle.rules.specs.Limits.{maxBound}
-use Rattle.rules.specs.Literal.{quantityOf}
-use Rattle.rules.specs.Meaning.{boundOf}
-use Rattle.tables.specs.Places.{ruleAt, HasPlace}
+use Rattle.tables.specs.Places.{ruleAt}
 use Rattle.tables.specs.Tables.{hasRule}
 use Rattle.tables.specs.Meaning.{WordsWithin}
 use Rattle.tables.proofs.Places.{ruleAt-bound, ruleAt-hasPlace}
 use Rattle.tables.proofs.Sizes.{small-start}
 use Rattle.numerals.specs.Decimal.{decimalUpTo, decimal, signedDecimal}
 use Rattle.numerals.proofs.Decimals.{decimal-width, signed-width}
-use Rattle.lines.specs.Spelling.{Written, termText, ruleText, joinedText, listText, valueText, lineText}
+use Rattle.lines.specs.Spelling.{Written, joinedText, listText, valueText, lineText}
 use Rattle.reading.specs.Texts.{Contents, ruleLines, linesText, headerText, sheetText}
-use Rattle.writing.specs.Writing.{literalTerm, writtenOf, ruleLineText, rulesAt, tableRules, hiddenFrom, hiddenList, contentsOf, writtenText}
+use Rattle.writing.specs.Writing.{writtenOf, ruleLineText, rulesAt, tableRules, hiddenFrom, hiddenList, contentsOf, writtenText}
 use Rattle.writing.proofs.Meanings.{front-word, AreWords}
-
--- ---- a rule's line
-
--- a literal of one of 32 quantities
-term-length : (x : ℕ) → x < 64 → length (termText (literalTerm x)) ≤ 3
-unfolding termText
-term-length x h = omega (arith, decimal-width 1 (quantityOf x) (omega arith))
-
--- a rule of one such literal, and of two
-one-length : (x : ℕ) (c : ℤ) → x < 64 → length (ruleLineText (One x c)) ≤ 10 + length (signedDecimal c)
-unfolding writtenOf lineText valueText ruleText
-one-length x c h = simp length-append (omega (arith, term-length x h))
-
-two-length : (x y : ℕ) (c : ℤ) → x < 64 → y < 64 → length (ruleLineText (Two x y c)) ≤ 13 + length (signedDecimal c)
-unfolding writtenOf lineText valueText ruleText
-two-length x y c h l = simp length-append (omega (arith, term-length x h, term-length y l))
-
--- a rule of one or two of 32 quantities, with a bound of at most k bytes
-pub rule-length : (n k : ℕ) (r : Rule) → n ≤ 32 → HasPlace n r → length (signedDecimal (boundOf r)) ≤ k → length (ruleLineText r) ≤ 13 + k
-rule-length n k (One x c) h u l = omega (arith, one-length x c (omega arith))
-rule-length n k (Two x y c) h u l = omega (arith, two-length x y c (omega (arith, u .0)) (omega (arith, u .1)))
-rule-length n k (Nothing c) h u l = absurd u
+use Rattle.writing.proofs.Lines.{place-line, word-short, line-short}
 
 -- ---- the rules' lines
 
@@ -85,8 +59,8 @@ lines-length n k i (w ∷ t) h l f =
         → length (linesText (ruleLines (cond b (writtenOf (ruleAt i w) ∷ after) after))) ≤ suc (length t) * (13 + k)
     go ih true e =
         let width : length (ruleLineText (ruleAt i w)) ≤ 13 + k =
-        rule-length n k (ruleAt i w) h (ruleAt-hasPlace n i w (omega arith)) (rw (ruleAt-bound i w) (f 0 (omega arith) (omega arith) e)) in
-        rw (length-append (ruleLineText (ruleAt i w)) (linesText (ruleLines after))) (omega arith)
+        line-short n k (ruleAt i w) h (ruleAt-hasPlace n i w (omega arith)) (rw (ruleAt-bound i w) (f 0 (omega arith) (omega arith) e)) in
+        rw (← place-line i w, length-append (ruleLineText (ruleAt i w)) (linesText (ruleLines after))) (omega arith)
     go ih false e = omega arith
 
 -- ---- the hidden list
@@ -168,14 +142,9 @@ longest n set t k h f =
         let most : length front * (13 + k) ≤ 2048 * (13 + k) = mul-le-mul-right (13 + k) (omega (arith, size)) in
         omega (arith, lines-length n k 0 front h (omega (arith, size)) numerals)
 
--- a word of 64 bits has at most 20 bytes
-word-length : (w : ℤ) → mag w < 2 ^ 63 → length (signedDecimal w) ≤ 20
-word-length (pos v) h = signed-width 18 (pos v) (omega arith)
-word-length (negsuc v) h = signed-width 18 (negsuc v) (omega arith)
-
--- so no text is longer than this
+-- no text is longer than this, a word having at most 20 bytes
 pub longest-any : (n set : ℕ) (t : List ℤ) → n ≤ 32 → AreWords (blockStart n) t → length (writtenText n set t) ≤ 67703
-longest-any n set t h f = longest n set t 20 h (λ j b c e. word-length (wordAt t j) (f j b))
+longest-any n set t h f = longest n set t 20 h (λ j b c e. word-short (wordAt t j) (record { sfits = f j b }))
 
 -- a bound of a sheet has at most 11 bytes
 bound-length : (w : ℤ) → Within (pos maxBound) w → length (signedDecimal w) ≤ 11

@@ -1,9 +1,10 @@
 -- The laws of what is written that proofs cite.
 pub mod Meanings
 pub mod Members
+pub mod Lines
 pub mod Lengths
 pub mod Back
-pub mod Lines
 pub mod ListTexts
 pub mod Texts
+pub mod Numbers
 pub mod Promised

@@ -1,16 +1,15 @@
 -- The reply of writing by its tests, and what is promised from it. Assumes nothing.
 use mathlib.Core.Path.{_≡_, refl, sym, _∙_, ap}
 use mathlib.Core.Bool.{Bool, true, false, cond}
-use mathlib.Core.List.{List}
-use Prim.Native.Nat.{ℕ, _^_, _≤_, _<_}
+use mathlib.Core.Logic.{_↔_}
+use mathlib.Core.List.{List, [], _∷_}
+use Prim.Native.Nat.{ℕ, _≤_, _<_}
 use native.Mathlib.Omega.{arith}
 use lib.Dec.{ltb}
 use lib.IntN.{ℤ}
-use lib.ListN.{length, take, drop}
+use lib.ListN.{length, getD, take, drop}
 use lib.Seq.{take-append-seam}
-use lib.Signed.{mag}
-use borrow.Author.Tests.{lt-ltb, le-ltb, ltb-false}
-use Rattle.words.specs.Change.{wordAt}
+use borrow.Author.Tests.{lt-ltb, le-ltb, ltb-true, ltb-false}
 use Rattle.places.specs.Numbering.{blockStart}
 use Rattle.numerals.specs.Writing.{Spliced}
 use Rattle.numerals.proofs.Splices.{splice-start}
@@ -22,11 +21,12 @@ use Rattle.tables.proofs.Sizes.{Served, serves-tells}
 use Rattle.tables.proofs.Tests.{clash}
 use Rattle.writing.specs.declared.write.Writing.{Writing}
 use Rattle.writing.specs.declared.write.Writing.the-variants.{Text, Refused}
-use Rattle.writing.specs.Writing.{writtenText, writeReply, isText, written}
+use Rattle.writing.specs.Writing.{writtenText, writeReply, isText, written, writingNumber, writingValues, Wrote}
 use Rattle.writing.specs.Promises.{TextWritten}
 use Rattle.writing.proofs.Meanings.{AreWords, words-clean, table-meaning}
 use Rattle.writing.proofs.Lengths.{longest-any}
-use Rattle.writing.proofs.Back.{written-back}
+use Rattle.writing.proofs.Back.{spells-words, written-back}
+use Rattle.writing.proofs.Numbers.{wrote-text, refused-number}
 
 -- ---- the reply
 
@@ -66,6 +66,59 @@ put : (n set : ℕ) (t : List ℤ) (out : List ℕ) (r : Writing) (end : ℕ) (o
 unfolding written
 put n set t out r end out' e f s = rw (← e, f) (s .buffer ∙ splice-start out (writtenText n set t))
 
+-- ---- when it is refused
+
+-- the reply by its three tests
+abbrev byTests : Bool → Bool → Bool → ℕ → Writing
+byTests a b c k = cond a (cond b (cond c (Refused (TooShort k)) (Text k)) (Refused (OutOfLimit 0))) (Refused Size)
+
+-- two statements that are both false
+neither : {A B : Type 0} → (A → ⊥) → (B → ⊥) → A ↔ B
+neither f g = (λ a. absurd (f a), λ b. absurd (g b))
+
+-- 1 exactly where the table does not serve
+size-exactly : (n set : ℕ) (t : List ℤ) (room : ℕ) → (writingNumber (writeReply n set t room) ≡ 1) ↔ (serves n (length t) ≡ false)
+unfolding writeReply
+size-exactly n set t room = go (serves n (length t)) (setWithin n set) (ltb room (length (writtenText n set t)))
+  where
+    go : (a b c : Bool) → (writingNumber (byTests a b c (length (writtenText n set t))) ≡ 1) ↔ (a ≡ false)
+    go false b c = (λ e. refl, λ f. refl)
+    go true false c = neither (λ e. omega arith) (λ f. clash {b = true} refl f)
+    go true true false = neither (λ e. omega arith) (λ f. clash {b = true} refl f)
+    go true true true = neither (λ e. omega arith) (λ f. clash {b = true} refl f)
+
+-- 3 exactly where it does, and the set has a quantity past n
+outside-exactly : (n set : ℕ) (t : List ℤ) (room : ℕ)
+    → (writingNumber (writeReply n set t room) ≡ 3) ↔ ((serves n (length t) ≡ true) × (setWithin n set ≡ false))
+unfolding writeReply
+outside-exactly n set t room = go (serves n (length t)) (setWithin n set) (ltb room (length (writtenText n set t)))
+  where
+    go : (a b c : Bool) → (writingNumber (byTests a b c (length (writtenText n set t))) ≡ 3) ↔ ((a ≡ true) × (b ≡ false))
+    go false b c = neither (λ e. omega arith) (λ f. clash (f .0) refl)
+    go true false c = (λ e. (refl, refl), λ f. refl)
+    go true true false = neither (λ e. omega arith) (λ f. clash {b = true} refl (f .1))
+    go true true true = neither (λ e. omega arith) (λ f. clash {b = true} refl (f .1))
+
+-- 6 and the length needed exactly where all is well but the output too short for the text
+short-exactly : (n set : ℕ) (t : List ℤ) (room needed : ℕ)
+    → ((writingNumber (writeReply n set t room) ≡ 6) × (writingValues (writeReply n set t room) ≡ needed ∷ []))
+    ↔ ((serves n (length t) ≡ true) × (setWithin n set ≡ true) × (room < needed) × (needed ≡ length (writtenText n set t)))
+unfolding writeReply
+short-exactly n set t room needed = go (serves n (length t)) (setWithin n set) (ltb room k) refl
+  where
+    k : ℕ
+    k = length (writtenText n set t)
+
+    go : (a b c : Bool) → ltb room k ≡ c → ((writingNumber (byTests a b c k) ≡ 6) × (writingValues (byTests a b c k) ≡ needed ∷ []))
+        ↔ ((a ≡ true) × (b ≡ true) × (room < needed) × (needed ≡ k))
+    go false b c l = neither (λ e. omega (arith, e .0)) (λ f. clash (f .0) refl)
+    go true false c l = neither (λ e. omega (arith, e .0)) (λ f. clash (f .1) refl)
+    go true true false l = neither (λ e. omega (arith, e .0)) (λ f. omega (arith, ltb-false room k l))
+    go true true true l = (
+      λ e. let same : k ≡ needed = ap (λ (v : List ℕ). getD v 0 0) (e .1) in (refl, refl, omega (arith, ltb-true room k l), sym same),
+      λ f. (refl, ap (λ (m : ℕ). m ∷ []) (sym (f .3))),
+    )
+
 -- ---- what a reply tells
 
 -- a text is written where the table serves, the set is in its range, and the output has room
@@ -92,7 +145,7 @@ text-tells n set t room m e = go (serves n (length t)) refl (setWithin n set) re
     k = length (writtenText n set t)
 
     go : (a : Bool) → serves n (length t) ≡ a → (b : Bool) → setWithin n set ≡ b → (c : Bool) → ltb room k ≡ c
-        → cond a (cond b (cond c (Refused (TooShort k)) (Text k)) (Refused (OutOfLimit 0))) (Refused Size) ≡ Text m → Told n set t room m
+        → byTests a b c k ≡ Text m → Told n set t room m
     go true s true w true l f = absurd (refused-text f)
     go true s true w false l f =
         let same = text-same f in
@@ -116,21 +169,32 @@ written-promised : (n set : ℕ) (t : List ℤ) (out : List ℕ) (r : Writing) (
 written-promised n set t out r out' e f words = record {
   reply = e;
   bytes = f;
+  size = rw e (size-exactly n set t (length out));
+  outside = rw e (outside-exactly n set t (length out));
+  short = λ needed. rw e (short-exactly n set t (length out) needed);
+  kept = λ g. f ∙ sym (kept n set t out r e (refused-number r g));
+  spelled = λ m q. let s = served m q in rw (front m q) (spells-words n set t (s .some) (s .most) (are m q));
   meaning = λ m q. table-meaning n t (served m q .room);
-  longest = λ m q. rw (told m q .size) (longest-any n set t (served m q .most) (words (ap isText q)));
+  longest = λ m q. rw (told m q .size) (longest-any n set t (served m q .most) (are m q));
   back = λ m q w u l.
       let s = served m q in
-      rw (front m q) (written-back n set t (s .some) (s .most) w (told m q .within) (s .room) (words-clean (blockStart n) t (words (ap isText q))) u l);
+      rw (front m q) (written-back n set t (s .some) (s .most) w (told m q .within) (s .room) (words-clean (blockStart n) t (are m q)) u l);
 }
   where
-    told : (m : ℕ) → r ≡ Text m → Told n set t (length out) m
-    told m q = text-tells n set t (length out) m (sym e ∙ q)
+    is : (m : ℕ) → Wrote r m → writeReply n set t (length out) ≡ Text m
+    is m q = sym e ∙ wrote-text r m q
 
-    served : (m : ℕ) → r ≡ Text m → Served n (length t)
+    told : (m : ℕ) → Wrote r m → Told n set t (length out) m
+    told m q = text-tells n set t (length out) m (is m q)
+
+    served : (m : ℕ) → Wrote r m → Served n (length t)
     served m q = serves-tells n (length t) (told m q .serving)
 
-    front : (m : ℕ) → r ≡ Text m → take m out' ≡ writtenText n set t
-    front m q = ap (take m) f ∙ text-front n set t out m (sym e ∙ q)
+    are : (m : ℕ) → Wrote r m → AreWords (blockStart n) t
+    are m q = words (ap isText (wrote-text r m q))
+
+    front : (m : ℕ) → Wrote r m → take m out' ≡ writtenText n set t
+    front m q = ap (take m) f ∙ text-front n set t out m (is m q)
 
 -- a refusal
 pub promised-refused : (n set : ℕ) (t : List ℤ) (out : List ℕ) (r : Writing) → r ≡ writeReply n set t (length out) → isText r ≡ false
@@ -139,7 +203,7 @@ promised-refused n set t out r e f = written-promised n set t out r out e (kept 
 
 -- a text
 pub promised-text : (n set : ℕ) (t : List ℤ) (out : List ℕ) (end : ℕ) (out' : List ℕ) → Text end ≡ writeReply n set t (length out)
-    → Spliced out 0 (writtenText n set t) end out' → ((k : ℕ) → k < blockStart n → mag (wordAt t k) < 2 ^ 63)
+    → Spliced out 0 (writtenText n set t) end out' → AreWords (blockStart n) t
     → TextWritten n set t out (Text end) out'
 promised-text n set t out end out' e s words =
     written-promised n set t out (Text end) out' e (put n set t out (Text end) end out' e refl s) (λ g. words)

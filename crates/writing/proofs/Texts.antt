@@ -28,7 +28,8 @@ use Rattle.lines.specs.Spelling.{Written, rule, quantitiesKey, hiddenKey, rules
 use Rattle.reading.specs.Texts.{ruleLines, linesText, headerText, sheetText}
 use Rattle.writing.specs.declared.write.Measure.{Measure}
 use Rattle.writing.specs.Writing.{Measured, MeasuredMore, writtenOf, ruleLineText, rulesAt, placeText, rulesText, hiddenList, countText, headText, tableRules, writtenText}
-use Rattle.writing.proofs.Lines.{line-short}
+use Rattle.writing.proofs.Lines.{place-line, word-short, line-short}
+use Rattle.writing.proofs.Meanings.{AreWords}
 use Rattle.writing.proofs.ListTexts.{list-short}
 
 -- ---- rules by place
@@ -66,7 +67,7 @@ unfolding rulesAt linesText placeText
 lines-place k w = go (hasRule w)
   where
     go : (b : Bool) → linesText (ruleLines (cond b (writtenOf (ruleAt k w) ∷ []) [])) ≡ cond b (ruleLineText (ruleAt k w)) []
-    go true = append-nil (ruleLineText (ruleAt k w))
+    go true = append-nil (lineText (rule (writtenOf (ruleAt k w)))) ∙ sym (place-line k w)
     go false = refl
 
 -- a place that holds a rule has that rule's line
@@ -135,15 +136,12 @@ unfolding placeText
 place-short k w h f = go (hasRule w)
   where
     go : (b : Bool) → length (cond b (ruleLineText (ruleAt k w)) []) ≤ 33
-    go true = line-short (ruleAt k w) (ruleAt-hasPlace maxQuantities k w h) (rw (ruleAt-bound k w) f)
+    go true =
+        line-short maxQuantities 20 (ruleAt k w) (omega arith) (ruleAt-hasPlace maxQuantities k w h) (rw (ruleAt-bound k w) (word-short w f))
     go false = omega arith
 
--- the first k words are of 64 bits
-abbrev Words : ℕ → List ℤ → Type 0
-Words k t = (j : ℕ) → j < k → mag (wordAt t j) < 2 ^ 63
-
--- the lines of the first k have at most 33 bytes for each
-pub text-short : (k : ℕ) (t : List ℤ) → k ≤ length t → k ≤ blockStart maxQuantities → Words k t → length (rulesText (take k t)) ≤ 33 * k
+-- those of the first k words have at most 33 bytes for each
+pub text-short : (k : ℕ) (t : List ℤ) → k ≤ length t → k ≤ blockStart maxQuantities → AreWords k t → length (rulesText (take k t)) ≤ 33 * k
 text-short zero t h l f = omega (arith, ap length (text-none t))
 text-short (suc k) t h l f =
     let short = place-short k (wordAt t k) l (record { sfits = f k (omega arith) }) in
@@ -161,7 +159,7 @@ count-short (suc k) t h = omega (arith, count-more k t h, one-at-most (hasRule (
     one-at-most false = omega arith
 
 -- what was measured are words of the table
-pub measure-words : (k : ℕ) (t : List ℤ) {a : Measure} → Measured (take k t) a → k ≤ length t → Words k t
+pub measure-words : (k : ℕ) (t : List ℤ) {a : Measure} → Measured (take k t) a → k ≤ length t → AreWords k t
 measure-words k t m h j b = rw (getD-take k t j (pos 0) b) at (m .words j (rw (length-take-le k t h) b))
 
 -- and small

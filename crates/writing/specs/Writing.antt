@@ -17,9 +17,9 @@ use Rattle.rules.specs.Literal.{quantityOf}
 use Rattle.rules.specs.Refusal.{refusalNumber, refusalValues, refusalValue}
 use Rattle.tables.specs.Places.{ruleAt}
 use Rattle.tables.specs.Tables.{hasRule, serves}
-use Rattle.numerals.specs.Bytes.{newline, plus, comma, digitZero, colon}
+use Rattle.numerals.specs.Bytes.{newline, comma, colon}
 use Rattle.numerals.specs.Decimal.{decimal, signedDecimal}
-use Rattle.lines.specs.Spelling.{Term, Written, one, two, quantities, hidden, rules, rule, termText, listText, lineText}
+use Rattle.lines.specs.Spelling.{Term, Written, ruleKey, one, two, quantities, hidden, rules, rule, termText, listText, lineText}
 use Rattle.reading.specs.Texts.{Contents, ruleLines, linesText, sheetText}
 use Rattle.writing.specs.declared.write.Measure.{Measure}
 use Rattle.writing.specs.declared.write.Writing.{Writing}
@@ -31,25 +31,27 @@ use Rattle.writing.specs.declared.write.Writing.the-variants.{Text, Refu
 abbrev pub literalTerm : ℕ → Term
 literalTerm x = record { negative = eqb (x % 2) 1; quantity = quantityOf x }
 
--- a rule as it is written; a bare one, which no table holds, has the term +0
+-- a rule as it is written; no table holds a bare one, which has the term +0 here
 unfoldable pub writtenOf : Rule → Written
 writtenOf (One x c) = one (literalTerm x) c
 writtenOf (Two x y c) = two (literalTerm x) (literalTerm y) c
 writtenOf (Nothing c) = one (record { negative = false; quantity = 0 }) c
 
--- the terms of a rule as they are written
-unfoldable pub termsText : Rule → List ℕ
-termsText (One x c) = termText (literalTerm x)
-termsText (Two x y c) = termText (literalTerm x) ++ termText (literalTerm y)
-termsText (Nothing c) = plus ∷ digitZero ∷ []
-
--- a bound with the colon before it and the line's end
+-- a bound with the colon before it
 abbrev pub boundText : ℤ → List ℕ
-boundText c = (colon ∷ signedDecimal c) ++ newline ∷ []
+boundText c = colon ∷ signedDecimal c
 
--- a rule's line
+-- a rule's value, its terms in their order and its bound; a bare rule's is empty
+unfoldable pub ruleValueText : Rule → List ℕ
+ruleValueText (One x c) = termText (literalTerm x) ++ boundText c
+ruleValueText (Two x y c) = termText (literalTerm x) ++ termText (literalTerm y) ++ boundText c
+ruleValueText (Nothing c) = []
+
+-- a rule's line; a bare rule's has the key alone
 abbrev pub ruleLineText : Rule → List ℕ
-ruleLineText r = lineText (rule (writtenOf r))
+ruleLineText (One x c) = lineText (rule (writtenOf (One x c)))
+ruleLineText (Two x y c) = lineText (rule (writtenOf (Two x y c)))
+ruleLineText (Nothing c) = ruleKey ++ newline ∷ []
 
 -- the rules that words hold, the first being the word of place k
 unfoldable pub rulesAt : ℕ → List ℤ → List Written
@@ -143,3 +145,7 @@ writingValues (Refused r) = refusalValues r
 abbrev pub writingValue : Writing → ℕ
 writingValue (Text length) = length
 writingValue (Refused r) = refusalValue r
+
+-- the reply is returned by 0 and this length
+abbrev pub Wrote : Writing → ℕ → Type 0
+Wrote r m = (writingNumber r ≡ 0) × (writingValues r ≡ m ∷ [])

@@ -21,6 +21,7 @@ fn member_width(set: u32, j: usize, before: usize) -> usize
     if before == 0 {
         return digits;
     }
+    // 1 for the comma
     1 + digits
 }
 
@@ -73,6 +74,7 @@ pub(crate) fn header_width(n: usize, set: u32, count: usize) -> usize
     requires { ⌜ (n ≤ maxQuantities) × (count ≤ maxRules) ⌝ }
     ensures { λ r. ⌜ r ≡ length (headText n set count) ⌝ }
 {
+    // 11, 7 and 6 for the keys `quantities=`, `hidden=` and `rules=`, and 3 for the line ends
     27 + write::width(n as u64) + list_width(n, set) + write::width(count as u64)
 }
 

@@ -51,7 +51,7 @@ struct Measure {
 }
 
 impl Measure {
-    // With the word of one place more.
+    // With the word of one place more; the line of a place's rule has at most 33 bytes.
     fn with(self, k: u32, w: i64) -> Measure
         requires { ⌜ (k < blockStart maxQuantities) × (self .rules ≤ k) × (self .bytes ≤ 33 * k) ⌝ }
         ensures { λ r. ⌜ MeasuredMore k w self r ⌝ }

@@ -1,14 +1,8 @@
--- `line::put_rule` meets its contract: the key, the terms and the bound. Assumes nothing.
-use mathlib.Core.Path.{_∙_, ap}
+-- `line::put_rule` meets its contract: the key, the value and the line's end. Assumes nothing.
 use native.Mathlib.Omega.{arith}
-use lib.IntN.{ℤ}
-use lib.ListN.{length}
 use borrow.Author.Needs.{needs}
-use Rattle.integers.proofs.Parts.{held-value}
 use Rattle.numerals.proofs.Splices.{spliced-more}
-use Rattle.rules.specs.Meaning.{boundOf}
-use Rattle.writing.specs.Writing.{boundText}
-use Rattle.writing.proofs.Lines.{rule-line, bound-length, line-length}
+use Rattle.writing.proofs.Lines.{rule-line, line-length}
 use Rattle.writing.proofs.line.put_rule.Statement.{statement}
 use Rattle.writing.proofs.line.put_rule.Tie as tie
 
@@ -18,39 +12,27 @@ slice-aggregate-put-text c = search needs
 put-text-requires : tie.Need-put-text-requires
 put-text-requires c κs = omega (arith, line-length (c .before .before .before .args .rule))
 
-put-terms-requires : tie.Need-put-terms-requires
-put-terms-requires c κs =
+put-value-requires : tie.Need-put-value-requires
+put-value-requires c κs =
     let k = c .before .before .before in
     omega (arith, k .put-text .kept .0, line-length (k .before .before .before .before .args .rule))
 
-bound-requires : tie.Need-bound-requires
-bound-requires c κs = search needs
-
-put-bound-requires : tie.Need-put-bound-requires
-put-bound-requires c κs =
-    let t = c .before .before .before .before in
-    let k = t .before .before .before .before in
-    let r = k .before .before .before .before .args .rule in
-    omega (
-      arith,
-      t .put-terms .kept .0,
-      k .put-text .kept .0,
-      line-length r,
-      bound-length (boundOf r),
-      ap (λ (z : ℤ). length (boundText z)) (held-value (c .bound .ok) ∙ c .bound .ensures),
-    )
+put-byte-requires : tie.Need-put-byte-requires
+put-byte-requires c κs =
+    let v = c .before .before .before in
+    let k = v .before .before .before .before in
+    omega (arith, v .put-value .kept .0, k .put-text .kept .0, line-length (k .before .before .before .before .args .rule))
 
 same-length : tie.Need-same-length
 same-length c = search needs
 
 returns : tie.Need-returns
 returns c =
-    let b = c .before .before in
-    let t = b .before .before .before .before .before in
-    let k = t .before .before .before .before in
-    let bound = rw (held-value (b .before .bound .ok) ∙ b .before .bound .ensures) at (b .put-bound .ensures) in
+    let e = c .before .before in
+    let v = e .before .before .before .before in
+    let k = v .before .before .before .before in
     rw (rule-line (k .before .before .before .before .args .rule))
-    (spliced-more (spliced-more (k .put-text .ensures) (t .put-terms .ensures) (omega arith)) bound (omega arith))
+    (spliced-more (spliced-more (k .put-text .ensures) (v .put-value .ensures) (omega arith)) (e .put-byte .ensures) (omega arith))
 
 pub put-rule-spec : {M : Type 1} → statement M
 put-rule-spec =
@@ -58,8 +40,7 @@ put-rule-spec =
     (tie.spec
     slice-aggregate-put-text
     put-text-requires
-    put-terms-requires
-    bound-requires
-    put-bound-requires
+    put-value-requires
+    put-byte-requires
     same-length
     returns)

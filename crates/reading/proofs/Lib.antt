@@ -19,3 +19,4 @@ pub mod Fronts
 pub mod Filling
 pub mod Checking
 pub mod Replying
+pub mod Frauds

@@ -7,3 +7,4 @@ pub mod Reports
 pub mod Calls
 pub mod Readings
 pub mod Starred
+pub mod Frauds

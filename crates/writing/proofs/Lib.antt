@@ -8,3 +8,4 @@ pub mod ListTexts
 pub mod Texts
 pub mod Numbers
 pub mod Promised
+pub mod Frauds

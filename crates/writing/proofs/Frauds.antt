@@ -1,0 +1,98 @@
+-- Frauds of writers: for a named table each breaks what writing promises, by its reply and its bytes alone. Assumes nothing.
+use mathlib.Core.Path.{_≡_, refl, sym, _∙_, ap}
+use mathlib.Core.Bool.{false}
+use mathlib.Core.List.{List, _∷_, _++_}
+use Prim.Native.Nat.{ℕ, _≤_}
+use lib.Dec.{eqb}
+use lib.IntN.{ℤ, pos}
+use lib.ListN.{length, getD, take, drop, replicate}
+use borrow.Author.Tests.{eqb-false}
+use Rattle.places.specs.Numbering.{blockStart, blockUpTo, blockOf, offsetOf, isOne, higherAt, lowerAt}
+use Rattle.rules.specs.declared.refusal.Refusal.{Refusal}
+use Rattle.rules.specs.Limits.{noRule}
+use Rattle.tables.specs.Places.{ruleAt}
+use Rattle.tables.specs.Tables.{tableSize, serves}
+use Rattle.tables.proofs.Tests.{clash}
+use Rattle.numerals.specs.Bytes.{bytes}
+use Rattle.reading.proofs.Frauds.{spelling}
+use Rattle.writing.specs.declared.write.Writing.the-variants.{Text, Refused}
+use Rattle.writing.specs.Writing.{writtenOf, rulesAt, hiddenFrom, writtenText, isText, written}
+use Rattle.writing.specs.Promises.{TextWritten}
+use Rattle.writing.proofs.Promised.{reply-text, text-tells, text-front}
+
+-- ---- the key of sheet A
+
+-- its table: +1 has place 0, +1+3 place 10
+abbrev pub keyA : List ℤ
+keyA = (pos 3 ∷ replicate 9 noRule) ++ (pos 5 ∷ replicate 7 noRule)
+
+-- `unfolding writing` lets its text be found
+unfoldable pub writing : Unit {0}
+unfolding blockStart blockUpTo blockOf offsetOf isOne higherAt lowerAt ruleAt tableSize serves writtenOf rulesAt hiddenFrom writtenText
+writing = tt
+
+-- which has these 52 bytes
+abbrev pub textA : List ℕ
+textA = bytes "quantities=3\nhidden=2\nrules=2\nrule=+1:3\nrule=+1+3:5\n"
+
+pub keyA-text : writtenText 3 2 keyA ≡ textA
+unfolding writing spelling
+keyA-text = refl
+
+-- ---- frauds: the text
+
+module _ (out : List ℕ) (m : ℕ) (out' : List ℕ) (w : TextWritten 3 2 keyA out (Text m) out') where
+  -- what is written, so many bytes as the reply says, is no list that differs from that text at some byte
+  unlike : {s : List ℕ} (k : ℕ) → take m out' ≡ s → eqb (getD s k 0) (getD textA k 0) ≡ false → ⊥
+  unlike {s} k e h =
+      let f : take m out' ≡ textA = ap (take m) (w .bytes) ∙ text-front 3 2 keyA out m (sym (w .reply)) ∙ keyA-text in
+      eqb-false (getD s k 0) (getD textA k 0) h (ap (λ (l : List ℕ). getD l k 0) (sym e ∙ f))
+
+  -- an invented N
+  pub count-invented : take m out' ≡ bytes "quantities=3\nhidden=2\nrules=3\nrule=+1:3\nrule=+1+3:5\n" → ⊥
+  count-invented e = unlike 28 e refl
+
+  -- rules not in place order
+  pub out-of-order : take m out' ≡ bytes "quantities=3\nhidden=2\nrules=2\nrule=+1+3:5\nrule=+1:3\n" → ⊥
+  out-of-order e = unlike 37 e refl
+
+  -- the higher quantity first
+  pub higher-first : take m out' ≡ bytes "quantities=3\nhidden=2\nrules=2\nrule=+1:3\nrule=+3+1:5\n" → ⊥
+  higher-first e = unlike 46 e refl
+
+  -- a place skipped that holds a rule
+  pub place-skipped : take m out' ≡ bytes "quantities=3\nhidden=2\nrules=1\nrule=+1:3\n" → ⊥
+  place-skipped e = unlike 28 e refl
+
+  -- the no-rule word of an absent place printed
+  pub absent-printed : take m out' ≡ bytes "quantities=3\nhidden=2\nrules=3\nrule=+1:3\nrule=-1:9223372036854775807\nrule=+1+3:5\n" → ⊥
+  absent-printed e = unlike 28 e refl
+
+  -- the hidden list lost
+  pub hidden-lost : take m out' ≡ bytes "quantities=3\nhidden=\nrules=2\nrule=+1:3\nrule=+1+3:5\n" → ⊥
+  hidden-lost e = unlike 20 e refl
+
+  -- ---- frauds: the length, and what is past the text
+
+  -- a length that is not the text's
+  pub miscounted : (m ≡ 52 → ⊥) → ⊥
+  unfolding writing spelling
+  miscounted h = h (text-tells 3 2 keyA (length out) m (sym (w .reply)) .size)
+
+  -- bytes past the text changed
+  pub past-changed : (drop 52 out' ≡ drop 52 out → ⊥) → ⊥
+  unfolding written writing spelling
+  past-changed h = h (rw (w .bytes, ← w .reply) refl)
+
+-- ---- frauds: refusals
+
+-- a writer that refuses everything
+pub refuses-all : (out : List ℕ) (f : Refusal) (out' : List ℕ) → 52 ≤ length out → TextWritten 3 2 keyA out (Refused f) out' → ⊥
+unfolding writing spelling
+refuses-all out f out' h w = clash refl (ap isText (reply-text 3 2 keyA (length out) 52 refl refl refl h ∙ sym (w .reply)))
+
+-- a refusal that has already changed the output, whatever the table
+pub refusal-changed : (n set : ℕ) (t : List ℤ) (out : List ℕ) (f : Refusal) (out' : List ℕ) → (out' ≡ out → ⊥)
+    → TextWritten n set t out (Refused f) out' → ⊥
+unfolding written
+refusal-changed n set t out f out' h w = h (w .bytes ∙ rw (← w .reply) refl)

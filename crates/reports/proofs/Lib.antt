@@ -2,6 +2,7 @@
 pub mod Rules
 pub mod Hiddens
 pub mod Sheets
+pub mod KeyTexts
 pub mod Refusals
 pub mod Reports
 pub mod Calls

@@ -15,7 +15,9 @@ use Rattle.keys.specs.Keys.{refuted}
 use Rattle.numerals.specs.Writing.{Spliced}
 use Rattle.numerals.proofs.Splices.{splice-start}
 use Rattle.lines.specs.Lines.{Judged, accepted, refused}
-use Rattle.reading.specs.Texts.{Contents, sheetText}
+use Rattle.lines.specs.Spelling.{lineWithin}
+use Rattle.lines.proofs.SetMembers.{list-members}
+use Rattle.reading.specs.Texts.{Contents}
 use Rattle.reading.specs.Meaning.{Spells, FailsFor, Means}
 use Rattle.reading.specs.Reading.{checkText}
 use Rattle.writing.specs.Writing.{tableRules, writtenText}
@@ -25,6 +27,7 @@ use Rattle.reports.specs.Refusals.{refusalText}
 use Rattle.reports.specs.Keys.{tableReport, reportOf, keyReport, rulesOf, KeyText, KeyPrinted}
 use Rattle.reading.proofs.Means.{text-means}
 use Rattle.reports.proofs.Sheets.{setIn, tableIn, keyIn, Sheet, fine-sheet, sheet-refuted, sheet-met, key-length, key-meaning, key-text-length}
+use Rattle.reports.proofs.KeyTexts.{key-spells, key-spares}
 use Rattle.reports.proofs.Refusals.{refusal-width, refusal-length}
 
 -- ---- of a table
@@ -34,14 +37,11 @@ pub report-five : (c : Contents) → refuted (c .count) (tableIn c) ≡ true →
 unfolding tableReport
 report-five c e = rw e
 
--- the contents that its key's text has
-abbrev pub keyContents : Contents → Contents
-keyContents c = record { count = c .count; hiddens = c .hiddens; written = tableRules (c .count) (keyIn c) }
-
 -- not refuted
-pub report-key : (c : Contents) → Sheet c → refuted (c .count) (tableIn c) ≡ false → tableReport (c .count) (setIn c) (tableIn c) ≡ sheetText (keyContents c)
-unfolding tableReport writtenText
-report-key c s e = rw (e, s .back)
+pub report-key : (c : Contents) → refuted (c .count) (tableIn c) ≡ false
+    → tableReport (c .count) (setIn c) (tableIn c) ≡ writtenText (c .count) (setIn c) (keyIn c)
+unfolding tableReport
+report-key c e = rw e
 
 -- never longer than the longest text written
 pub table-length : (c : Contents) → Sheet c → length (tableReport (c .count) (setIn c) (tableIn c)) ≤ maxWritten
@@ -72,11 +72,14 @@ report-none s c l p none = report-accepted s c l p ∙ report-five c (sheet-refu
 
 -- some do: the text of its key
 pub report-some : (s : List ℕ) (c : Contents) → length s ≤ maxText → Spells maxBound s c → (σ : Assignment) → rulesOf c σ → KeyText c (keyReport s)
+unfolding lineWithin
 report-some s c l p σ₀ m =
     let t = fine-sheet c (p .fine) in
+    let members = list-members (c .count) (c .hiddens) (p .fine .1 .0 .formed) (p .fine .1 .0 .within) in
     record {
       key = tableRules (c .count) (keyIn c);
-      spelled = report-accepted s c l p ∙ report-key c t (sheet-met c t σ₀ m);
+      spelled = rw (report-accepted s c l p ∙ report-key c (sheet-met c t σ₀ m)) (key-spells c t);
+      visible = λ q e. key-spares c t q (members q ∙ e);
       meaning = λ σ.
           let w = table-meaning (c .count) (keyIn c) (omega (arith, key-length c t)) σ in
           let k = key-meaning c t σ₀ m σ in

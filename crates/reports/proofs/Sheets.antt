@@ -1,10 +1,10 @@
 -- The sheet that a fine text writes: its table passes the key call's checks, 'no assignment' is decided by its rules as written, and its key means what
 -- demand 2 says. Assumes nothing.
-use mathlib.Core.Path.{_≡_, refl, sym, _∙_}
-use mathlib.Core.Bool.{Bool, true, false, cond}
+use mathlib.Core.Path.{_≡_, refl, sym, _∙_, ap}
+use mathlib.Core.Bool.{Bool, true, false}
 use mathlib.Core.List.{List}
 use mathlib.Core.Logic.{_↔_}
-use Prim.Native.Nat.{ℕ, zero, suc, _*_, _^_, _≤_}
+use Prim.Native.Nat.{ℕ, _*_, _^_, _≤_}
 use native.Mathlib.Nat.{mul-le-mul-left}
 use native.Mathlib.Omega.{arith}
 use lib.IntN.{ℤ, pos, negsuc}
@@ -41,7 +41,7 @@ use Rattle.writing.specs.Promises.{maxWritten}
 use Rattle.writing.proofs.Lengths.{longest}
 use Rattle.reports.specs.Keys.{FineLines, rulesOf}
 use Rattle.reports.proofs.Rules.{rules-meaning, read-within}
-use Rattle.reports.proofs.Hiddens.{quantity-range, set-range, list-back}
+use Rattle.reports.proofs.Hiddens.{quantity-range, set-range, list-back, list-count, count-most}
 
 -- the hidden set and the table of contents, and their key
 abbrev pub setIn : Contents → ℕ
@@ -138,25 +138,21 @@ key-meaning c s σ₀ m σ = (
     exact : Satisfies (c .count) (keyIn c) σ ↔ SheetAllows hidden (Satisfies (c .count) (tableIn c)) σ
     exact = key-exact hidden (c .count) (tableIn c) σ₀ (hide-ample hidden (c .count) (tableIn c) (s .fits)) (s .meaning σ₀ .1 m) σ
 
--- no more quantities are hidden than there are
-count-most : (hidden : ℕ → Bool) (m : ℕ) → hiddenCount hidden m ≤ m
-unfolding hiddenCount
-count-most hidden zero = omega arith
-count-most hidden (suc j) = go (count-most hidden j) (hidden (suc j))
-  where
-    go : hiddenCount hidden j ≤ j → (b : Bool) → cond b (suc (hiddenCount hidden j)) (hiddenCount hidden j) ≤ suc j
-    go h true = omega arith
-    go h false = omega arith
+-- as many quantities are hidden as the list has
+hidden-count : (c : Contents) → Sheet c → hiddenCount (hiddenIn (setIn c)) (c .count) ≡ length (c .hiddens)
+hidden-count c s = sym (list-count (hiddenIn (setIn c)) (c .count)) ∙ ap length (s .back)
 
 -- its bounds are at most this in magnitude
-pub key-bounds : (c : Contents) → Sheet c → WordsWithin (blockStart (c .count)) (pos (maxBound * 2 ^ maxQuantities)) (keyIn c)
+pub key-bounds : (c : Contents) → Sheet c → WordsWithin (blockStart (c .count)) (pos (maxBound * 2 ^ length (c .hiddens))) (keyIn c)
 key-bounds c s =
-    let hidden = hiddenIn (setIn c) in
     let b = wordsInLimit-within (blockStart (c .count)) (pos maxBound) (tableIn c) .0 (s .limit) in
-    let w = key-within hidden (c .count) maxBound (tableIn c) (omega arith) b in
-    let most : maxBound * 2 ^ hiddenCount hidden (c .count) ≤ maxBound * 2 ^ maxQuantities =
-    mul-le-mul-left maxBound (pow-mono {i = hiddenCount hidden (c .count)} {j = maxQuantities} (omega (arith, count-most hidden (c .count)))) in
-    record { each = λ k h l e. within-mono most (w .each k h l e) }
+    rw (hidden-count c s) at (key-within (hiddenIn (setIn c)) (c .count) maxBound (tableIn c) (omega arith) b)
+
+-- whatever is hidden, at most this
+limit-most : (c : Contents) → Sheet c → maxBound * 2 ^ length (c .hiddens) ≤ maxBound * 2 ^ maxQuantities
+limit-most c s =
+    let most : length (c .hiddens) ≤ maxQuantities = omega (arith, hidden-count c s, count-most (hiddenIn (setIn c)) (c .count)) in
+    mul-le-mul-left maxBound (pow-mono {i = length (c .hiddens)} {j = maxQuantities} most)
 
 -- so the numeral of each has at most 20 bytes
 bound-width : (w : ℤ) → Within (pos (maxBound * 2 ^ maxQuantities)) w → length (signedDecimal w) ≤ 20
@@ -167,4 +163,5 @@ bound-width (negsuc v) h = signed-width 18 (negsuc v) (omega (arith, within-to h
 -- and its text has no more than the longest that can be written
 pub key-text-length : (c : Contents) → Sheet c → length (writtenText (c .count) (setIn c) (keyIn c)) ≤ maxWritten
 key-text-length c s =
-    longest (c .count) (setIn c) (keyIn c) 20 (s .most) (λ k h l e. bound-width (wordAt (keyIn c) k) (key-bounds c s .each k h l e))
+    longest (c .count) (setIn c) (keyIn c) 20 (s .most)
+    (λ k h l e. bound-width (wordAt (keyIn c) k) (within-mono (limit-most c s) (key-bounds c s .each k h l e)))

@@ -1,23 +1,23 @@
 -- What the program *key* prints for a sheet's text: the key's text, or the refusal.
 use mathlib.Core.Path.{_≡_}
-use mathlib.Core.Bool.{cond}
+use mathlib.Core.Bool.{true, false, cond}
 use mathlib.Core.Logic.{_↔_}
-use mathlib.Core.List.{List, _++_}
-use Prim.Native.Nat.{ℕ, _≤_}
+use mathlib.Core.List.{List, [], _∷_, _++_}
+use Prim.Native.Nat.{ℕ, _*_, _^_, _≤_}
 use lib.IntN.{ℤ}
 use lib.ListN.{length, take, drop}
 use Rattle.rules.specs.declared.refusal.Refusal.{Refusal}
 use Rattle.rules.specs.declared.refusal.Refusal.the-variants.{NoAssignment}
-use Rattle.rules.specs.Hidden.{hiddenIn}
+use Rattle.rules.specs.declared.rule.Rule.{Rule}
+use Rattle.rules.specs.Hidden.{hiddenIn, setOf, isListed}
 use Rattle.rules.specs.Limits.{maxBound, maxText}
-use Rattle.rules.specs.Meaning.{Assignment}
+use Rattle.rules.specs.Meaning.{Assignment, names}
 use Rattle.tables.specs.Meaning.{Paper, MeetsAll, SheetAllows}
 use Rattle.tables.specs.Tables.{tableOf}
 use Rattle.keys.specs.Keys.{keyOf, refuted}
 use Rattle.lines.specs.Spelling.{Written, writtenRules}
 use Rattle.lines.specs.Lines.{Judged, accepted, refused}
-use Rattle.rules.specs.Hidden.{setOf}
-use Rattle.reading.specs.Texts.{Contents, sheetText}
+use Rattle.reading.specs.Texts.{Contents}
 use Rattle.reading.specs.Meaning.{AllFine, linesOf, ruled, Spells, FailsFor}
 use Rattle.reading.specs.Reading.{checkText}
 use Rattle.writing.specs.Writing.{writtenText}
@@ -57,11 +57,20 @@ pub record SheetTable (n set : ℕ) (table : List ℤ) : Type 0 where
 abbrev pub rulesOf : Contents → Paper
 rulesOf c σ = MeetsAll σ (writtenRules (c .written))
 
--- the text is that of a key of these contents: it has their n and hidden list, and its rules allow integers for the visible quantities exactly when some
--- integers for the hidden ones satisfy the whole sheet with them (demand 2)
+-- no rule of a list names quantity q
+abbrev pub NoneNames : ℕ → List Rule → Type 0
+NoneNames q [] = Unit {0}
+NoneNames q (r ∷ rs) = (names q r ≡ false) × NoneNames q rs
+
+-- the text is that of a key of these contents, with document 01's words of it
 pub record KeyText (c : Contents) (text : List ℕ) : Type 0 where
   pub key : List Written
-  pub spelled : text ≡ sheetText (record { count = c .count; hiddens = c .hiddens; written = key })
+  -- it has their n and hidden list, and every line is fine: quantity numbers of 1 to n, no `+q-q`, and bounds up to the sheet's limit doubled once for each
+  -- hidden quantity ("One hiding step at most doubles the largest magnitude of a bound")
+  pub spelled : Spells (maxBound * 2 ^ length (c .hiddens)) text (record { count = c .count; hiddens = c .hiddens; written = key })
+  -- no rule names a hidden quantity ("then all places that name q become no rule")
+  pub visible : (q : ℕ) → isListed q (c .hiddens) ≡ true → NoneNames q (writtenRules key)
+  -- its rules allow integers for the visible quantities exactly when some integers for the hidden ones satisfy the whole sheet with them (demand 2)
   pub meaning : (σ : Assignment) → MeetsAll σ (writtenRules key) ↔ SheetAllows (hiddenIn (setOf (c .hiddens))) (rulesOf c) σ
 
 -- what is printed for the text s: its refusal; where the text is accepted, 5 if no integers satisfy its rules, and the text of its key if some do

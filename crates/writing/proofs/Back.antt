@@ -72,11 +72,11 @@ rules-fine n limit i (w ∷ t) l f = go (rules-fine n limit (suc i) t (omega ari
 
 -- ---- limits
 
--- a bound of a sheet is at most the sheet's limit
-bound-magnitude : (c : ℤ) → Within (pos maxBound) c → natAbs c ≤ maxBound
+-- a bound within a limit is at most the limit in magnitude
+bound-magnitude : (limit : ℕ) (c : ℤ) → Within (pos limit) c → natAbs c ≤ limit
 unfolding positivePart negativePart
-bound-magnitude (pos v) h = omega (arith, within-to h)
-bound-magnitude (negsuc v) h = omega (arith, within-to h)
+bound-magnitude limit (pos v) h = omega (arith, within-to h)
+bound-magnitude limit (negsuc v) h = omega (arith, within-to h)
 
 -- a word of 64 bits is at most 2 ^ 63
 word-magnitude : (c : ℤ) → mag c < 2 ^ 63 → natAbs c ≤ 2 ^ 63
@@ -117,9 +117,13 @@ module _ (n set : ℕ) (t : List ℤ) (some : 1 ≤ n) (most : n ≤ maxQuantiti
   pub spells-words : AreWords (blockStart n) t → Spells (2 ^ 63) (writtenText n set t) (contentsOf n set t)
   spells-words words = written-spells (2 ^ 63) (λ k b c e. word-magnitude (wordAt t k) (words k b))
 
-  -- of words in the sheet's limit
+  -- of words within any limit
+  pub spells-within : (limit : ℕ) → WordsWithin (blockStart n) (pos limit) t → Spells limit (writtenText n set t) (contentsOf n set t)
+  spells-within limit words = written-spells limit (λ k b c e. bound-magnitude limit (wordAt t k) (words .each k b c e))
+
+  -- of words in the sheet's
   pub spells-sheet : WordsWithin (blockStart n) (pos maxBound) t → Spells maxBound (writtenText n set t) (contentsOf n set t)
-  spells-sheet words = written-spells maxBound (λ k b c e. bound-magnitude (wordAt t k) (words .each k b c e))
+  spells-sheet words = spells-within maxBound words
 
   -- such a text means its contents
   pub written-means : WordsWithin (blockStart n) (pos maxBound) t → Means (writtenText n set t) (accepted (contentsOf n set t) [])

@@ -27,8 +27,7 @@ use Rattle.numerals.specs.Bytes.{bytes}
 use Rattle.numerals.specs.Decimal.{decimalUpTo, decimal, signedDecimal}
 use Rattle.numerals.specs.Parsing.{andThen, expect, digitsFrom, numeralOf}
 use Rattle.lines.specs.Spelling.{two, termText, ruleText, joinedText, listText, valueText, lineText, lineWithin, cancelling, writtenRule}
-use Rattle.lines.specs.Lines.{ended, countLine, membersAfter, membersFrom, listOf, hiddenLine, termOf, boundAt, boundLine, afterTerm, ruleLine}
-use Rattle.lines.specs.Lines.{refused, judged, countJudged, hiddenJudged, ruleJudged}
+use Rattle.lines.specs.Lines.{ended, countLine, membersAfter, membersFrom, listOf, hiddenLine, termOf, boundAt, boundLine, afterTerm, ruleLine, refused, judged, countJudged, hiddenJudged, ruleJudged}
 use Rattle.reading.specs.declared.read.Reading.the-variants.{Accepted, Refused}
 use Rattle.reading.specs.Texts.{Contents, linesText, headerText, sheetText}
 use Rattle.reading.specs.Meaning.{Spells, MalformedAt, OutsideAt, CancelsAt, AcceptedAs}

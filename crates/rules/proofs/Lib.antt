@@ -2,6 +2,7 @@
 -- step.
 pub mod Words
 pub mod Sets
+pub mod Refusals
 pub mod Literals
 pub mod Meanings
 mod Examples

@@ -1,127 +1,165 @@
 -- Signed quantity numbers and bounds at a cursor: how they are read, and what their answers tell. Assumes nothing.
 use mathlib.Core.Path.{_≡_, refl, sym, _∙_, ap, ap₂}
-use mathlib.Core.Bool.{true, false}
+use mathlib.Core.Bool.{Bool, true, false, cond}
 use mathlib.Core.List.{List, [], _∷_, _++_}
-use Prim.Native.Nat.{ℕ, zero, suc, _+_, _≤_}
+use Prim.Native.Nat.{ℕ, zero, suc, _+_, _-_, _≤_, _<_}
 use native.Mathlib.Omega.{arith}
-use lib.IntN.{ℤ, pos, negsuc, negℤ}
-use lib.ListN.{drop}
-use lib.Signed.{ltZ}
-use lib.Seq.{drop-drop}
-use Rattle.numerals.specs.declared.byte.Kind.{Kind}
+use lib.Dec.{ltb, eqb}
+use lib.IntN.{ℤ, pos, negℤ}
+use lib.ListN.{length, getD, drop, drop-of-length-le}
+use borrow.Author.Tests.{lt-ltb, le-ltb, ltb-true}
 use Rattle.numerals.specs.declared.byte.Kind.the-variants.{Plus, Minus}
 use Rattle.numerals.specs.declared.read.Numeral.the-variants.{Number}
 use Rattle.numerals.specs.declared.read.Numeral.the-variants as numeral
+use Rattle.numerals.specs.Bytes.{plus, minus, kindOf}
 use Rattle.numerals.specs.Decimal.{cap, capped, signedDecimal}
-use Rattle.numerals.specs.Parsing.{Parsed, parsed, malformed, andThen, expect, numeralOf, numeralAnswer, kindAt, cursorOf}
+use Rattle.numerals.specs.Parsing.{Parsed, parsed, malformed, andThen, startsWith, numeralOf, numeralAnswer, cursorOf}
 use Rattle.numerals.proofs.Cases.{clash}
 use Rattle.numerals.proofs.Cursors.{cursor-rest}
-use Rattle.numerals.proofs.Keys.{byteOf, single, kind-here, kind-expect, kind-test-fails}
-use Rattle.numerals.proofs.Reading.{numeral-missing}
-use Rattle.numerals.proofs.Values.{capped-cap}
+use Rattle.numerals.proofs.Keys.{kind-byte, kind-test, kind-test-fails, byte-first, byte-fails}
+use Rattle.numerals.proofs.Reading.{drop-next, numeral-missing}
+use Rattle.numerals.proofs.Values.{capped-cap, capped-upto}
 use Rattle.lines.specs.declared.signed.Signed.the-variants.{Read, Malformed}
 use Rattle.lines.specs.Spelling.{Term, termText, signedQuantity}
 use Rattle.lines.specs.Lines.{termOf, below, boundAt}
-use Rattle.lines.specs.Answers.{told, signedAnswer, termAnswer}
+use Rattle.lines.specs.Answers.{told, withSign, afterMinus, signedAnswer, termAnswer}
 use Rattle.lines.proofs.Terms.{term-sound, bound-sound}
-use Rattle.lines.proofs.Told.{told-below}
+use Rattle.lines.proofs.Told.{told-neg, told-above}
 
--- ---- a numeral with a sign
+-- ---- what a numeral's answer tells
 
--- a numeral's answer is that of the number with its sign
-pub sign-read : (sign : ℕ → ℤ) (s : List ℕ) (p : Parsed ℕ) (v next : ℕ) → ((w : ℕ) → told (sign w) ≡ sign (capped w))
-    → numeralAnswer s p ≡ Number v next → Read (sign v) next ≡ signedAnswer s (andThen p (λ w. parsed (sign w)))
-unfolding numeralAnswer signedAnswer andThen
-sign-read sign s (parsed w u) v next h e = sym (ap₂ Read (h w ∙ ap sign (cc)) (cc))
-sign-read sign s malformed v next h e = cc
-
--- where there is no numeral there is no number with a sign
-pub sign-none : (sign : ℕ → ℤ) (s : List ℕ) (p : Parsed ℕ) → numeralAnswer s p ≡ numeral.Malformed
-    → Malformed ≡ signedAnswer s (andThen p (λ w. parsed (sign w)))
-unfolding numeralAnswer signedAnswer andThen
-sign-none sign s (parsed w u) e = cc
-sign-none sign s malformed e = refl
-
--- and no number is told above the cap
-pub sign-cap : (s : List ℕ) (p : Parsed ℕ) (v next : ℕ) → numeralAnswer s p ≡ Number v next → v ≤ cap
+-- no number is told above the cap
+pub answer-cap : (s : List ℕ) (p : Parsed ℕ) (v next : ℕ) → numeralAnswer s p ≡ Number v next → v ≤ cap
 unfolding numeralAnswer
-sign-cap s (parsed w u) v next e = let q : capped w ≡ v = cc in omega (arith, q, capped-cap w)
-sign-cap s malformed v next e = let z : _≡_ {A = ℕ} 0 1 = cc in omega arith
+answer-cap s (parsed w u) v next e = let q : capped w ≡ v = cc in omega (arith, q, capped-cap w)
+answer-cap s malformed v next e = let z : _≡_ {A = ℕ} 0 1 = cc in omega arith
 
--- ---- a byte at a cursor
+-- without an answer there is no numeral
+answer-none : (s : List ℕ) (p : Parsed ℕ) → numeralAnswer s p ≡ numeral.Malformed → p ≡ malformed
+unfolding numeralAnswer
+answer-none s (parsed w u) e = let z : _≡_ {A = ℕ} 0 1 = cc in let y : ⊥ = omega arith in absurd y
+answer-none s malformed e = refl
 
--- the bytes at a cursor that begin with one of a kind are the kind's byte and those after it
-pub kind-first : (k : Kind) (s : List ℕ) (at : ℕ) → single k ≡ true → kindAt (drop at s) ≡ k → drop at s ≡ byteOf k ∷ drop (at + 1) s
-kind-first k s at o e = kind-here k (drop at s) o e ∙ ap (λ (u : List ℕ). byteOf k ∷ u) (drop-drop 1 at s)
+-- ---- signed quantity numbers
 
--- such a byte that is expected is passed
-pub kind-passed : {A : Type 0} (k : Kind) (s : List ℕ) (at : ℕ) (next : List ℕ → Parsed A) → single k ≡ true → kindAt (drop at s) ≡ k
-    → expect (byteOf k ∷ []) (drop at s) next ≡ next (drop (at + 1) s)
-kind-passed k s at next o e = kind-expect k (drop at s) next o e ∙ ap next (drop-drop 1 at s)
+-- at the end of the text there is none
+pub term-end : (s : List ℕ) (at : ℕ) → length s ≤ at → termOf (drop at s) ≡ malformed
+unfolding termOf
+term-end s at h = rw (drop-of-length-le s h)
 
--- ---- reading
+-- a sign and the number after it
+term-parts : (s : List ℕ) (at : ℕ) → at < length s → let p = numeralOf (drop (at + 1) s) in
+    termOf (drop at s) ≡ cond (eqb (getD s at 0) plus) (andThen p (λ q. parsed (record { negative = false; quantity = q })))
+    (cond (eqb (getD s at 0) minus) (andThen p (λ q. parsed (record { negative = true; quantity = q }))) malformed)
+unfolding termOf
+term-parts s at h = rw (drop-next s at h)
 
--- a plus and a numeral are a signed quantity number, and its answer is that of the number
-pub term-plus : (s : List ℕ) (at : ℕ) → kindAt (drop at s) ≡ Plus
-    → signedAnswer s (andThen (numeralOf (drop (at + 1) s)) (λ v. parsed (pos v))) ≡ termAnswer s (termOf (drop at s))
-unfolding termOf termAnswer signedAnswer andThen
-term-plus s at e = rw (kind-first Plus s at refl e) (go (numeralOf (drop (at + 1) s)))
+-- without a number there is none
+pub term-bare : (s : List ℕ) (at : ℕ) → at < length s → numeralAnswer s (numeralOf (drop (at + 1) s)) ≡ numeral.Malformed
+    → termOf (drop at s) ≡ malformed
+unfolding andThen
+term-bare s at h e = term-parts s at h ∙ rw (answer-none s (numeralOf (drop (at + 1) s)) e) (go (eqb (getD s at 0) plus) (eqb (getD s at 0) minus))
   where
-    go : (p : Parsed ℕ) → signedAnswer s (andThen p (λ v. parsed (pos v)))
-        ≡ termAnswer s (andThen p (λ q. parsed (record { negative = false; quantity = q })))
-    go (parsed v u) = refl
-    go malformed = refl
+    go : (t m : Bool) → _≡_ {A = Parsed Term} (cond t malformed (cond m malformed malformed)) malformed
+    go true m = refl
+    go false true = refl
+    go false false = refl
 
--- with a minus it is that of the number below 0
-pub term-minus : (s : List ℕ) (at : ℕ) → kindAt (drop at s) ≡ Minus
-    → signedAnswer s (andThen (numeralOf (drop (at + 1) s)) (λ v. parsed (negℤ (pos v)))) ≡ termAnswer s (termOf (drop at s))
-unfolding termOf termAnswer signedAnswer andThen
-term-minus s at e = rw (kind-first Minus s at refl e) (go (numeralOf (drop (at + 1) s)))
-  where
-    go : (p : Parsed ℕ) → signedAnswer s (andThen p (λ v. parsed (negℤ (pos v))))
-        ≡ termAnswer s (andThen p (λ q. parsed (record { negative = true; quantity = q })))
-    go (parsed v u) = refl
-    go malformed = refl
+-- with a number told it is told with its sign
+term-told : (m : Bool) (s : List ℕ) (p : Parsed ℕ) (v next : ℕ) → numeralAnswer s p ≡ Number v next
+    → Read (withSign m v) next ≡ termAnswer s (andThen p (λ q. parsed (record { negative = m; quantity = q })))
+unfolding numeralAnswer termAnswer andThen
+term-told true s (parsed w u) v next e = let q : capped w ≡ v = cc in
+    sym (ap₂ Read (told-neg w ∙ ap (λ (x : ℕ). negℤ (pos x)) q) (cc))
+term-told false s (parsed w u) v next e = cc
+term-told true s malformed v next e = cc
+term-told false s malformed v next e = cc
+
+-- after a plus
+pub term-plus : (s : List ℕ) (at v next : ℕ) → at < length s → kindOf (getD s at 0) ≡ Plus
+    → numeralAnswer s (numeralOf (drop (at + 1) s)) ≡ Number v next → Read (pos v) next ≡ termAnswer s (termOf (drop at s))
+term-plus s at v next h k e = term-told false s (numeralOf (drop (at + 1) s)) v next e
+    ∙ ap (termAnswer s) (sym (term-parts s at h ∙ rw (kind-test Plus (getD s at 0) refl k)))
+
+-- after a minus
+pub term-minus : (s : List ℕ) (at v next : ℕ) → at < length s → kindOf (getD s at 0) ≡ Minus
+    → numeralAnswer s (numeralOf (drop (at + 1) s)) ≡ Number v next → Read (negℤ (pos v)) next ≡ termAnswer s (termOf (drop at s))
+term-minus s at v next h k e = term-told true s (numeralOf (drop (at + 1) s)) v next e
+    ∙ ap (termAnswer s) (sym (term-parts s at h
+    ∙ rw (ap (λ (b : ℕ). eqb b plus) (kind-byte Minus (getD s at 0) refl k), kind-test Minus (getD s at 0) refl k)))
 
 -- without a sign there is none
-pub term-none : (u : List ℕ) → (kindAt u ≡ Plus → ⊥) → (kindAt u ≡ Minus → ⊥) → termOf u ≡ malformed
-unfolding termOf kindAt
-term-none [] h l = refl
-term-none (b ∷ u) h l = rw (kind-test-fails Plus b refl h, kind-test-fails Minus b refl l)
+pub term-none : (s : List ℕ) (at : ℕ) → at < length s → (kindOf (getD s at 0) ≡ Plus → ⊥) → (kindOf (getD s at 0) ≡ Minus → ⊥)
+    → termOf (drop at s) ≡ malformed
+term-none s at h p m = term-parts s at h ∙ rw (kind-test-fails Plus (getD s at 0) refl p, kind-test-fails Minus (getD s at 0) refl m)
 
--- a bound without a sign is a numeral
-pub bound-plain : (u : List ℕ) → (kindAt u ≡ Minus → ⊥) → boundAt u ≡ andThen (numeralOf u) (λ v. parsed (pos v))
-unfolding boundAt kindAt andThen
-bound-plain [] h = sym (rw (numeral-missing [] refl))
-bound-plain (b ∷ u) h = rw (kind-test-fails Minus b refl h)
+-- ---- bounds
 
--- a bound with a sign is a numeral above 0
-pub bound-minus : (s : List ℕ) (at : ℕ) → kindAt (drop at s) ≡ Minus → boundAt (drop at s) ≡ andThen (numeralOf (drop (at + 1) s)) below
-unfolding boundAt
-bound-minus s at e = rw (kind-first Minus s at refl e)
+-- the bound of a number with a minus or without one
+abbrev signedBound : Bool → ℕ → List ℕ → Parsed ℤ
+signedBound true = below
+signedBound false = λ v. parsed (pos v)
 
--- without a number below 0 there is no such bound
-pub below-none : (s : List ℕ) (p : Parsed ℕ) → signedAnswer s (andThen p (λ v. parsed (negℤ (pos v)))) ≡ Malformed
-    → Malformed ≡ signedAnswer s (andThen p below)
+-- a minus is one byte
+pub minus-passed : (s : List ℕ) (at : ℕ) → (at ≤ afterMinus s at) × (afterMinus s at ≤ at + 1)
+unfolding afterMinus
+minus-passed s at = go (startsWith (minus ∷ []) (drop at s))
+  where
+    go : (t : Bool) → (at ≤ cond t (at + 1) at) × (cond t (at + 1) at ≤ at + 1)
+    go true = (omega arith, omega arith)
+    go false = (omega arith, omega arith)
+
+-- a bound is the number after its minus
+bound-parts : (s : List ℕ) (at : ℕ) → boundAt (drop at s) ≡ andThen (numeralOf (drop (afterMinus s at) s)) (signedBound (ltb at (afterMinus s at)))
+unfolding afterMinus boundAt andThen
+bound-parts s at = go (startsWith (minus ∷ []) (drop at s)) refl
+  where
+    plain : (u : List ℕ) → startsWith (minus ∷ []) u ≡ false → boundAt u ≡ andThen (numeralOf u) (λ v. parsed (pos v))
+    plain [] e = sym (rw (numeral-missing [] refl))
+    plain (b ∷ u) e = rw (byte-fails minus b u e)
+
+    go : (t : Bool) → startsWith (minus ∷ []) (drop at s) ≡ t
+        → boundAt (drop at s) ≡ andThen (numeralOf (drop (cond t (at + 1) at) s)) (signedBound (ltb at (cond t (at + 1) at)))
+    go true e = ap boundAt (byte-first minus s at e) ∙ sym (rw (lt-ltb at (at + 1) (omega arith)))
+    go false e = plain (drop at s) e ∙ sym (rw (le-ltb at at (omega arith)))
+
+-- without a number there is no bound
+pub bound-bare : (s : List ℕ) (at : ℕ) → numeralAnswer s (numeralOf (drop (afterMinus s at) s)) ≡ numeral.Malformed
+    → Malformed ≡ signedAnswer s (boundAt (drop at s))
 unfolding signedAnswer andThen
-below-none s (parsed v u) e = cc
-below-none s malformed e = refl
+bound-bare s at e = sym (ap (signedAnswer s) (bound-parts s at) ∙ rw (answer-none s (numeralOf (drop (afterMinus s at) s)) e))
 
--- nor with `-0`
-pub below-zero : (s : List ℕ) (p : Parsed ℕ) (z : ℤ) (next : ℕ) → signedAnswer s (andThen p (λ v. parsed (negℤ (pos v)))) ≡ Read z next
-    → ltZ z (pos 0) ≡ false → Malformed ≡ signedAnswer s (andThen p below)
-unfolding signedAnswer andThen
-below-zero s (parsed zero u) z next e h = refl
-below-zero s (parsed (suc v) u) z next e h = let q : told (negsuc v) ≡ z = cc in clash (told-below v) (ap (λ (x : ℤ). ltZ x (pos 0)) q ∙ h)
-below-zero s malformed z next e h = cc
+-- 0 with a minus is no bound
+minus-zero : (m : Bool) (s : List ℕ) (p : Parsed ℕ) (v next : ℕ) → numeralAnswer s p ≡ Number v next → m ≡ true → v < 1
+    → Malformed ≡ signedAnswer s (andThen p (signedBound m))
+unfolding numeralAnswer signedAnswer andThen
+minus-zero false s p v next e m h = clash m refl
+minus-zero true s (parsed zero u) v next e m h = refl
+minus-zero true s (parsed (suc w) u) v next e m h = let q : capped (suc w) ≡ v = cc in let z : ⊥ = omega (arith, q, told-above w) in absurd z
+minus-zero true s malformed v next e m h = cc
 
--- any other is one
-pub below-read : (s : List ℕ) (p : Parsed ℕ) (z : ℤ) (next : ℕ) → signedAnswer s (andThen p (λ v. parsed (negℤ (pos v)))) ≡ Read z next
-    → ltZ z (pos 0) ≡ true → Read z next ≡ signedAnswer s (andThen p below)
-unfolding signedAnswer andThen capped
-below-read s (parsed zero u) z next e h = let q : z ≡ pos (capped 0) = cc in clash h (ap (λ (x : ℤ). ltZ x (pos 0)) q)
-below-read s (parsed (suc v) u) z next e h = sym e
-below-read s malformed z next e h = cc
+-- any other number is one
+number-bound : (m : Bool) (s : List ℕ) (p : Parsed ℕ) (v next : ℕ) → numeralAnswer s p ≡ Number v next → (m ≡ true → 0 < v)
+    → Read (withSign m v) next ≡ signedAnswer s (andThen p (signedBound m))
+unfolding numeralAnswer signedAnswer andThen
+number-bound false s (parsed w u) v next e h = cc
+number-bound true s (parsed zero u) v next e h = let q : capped 0 ≡ v = cc in
+    let z : ⊥ = omega (arith, q, capped-upto 0 (omega arith), h refl) in absurd z
+number-bound true s (parsed (suc w) u) v next e h = cc
+number-bound false s malformed v next e h = cc
+number-bound true s malformed v next e h = cc
+
+-- a number below those that its sign allows is no bound
+pub bound-low : (s : List ℕ) (at v next : ℕ) → numeralAnswer s (numeralOf (drop (afterMinus s at) s)) ≡ Number v next → v < afterMinus s at - at
+    → Malformed ≡ signedAnswer s (boundAt (drop at s))
+bound-low s at v next e h = minus-zero (ltb at (afterMinus s at)) s (numeralOf (drop (afterMinus s at) s)) v next e
+    (lt-ltb at (afterMinus s at) (omega arith)) (omega (arith, minus-passed s at)) ∙ ap (signedAnswer s) (sym (bound-parts s at))
+
+-- any other is told with its sign
+pub bound-told : (s : List ℕ) (at v next : ℕ) → numeralAnswer s (numeralOf (drop (afterMinus s at) s)) ≡ Number v next → afterMinus s at - at ≤ v
+    → Read (withSign (ltb at (afterMinus s at)) v) next ≡ signedAnswer s (boundAt (drop at s))
+bound-told s at v next e h = number-bound (ltb at (afterMinus s at)) s (numeralOf (drop (afterMinus s at) s)) v next e
+    (λ m. omega (arith, ltb-true at (afterMinus s at) m)) ∙ ap (signedAnswer s) (sym (bound-parts s at))
 
 -- ---- what the answers tell
 

@@ -4,7 +4,6 @@ use mathlib.Core.Bool.{Bool, true, false, cond}
 use Prim.Native.Nat.{ℕ, zero, suc, _≤_, _<_}
 use native.Mathlib.Omega.{arith}
 use lib.IntN.{ℤ, pos, negsuc, negℤ, natAbs}
-use lib.Signed.{ltZ}
 use mir.Syntax.{w64}
 use mir.Val.{SFits}
 use Rattle.integers.proofs.Parts.{positivePart, negativePart, parts-neg, word-of}
@@ -37,13 +36,9 @@ told-neg zero = ap pos zero-told ∙ ap (λ (m : ℕ). negℤ (pos m)) (sym zero
     zero-told = capped-upto 0 (omega arith)
 told-neg (suc v) = refl
 
--- a number below 0 is told below 0
-pub told-below : (v : ℕ) → ltZ (told (negsuc v)) (pos 0) ≡ true
-told-below v = go (capped (suc v)) (by-below (suc v) cap (λ h. omega (arith, capped-below (suc v) h)) (λ h. omega (arith, capped-above (suc v) h)))
-  where
-    go : (m : ℕ) → 0 < m → ltZ (negℤ (pos m)) (pos 0) ≡ true
-    go zero h = let z : ⊥ = omega arith in absurd z
-    go (suc m) h = refl
+-- a number above 0 is told above 0
+pub told-above : (v : ℕ) → 0 < capped (suc v)
+told-above v = by-below (suc v) cap (λ h. omega (arith, capped-below (suc v) h)) (λ h. omega (arith, capped-above (suc v) h))
 
 -- a number that is told is a word with either sign
 pub cap-word : (v : ℕ) → v ≤ cap → SFits w64 (pos v)

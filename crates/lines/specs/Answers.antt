@@ -1,13 +1,14 @@
 -- What the program has of a line: the values as numbers, and a cursor for the bytes that follow.
 use mathlib.Core.Path.{_≡_}
-use mathlib.Core.Bool.{cond, _&&_}
+use mathlib.Core.Bool.{Bool, true, false, cond, _&&_}
 use mathlib.Core.List.{List, [], _∷_}
-use Prim.Native.Nat.{ℕ, suc}
+use Prim.Native.Nat.{ℕ, suc, _+_}
 use lib.Dec.{leb}
 use lib.IntN.{ℤ, pos, negsuc, negℤ, natAbs, _+ℤ_}
-use Rattle.numerals.specs.Bytes.{colon}
+use lib.ListN.{drop}
+use Rattle.numerals.specs.Bytes.{minus, colon}
 use Rattle.numerals.specs.Decimal.{capped}
-use Rattle.numerals.specs.Parsing.{Parsed, parsed, malformed, andThen, expect, cursorOf}
+use Rattle.numerals.specs.Parsing.{Parsed, parsed, malformed, andThen, expect, startsWith, cursorOf}
 use Rattle.rules.specs.declared.refusal.Refusal.{Refusal}
 use Rattle.rules.specs.declared.refusal.Refusal.the-variants.{Size, Malformed, OutOfLimit, Cancelling}
 use Rattle.rules.specs.Hidden.{setOf}
@@ -26,6 +27,15 @@ abbrev pub told : ℤ → ℤ
 told (pos v) = pos (capped v)
 told (negsuc v) = negℤ (pos (capped (suc v)))
 
+-- a number with a minus or without one
+abbrev pub withSign : Bool → ℕ → ℤ
+withSign true v = negℤ (pos v)
+withSign false v = pos v
+
+-- the cursor after the minus at a cursor, or the same one where there is none
+unfoldable pub afterMinus : List ℕ → ℕ → ℕ
+afterMinus s at = cond (startsWith (minus ∷ []) (drop at s)) (at + 1) at
+
 -- the answer of a signed quantity number, and of a bound, in the text s
 unfoldable pub signedAnswer : List ℕ → Parsed ℤ → Signed
 signedAnswer s (parsed z u) = Read (told z) (cursorOf s u)
@@ -37,8 +47,8 @@ termAnswer s malformed = Malformed
 
 -- the answer of a rule line's form
 unfoldable pub spelledAnswer : List ℕ → Parsed Written → Spelled
-spelledAnswer s (parsed (one x c) u) = One (told (signedQuantity x)) (told c) (cursorOf s u)
-spelledAnswer s (parsed (two x y c) u) = Two (told (signedQuantity x)) (told (signedQuantity y)) (told c) (cursorOf s u)
+spelledAnswer s (parsed (one x c) u) = One (told c) (cursorOf s u) (told (signedQuantity x))
+spelledAnswer s (parsed (two x y c) u) = Two (told c) (cursorOf s u) (told (signedQuantity x)) (told (signedQuantity y))
 spelledAnswer s malformed = Nothing
 
 -- what follows a rule's first term: the bound, or the second term before it
@@ -54,9 +64,9 @@ pub record AfterFirst (s : List ℕ) (first : ℤ) (following : Term → Parsed 
 
 -- the answer of a rule line by its form, from the values as they are told: its numbers in their limits, then whether its terms cancel
 unfoldable pub formAnswer : ℕ → ℕ → ℕ → Spelled → Answer
-formAnswer n limit line (One x c next) =
+formAnswer n limit line (One c next x) =
     cond (quantityWithin n (natAbs x) && leb (natAbs c) limit) (Rule (ruleOf x (pos 0) c) next) (Refused (OutOfLimit line))
-formAnswer n limit line (Two x y c next) =
+formAnswer n limit line (Two c next x y) =
     cond (quantityWithin n (natAbs x) && quantityWithin n (natAbs y) && leb (natAbs c) limit)
     (cond (isNone (x +ℤ y)) (Refused (Cancelling line)) (Rule (ruleOf x y c) next))
     (Refused (OutOfLimit line))

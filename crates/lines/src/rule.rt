@@ -30,7 +30,7 @@ fn is_quantity(term: i64, n: usize) -> bool
 // A rule of one term: 3 where a number is outside its limit.
 fn one(term: i64, bound: i64, n: usize, limit: u64, line: usize, next: usize) -> Answer
     requires { ⌜ n ≤ maxQuantities ⌝ }
-    ensures { λ r. ⌜ r ≡ formAnswer n limit line (One term bound next) ⌝ }
+    ensures { λ r. ⌜ r ≡ formAnswer n limit line (One bound next term) ⌝ }
 {
     if !is_quantity(term, n) {
         return answer::out_of_limit(line);
@@ -55,7 +55,7 @@ fn two(
     next: usize,
 ) -> Answer
     requires { ⌜ n ≤ maxQuantities ⌝ }
-    ensures { λ r. ⌜ r ≡ formAnswer n limit line (Two first second bound next) ⌝ }
+    ensures { λ r. ⌜ r ≡ formAnswer n limit line (Two bound next first second) ⌝ }
 {
     if !is_quantity(first, n) {
         return answer::out_of_limit(line);
@@ -84,12 +84,12 @@ pub fn rule_line(s: &[u8], at: usize, n: usize, limit: u64, line: usize) -> Answ
 {
     let form = spelled::spelled_at(s, at);
     match form {
-        Spelled::One { term, bound, next } => one(term, bound, n, limit, line, next),
+        Spelled::One { bound, next, term } => one(term, bound, n, limit, line, next),
         Spelled::Two {
-            first,
-            second,
             bound,
             next,
+            first,
+            second,
         } => two(first, second, bound, n, limit, line, next),
         Spelled::Nothing => answer::malformed(line),
     }

@@ -4,11 +4,11 @@ use numerals::byte::Kind;
 use numerals::read;
 use numerals::read::Numeral;
 ghost use mathlib.Core.Path.{_≡_};
-ghost use lib.IntN.{pos, negℤ};
+ghost use Prim.Native.Nat.{_≤_};
 ghost use lib.ListN.{drop};
-ghost use Rattle.numerals.specs.Parsing.{andThen, parsed, numeralOf};
+ghost use Rattle.numerals.specs.Decimal.{cap};
 ghost use Rattle.lines.specs.Lines.{termOf, boundAt, boundLine};
-ghost use Rattle.lines.specs.Answers.{signedAnswer, termAnswer};
+ghost use Rattle.lines.specs.Answers.{withSign, afterMinus, signedAnswer, termAnswer};
 
 // A number with its sign, as far as values are told, and the cursor after it.
 pub(crate) enum Signed {
@@ -16,62 +16,69 @@ pub(crate) enum Signed {
     Malformed,
 }
 
-// The numeral at the cursor as it is.
-fn positive(s: &[u8], at: usize) -> Signed
-    ensures { λ r. ⌜ r ≡ signedAnswer (now (s .entry)) (andThen (numeralOf (drop at (now (s .entry)))) (λ v. parsed (pos v))) ⌝ }
+// A number with a minus or without one.
+fn with_sign(minus: bool, value: u64) -> i64
+    requires { ⌜ value ≤ cap ⌝ }
+    ensures { λ r. ⌜ r ≡ withSign minus value ⌝ }
 {
-    let got = read::numeral_at(s, at);
-    let Numeral::Number { value, next } = got else {
-        return Signed::Malformed;
-    };
-    Signed::Read {
-        value: value as i64,
-        next,
+    if minus {
+        return -(value as i64);
     }
+    value as i64
 }
 
-// The numeral at the cursor, negated.
-fn negative(s: &[u8], at: usize) -> Signed
-    ensures { λ r. ⌜ r ≡ signedAnswer (now (s .entry)) (andThen (numeralOf (drop at (now (s .entry)))) (λ v. parsed (negℤ (pos v)))) ⌝ }
-{
-    let got = read::numeral_at(s, at);
-    let Numeral::Number { value, next } = got else {
-        return Signed::Malformed;
-    };
-    Signed::Read {
-        value: -(value as i64),
-        next,
-    }
-}
-
-// The signed quantity number at the cursor.
+// The signed quantity number at the cursor. Its number is read first, so that both signs share one reading.
 pub(crate) fn term_at(s: &[u8], at: usize) -> Signed
     ensures { λ r. ⌜ r ≡ termAnswer (now (s .entry)) (termOf (drop at (now (s .entry)))) ⌝ }
 {
-    let kind = byte::kind_at(s, at);
+    if s.len() <= at {
+        return Signed::Malformed;
+    }
+    let got = read::numeral_at(s, at + 1);
+    let Numeral::Number { value, next } = got else {
+        return Signed::Malformed;
+    };
+    let b = s[at];
+    let kind = byte::kind_of(b);
     match kind {
-        Kind::Plus => positive(s, at + 1),
-        Kind::Minus => negative(s, at + 1),
+        Kind::Plus => Signed::Read {
+            value: with_sign(false, value),
+            next,
+        },
+        Kind::Minus => Signed::Read {
+            value: with_sign(true, value),
+            next,
+        },
         _ => Signed::Malformed,
     }
 }
 
-// The bound at the cursor; `-0` is malformed.
+// The cursor after the minus at the cursor, or the same one where there is none.
+fn after_minus(s: &[u8], at: usize) -> usize
+    ensures { λ r. ⌜ r ≡ afterMinus (now (s .entry)) at ⌝ }
+{
+    if byte::is_at(s, at, b'-') {
+        return at + 1;
+    }
+    at
+}
+
+// The bound at the cursor; `-0` is malformed, so that a number after a minus is at least 1.
 fn bound_at(s: &[u8], at: usize) -> Signed
     ensures { λ r. ⌜ r ≡ signedAnswer (now (s .entry)) (boundAt (drop at (now (s .entry)))) ⌝ }
 {
-    let kind = byte::kind_at(s, at);
-    let Kind::Minus = kind else {
-        return positive(s, at);
-    };
-    let got = negative(s, at + 1);
-    let Signed::Read { value, next: _ } = got else {
+    let from = after_minus(s, at);
+    let got = read::numeral_at(s, from);
+    let Numeral::Number { value, next } = got else {
         return Signed::Malformed;
     };
-    if value < 0 {
-        return got;
+    if value < (from - at) as u64 {
+        return Signed::Malformed;
     }
-    Signed::Malformed
+    Signed::Read {
+        value: with_sign(at < from, value),
+        next,
+    }
 }
 
 // The bound at the cursor and the end of its line, with the cursor after that.
@@ -82,10 +89,9 @@ pub(crate) fn bound_line(s: &[u8], at: usize) -> Signed
     let Signed::Read { value, next } = got else {
         return Signed::Malformed;
     };
-    let kind = byte::kind_at(s, next);
-    let Kind::LineEnd = kind else {
+    if !byte::is_at(s, next, b'\n') {
         return Signed::Malformed;
-    };
+    }
     Signed::Read {
         value,
         next: next + 1,

@@ -2,24 +2,24 @@
 use crate::signed;
 use crate::signed::Signed;
 use numerals::byte;
-use numerals::byte::Kind;
 ghost use mathlib.Core.Path.{_≡_};
 ghost use lib.ListN.{drop};
 ghost use Rattle.lines.specs.Lines.{ruleLine};
 ghost use Rattle.lines.specs.Answers.{spelledAnswer, oneAfter, twoAfter, AfterFirst};
 
-// A rule as it is written, its signed quantity numbers and its bound as far as values are told, and the cursor of the next line.
+// A rule as it is written: its bound, the cursor of the next line and its signed quantity numbers, as far as values are told. What both forms
+// have comes first, so that it is at one place in both.
 pub(crate) enum Spelled {
     One {
-        term: i64,
         bound: i64,
         next: usize,
+        term: i64,
     },
     Two {
-        first: i64,
-        second: i64,
         bound: i64,
         next: usize,
+        first: i64,
+        second: i64,
     },
     Nothing,
 }
@@ -32,7 +32,7 @@ fn rule_of_one(s: &[u8], at: usize, term: i64) -> Spelled
     let Signed::Read { value: bound, next } = got else {
         return Spelled::Nothing;
     };
-    Spelled::One { term, bound, next }
+    Spelled::One { bound, next, term }
 }
 
 // A rule of two terms, of which the second is at the cursor.
@@ -47,10 +47,9 @@ fn rule_of_two(s: &[u8], at: usize, first: i64) -> Spelled
     else {
         return Spelled::Nothing;
     };
-    let kind = byte::kind_at(s, next);
-    let Kind::Colon = kind else {
+    if !byte::is_at(s, next, b':') {
         return Spelled::Nothing;
-    };
+    }
     let ending = signed::bound_line(s, next + 1);
     let Signed::Read {
         value: bound,
@@ -60,10 +59,10 @@ fn rule_of_two(s: &[u8], at: usize, first: i64) -> Spelled
         return Spelled::Nothing;
     };
     Spelled::Two {
-        first,
-        second,
         bound,
         next: after,
+        first,
+        second,
     }
 }
 
@@ -79,9 +78,8 @@ pub(crate) fn spelled_at(s: &[u8], at: usize) -> Spelled
     let Signed::Read { value, next } = got else {
         return Spelled::Nothing;
     };
-    let kind = byte::kind_at(s, next);
-    let Kind::Colon = kind else {
-        return rule_of_two(s, next, value);
-    };
-    rule_of_one(s, next + 1, value)
+    if byte::is_at(s, next, b':') {
+        return rule_of_one(s, next + 1, value);
+    }
+    rule_of_two(s, next, value)
 }

@@ -8,7 +8,7 @@ use native.Mathlib.Numerals.{add-one}
 use native.Mathlib.Omega.{arith}
 use lib.Dec.{T, leb, eqb}
 use lib.ListN.{length, getD, drop, length-append, drop-of-length-le}
-use lib.Seq.{drop-cons, drop-append-seam}
+use lib.Seq.{drop-cons, drop-drop, drop-append-seam}
 use mir.Val.{hasKey}
 use types.Run.{OneOf, miss}
 use denote.Enum.Declared.{tagOf}
@@ -17,7 +17,7 @@ use Rattle.numerals.specs.declared.byte.Kind.{Kind}
 use Rattle.numerals.specs.declared.byte.Kind.the-variants.{Digit, Plus, Minus, Colon, Comma, LineEnd, Other}
 use Rattle.numerals.specs.Bytes.{isDigit, kindOf, digitZero, plus, minus, colon, comma, newline}
 use Rattle.numerals.specs.Parsing.{Parsed, malformed, expect, startsWith, kindAt, digitNext}
-use Rattle.numerals.proofs.Cases.{clash, failed, both-true}
+use Rattle.numerals.proofs.Cases.{clash, failed, both-true, by-below}
 use Rattle.numerals.proofs.byte.Kind.{the-type}
 
 -- ---- digits
@@ -135,41 +135,6 @@ pub digit-kind : (b : ℕ) → isDigit b ≡ true → kindOf b ≡ Digit
 unfolding kindOf
 digit-kind b e = rw e
 
--- and no other byte has it
-pub kind-digit : (b : ℕ) → kindOf b ≡ Digit → isDigit b ≡ true
-unfolding kindOf
-kind-digit b e = go (isDigit b) (eqb b plus) (eqb b minus) (eqb b colon) (eqb b comma) (eqb b newline) e
-  where
-    none : {k : Kind} → k ≡ Digit → (place k ≡ 0 → ⊥) → false ≡ true
-    none q h = absurd (h (ap place q))
-
-    go : (d p m c a l : Bool) → cond d Digit (cond p Plus (cond m Minus (cond c Colon (cond a Comma (cond l LineEnd Other))))) ≡ Digit → d ≡ true
-    go true p m c a l f = refl
-    go false true m c a l f = none f (omega arith)
-    go false false true c a l f = none f (omega arith)
-    go false false false true a l f = none f (omega arith)
-    go false false false false true l f = none f (omega arith)
-    go false false false false false true f = none f (omega arith)
-    go false false false false false false f = none f (omega arith)
-
--- a first byte whose kind one byte alone has is that byte
-pub kind-here : (k : Kind) (u : List ℕ) → single k ≡ true → kindAt u ≡ k → u ≡ byteOf k ∷ drop 1 u
-unfolding kindAt
-kind-here k [] o e = clash o (ap single (sym e))
-kind-here k (b ∷ u) o e = ap (λ (x : ℕ). x ∷ u) (kind-byte k b o e)
-
--- a digit is next where the first byte has the kind of digits
-pub digit-next : (u : List ℕ) → kindAt u ≡ Digit → digitNext u ≡ true
-unfolding kindAt
-digit-next [] e = let z : _≡_ {A = ℕ} 0 1 = cc in let y : ⊥ = omega arith in absurd y
-digit-next (b ∷ u) e = kind-digit b e
-
--- and nowhere else
-pub no-digit-next : (u : List ℕ) → (kindAt u ≡ Digit → ⊥) → digitNext u ≡ false
-unfolding kindAt
-no-digit-next [] h = refl
-no-digit-next (b ∷ u) h = failed (isDigit b) (λ e. h (digit-kind b e))
-
 -- a byte of a kind passes the test against the kind's byte
 pub kind-test : (k : Kind) (b : ℕ) → single k ≡ true → kindOf b ≡ k → eqb b (byteOf k) ≡ true
 kind-test k b o e = eq-eqb b (byteOf k) (kind-byte k b o e)
@@ -222,28 +187,6 @@ expect-not ks u next e = rw (expect-tests ks u next, e)
 pub expect-append : {A : Type 0} (ks u : List ℕ) (next : List ℕ → Parsed A) → expect ks (ks ++ u) next ≡ next u
 expect-append ks u next = expect-key ks (ks ++ u) next (startsWith-append ks u) ∙ ap next (drop-append-seam ks u)
 
--- a key of one byte is there where the first byte has its kind
-pub kind-starts : (k : Kind) (u : List ℕ) → single k ≡ true → kindAt u ≡ k → startsWith (byteOf k ∷ []) u ≡ true
-unfolding startsWith kindAt
-kind-starts k [] o e = clash o (ap single (sym e))
-kind-starts k (b ∷ u) o e = rw (kind-test k b o e)
-
--- and nowhere else
-pub kind-starts-not : (k : Kind) (u : List ℕ) → single k ≡ true → (kindAt u ≡ k → ⊥) → startsWith (byteOf k ∷ []) u ≡ false
-unfolding startsWith kindAt
-kind-starts-not k [] o h = refl
-kind-starts-not k (b ∷ u) o h = rw (kind-test-fails k b o h)
-
--- it is passed there
-pub kind-expect : {A : Type 0} (k : Kind) (u : List ℕ) (next : List ℕ → Parsed A) → single k ≡ true → kindAt u ≡ k
-    → expect (byteOf k ∷ []) u next ≡ next (drop 1 u)
-kind-expect k u next o e = expect-key (byteOf k ∷ []) u next (kind-starts k u o e)
-
--- and nothing is read elsewhere
-pub kind-expect-not : {A : Type 0} (k : Kind) (u : List ℕ) (next : List ℕ → Parsed A) → single k ≡ true → (kindAt u ≡ k → ⊥)
-    → expect (byteOf k ∷ []) u next ≡ malformed
-kind-expect-not k u next o h = expect-not (byteOf k ∷ []) u next (kind-starts-not k u o h)
-
 -- ---- at a cursor
 
 -- at the end of the text there is no kind
@@ -264,9 +207,49 @@ kind-inside k s at o e = go (leb (length s) at) refl
     go true q = clash o (ap named (sym e ∙ kind-end s at (leb-true (length s) at q)))
     go false q = leb-false (length s) at q
 
--- and a digit is one
-pub digit-at : (s : List ℕ) (at : ℕ) → kindAt (drop at s) ≡ Digit → isDigit (getD s at 0) ≡ true
-digit-at s at e = kind-digit (getD s at 0) (sym (kind-at s at (kind-inside Digit s at refl e)) ∙ e)
+-- at the end of the text there is no digit
+pub digit-end : (s : List ℕ) (at : ℕ) → length s ≤ at → digitNext (drop at s) ≡ false
+digit-end s at h = rw (drop-of-length-le s h)
+
+-- before it the byte tells
+pub digit-at : (s : List ℕ) (at : ℕ) → at < length s → digitNext (drop at s) ≡ isDigit (getD s at 0)
+digit-at s at h = rw (drop-cons s at 0 h)
+
+-- a digit is inside the text
+pub digit-inside : (s : List ℕ) (at : ℕ) → digitNext (drop at s) ≡ true → at < length s
+digit-inside s at e = by-below at (length s) (λ h. h) (λ h. clash e (digit-end s at h))
+
+-- at the end of the text there is no byte
+pub byte-end : (b : ℕ) (s : List ℕ) (at : ℕ) → length s ≤ at → startsWith (b ∷ []) (drop at s) ≡ false
+unfolding startsWith
+byte-end b s at h = rw (drop-of-length-le s h)
+
+-- before it the byte is compared
+pub byte-at : (b : ℕ) (s : List ℕ) (at : ℕ) → at < length s → startsWith (b ∷ []) (drop at s) ≡ eqb (getD s at 0) b
+unfolding startsWith
+byte-at b s at h = rw (drop-cons s at 0 h) (go (eqb (getD s at 0) b))
+  where
+    go : (t : Bool) → _&&_ t true ≡ t
+    go true = refl
+    go false = refl
+
+-- a byte that is there is inside the text
+pub byte-inside : (b : ℕ) (s : List ℕ) (at : ℕ) → startsWith (b ∷ []) (drop at s) ≡ true → at < length s
+byte-inside b s at e = by-below at (length s) (λ h. h) (λ h. clash e (byte-end b s at h))
+
+-- the bytes there are it and those after it
+pub byte-first : (b : ℕ) (s : List ℕ) (at : ℕ) → startsWith (b ∷ []) (drop at s) ≡ true → drop at s ≡ b ∷ drop (at + 1) s
+byte-first b s at e = starts-is (b ∷ []) (drop at s) e ∙ ap (λ (u : List ℕ). b ∷ u) (drop-drop 1 at s)
+
+-- it is passed
+pub byte-passed : {A : Type 0} (b : ℕ) (s : List ℕ) (at : ℕ) (next : List ℕ → Parsed A) → startsWith (b ∷ []) (drop at s) ≡ true
+    → expect (b ∷ []) (drop at s) next ≡ next (drop (at + 1) s)
+byte-passed b s at next e = expect-key (b ∷ []) (drop at s) next e ∙ ap next (drop-drop 1 at s)
+
+-- a first byte that is not expected fails the test against the one that is
+pub byte-fails : (k b : ℕ) (u : List ℕ) → startsWith (k ∷ []) (b ∷ u) ≡ false → eqb b k ≡ false
+unfolding startsWith
+byte-fails k b u e = failed (eqb b k) (λ q. clash (rw q) e)
 
 -- a key of no byte is everywhere, any other is not at the end
 pub starts-end : (ks : List ℕ) → startsWith ks [] ≡ eqb (length ks) 0

@@ -1,8 +1,9 @@
 // What a byte is in a text.
 ghost use mathlib.Core.Path.{_≡_};
+ghost use mathlib.Core.List.{[], _∷_};
 ghost use lib.ListN.{drop};
 ghost use Rattle.numerals.specs.Bytes.{kindOf};
-ghost use Rattle.numerals.specs.Parsing.{startsWith, kindAt};
+ghost use Rattle.numerals.specs.Parsing.{startsWith, kindAt, digitNext};
 
 pub enum Kind {
     Digit,
@@ -38,6 +39,30 @@ pub fn kind_at(s: &[u8], at: usize) -> Kind
     }
     let b = s[at];
     kind_of(b)
+}
+
+// Whether the byte at the cursor is a digit, without asking what else it may be.
+pub fn is_digit_at(s: &[u8], at: usize) -> bool
+    ensures { λ r. ⌜ r ≡ digitNext (drop at (now (s .entry))) ⌝ }
+{
+    if s.len() <= at {
+        return false;
+    }
+    let b = s[at];
+    match b {
+        b'0'..=b'9' => true,
+        _ => false,
+    }
+}
+
+// Whether the byte at the cursor is `b`.
+pub fn is_at(s: &[u8], at: usize, b: u8) -> bool
+    ensures { λ r. ⌜ r ≡ startsWith (b ∷ []) (drop at (now (s .entry))) ⌝ }
+{
+    if s.len() <= at {
+        return false;
+    }
+    s[at] == b
 }
 
 // Whether the text goes on at the cursor with the bytes of `key`.

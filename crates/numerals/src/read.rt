@@ -1,6 +1,5 @@
 // A numeral read at a cursor.
 use crate::byte;
-use crate::byte::Kind;
 ghost use mathlib.Core.Path.{_≡_};
 ghost use mathlib.Core.Bool.{true};
 ghost use Prim.Native.Nat.{_+_, _-_, _*_, _≤_, _<_};
@@ -35,37 +34,30 @@ fn digits(s: &[u8], at: usize, first: u64) -> Numeral
     ensures { λ r. ⌜ r ≡ numeralAnswer (now (s .entry)) (digitsFrom first (drop at (now (s .entry)))) ⌝ }
 {
     let mut value = first;
-    let mut i = at;
-    while i < s.len() {
-        let b = s[i];
-        let kind = byte::kind_of(b);
-        let Kind::Digit = kind else {
-            return Numeral::Number { value, next: i };
-        };
-        value = with_digit(value, b);
-        i = i + 1;
+    let mut next = at;
+    while byte::is_digit_at(s, next) {
+        value = with_digit(value, s[next]);
+        next = next + 1;
     }
-    Numeral::Number { value, next: i }
+    Numeral::Number { value, next }
 }
 
 // The numeral at the cursor: all digits that stand there, of any number. One with a leading zero is malformed, and so is none.
 pub fn numeral_at(s: &[u8], at: usize) -> Numeral
     ensures { λ r. ⌜ r ≡ numeralAnswer (now (s .entry)) (numeralOf (drop at (now (s .entry)))) ⌝ }
 {
-    let kind = byte::kind_at(s, at);
-    let Kind::Digit = kind else {
+    if !byte::is_digit_at(s, at) {
         return Numeral::Malformed;
-    };
+    }
     let b = s[at];
     if b != b'0' {
         return digits(s, at + 1, (b - b'0') as u64);
     }
-    let after = byte::kind_at(s, at + 1);
-    let Kind::Digit = after else {
-        return Numeral::Number {
-            value: 0,
-            next: at + 1,
-        };
-    };
-    Numeral::Malformed
+    if byte::is_digit_at(s, at + 1) {
+        return Numeral::Malformed;
+    }
+    Numeral::Number {
+        value: 0,
+        next: at + 1,
+    }
 }

@@ -1,5 +1,5 @@
--- Frauds of readers: on a named text each breaks what reading into a table promises; `sheetA-read` and `sheetA-short` are answers that keep it.
--- Assumes nothing.
+-- Frauds of readers: on a named text each breaks what checking it or reading it into a table promises; `sheetA-passed`, `sheetA-read` and `sheetA-short`
+-- are answers that keep it. Assumes nothing.
 use mathlib.Core.Path.{_≡_, refl, sym, _∙_, ap, subst}
 use mathlib.Core.Bool.{true, false}
 use mathlib.Core.List.{List, [], _∷_, _++_}
@@ -26,15 +26,20 @@ use Rattle.tables.proofs.Tests.{clash}
 use Rattle.numerals.specs.Bytes.{bytes}
 use Rattle.numerals.specs.Decimal.{decimalUpTo, decimal, signedDecimal}
 use Rattle.numerals.specs.Parsing.{andThen, expect, digitsFrom, numeralOf}
+use Rattle.lines.specs.Spelling.{Line, WellFormed, lineCancels}
 use Rattle.lines.specs.Spelling.{two, termText, ruleText, joinedText, listText, valueText, lineText, lineWithin, cancelling, writtenRule}
 use Rattle.lines.specs.Lines.{ended, countLine, membersAfter, membersFrom, listOf, hiddenLine, termOf, boundAt, boundLine, afterTerm, ruleLine, refused, judged, countJudged, hiddenJudged, ruleJudged}
+use Rattle.reading.specs.declared.check.Checked.{Checked}
+use Rattle.reading.specs.declared.check.Checked.the-variants.{Passed}
+use Rattle.reading.specs.declared.check.Checked.the-variants.{Refused as Failed}
 use Rattle.reading.specs.declared.read.Reading.the-variants.{Accepted, Refused}
 use Rattle.reading.specs.Texts.{Contents, linesText, headerText, sheetText}
-use Rattle.reading.specs.Meaning.{Spells, MalformedAt, OutsideAt, CancelsAt, AcceptedAs}
-use Rattle.reading.specs.Reading.{onward, rulesFrom, linesFrom, checkText, replyTo, readReply, filled, readTable, readingNumber, readingValue}
-use Rattle.reading.specs.Promises.{ReadInto}
+use Rattle.reading.specs.Meaning.{Fine, Spells, MalformedAt, OutsideAt, CancelsAt, AcceptedAs}
+use Rattle.reading.specs.Reading.{onward, rulesFrom, linesFrom, checkText, checkedOf, replyTo, readReply, filled, readTable, readingNumber, readingValue}
+use Rattle.reading.specs.Promises.{TextChecked, ReadInto}
 use Rattle.reading.proofs.Means.{text-means, spelled-check}
 use Rattle.reading.proofs.Replies.{not-both, reply-short, reply-accepted, reading-refused, reading-accepted}
+use Rattle.reading.proofs.Passing.{check-promised}
 use Rattle.reading.proofs.Numbers.{zero-accepted}
 use Rattle.reading.proofs.Promised.{reading-kept, read-promised}
 
@@ -79,21 +84,24 @@ contentsA = record {
 abbrev pub tableA : List ℤ
 tableA = replicate 4 noRule ++ (pos 5 ∷ pos 2 ∷ replicate 10 noRule) ++ (pos 0 ∷ noRule ∷ [])
 
+-- a line whose tests compute is fine
+meets : {n limit : ℕ} {l : Line} → WellFormed l → lineWithin n limit l ≡ true → lineCancels l ≡ false → Fine n limit l
+meets f w u = record { formed = f; within = w; uncancelled = u }
+
 -- it is spelled so, and every line is fine
 pub sheetA-spelled : Spells maxBound textA contentsA
 unfolding spelling lineWithin cancelling
 sheetA-spelled = record {
   text = refl;
-  fine =
-      (record { formed = tt; within = refl; uncancelled = refl },
-      (record { formed = (lit≤ tt, tt); within = refl; uncancelled = refl },
-      (record { formed = tt; within = refl; uncancelled = refl },
-      (record { formed = tt; within = refl; uncancelled = refl },
-      (record { formed = tt; within = refl; uncancelled = refl },
-      (record { formed = tt; within = refl; uncancelled = refl }, tt))))));
+  fine = (meets tt refl refl, (meets (lit≤ tt, tt) refl refl, (meets tt refl refl, (meets tt refl refl, (meets tt refl refl, (meets tt refl refl, tt))))));
 }
 
--- so it is accepted where the table has its 18 words
+-- so it passes: 3 quantities, hidden 2, 3 rules whose lines begin at byte 30
+pub sheetA-passed : TextChecked textA (Passed 3 2 3 30)
+unfolding checkedOf setOf spelling
+sheetA-passed = check-promised textA (Passed 3 2 3 30) (ap checkedOf (sym (spelled-check textA contentsA (lit≤ tt) sheetA-spelled)))
+
+-- and is accepted where the table has its 18 words
 pub sheetA-reply : (t : List ℤ) → 18 ≤ length t → readReply textA (length t) ≡ Accepted 3 2
 unfolding blockStart setOf
 sheetA-reply t h = reply-accepted textA (length t) contentsA [] (spelled-check textA contentsA (lit≤ tt) sheetA-spelled) h
@@ -128,16 +136,32 @@ textThree = bytes "quantities=1\nhidden=\nrules=1\nrule=+1-1:1000000001\n"
 -- by spellings, the first is malformed at line 4, and at no line outside a limit
 pub two-spelled : MalformedAt maxBound textTwo 4 × ((line : ℕ) → OutsideAt maxBound textTwo line → ⊥)
 unfolding reading
-two-spelled =
-    (text-means textTwo (refused (Malformed 4)) .0 refl .1,
-    λ line o. eqb-false 2 3 refl (ap readingNumber (reading-refused textTwo 0 (OutOfLimit line) .1 (inl (lit≤ tt, o)))))
+two-spelled = (
+  text-means textTwo (refused (Malformed 4)) .0 refl .1,
+  λ line o. eqb-false 2 3 refl (ap readingNumber (reading-refused textTwo 0 (OutOfLimit line) .1 (inl (lit≤ tt, o)))),
+)
 
 -- the second is outside a limit at line 4, and cancels at no line
 pub three-spelled : OutsideAt maxBound textThree 4 × ((line : ℕ) → CancelsAt maxBound textThree line → ⊥)
 unfolding reading
-three-spelled =
-    (text-means textThree (refused (OutOfLimit 4)) .0 refl .1,
-    λ line o. eqb-false 3 4 refl (ap readingNumber (reading-refused textThree 0 (Cancelling line) .1 (inl (lit≤ tt, o)))))
+three-spelled = (
+  text-means textThree (refused (OutOfLimit 4)) .0 refl .1,
+  λ line o. eqb-false 3 4 refl (ap readingNumber (reading-refused textThree 0 (Cancelling line) .1 (inl (lit≤ tt, o)))),
+)
+
+-- ---- frauds: the text by itself
+
+-- there is one answer
+one-answer : (r : Checked) → TextChecked textA r → r ≡ Passed 3 2 3 30
+one-answer r p = p .reply ∙ sym (sheetA-passed .reply)
+
+-- a check that refuses everything
+pub check-refuses-all : (f : Refusal) → TextChecked textA (Failed f) → ⊥
+check-refuses-all f p = let e = one-answer (Failed f) p in let z : _≡_ {A = ℕ} 0 1 = cc in omega arith
+
+-- the rules' lines taken to begin where the text does
+pub body-wrong : TextChecked textA (Passed 3 2 3 0) → ⊥
+body-wrong p = let e = one-answer (Passed 3 2 3 0) p in let z : _≡_ {A = ℕ} 0 30 = cc in omega arith
 
 -- ---- frauds: the reply
 

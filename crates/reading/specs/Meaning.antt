@@ -78,10 +78,14 @@ pub record Reaches (limit : ℕ) (s : List ℕ) (o : Opening) (line : ℕ) (u : 
 
 -- ---- accepted
 
+-- every line of contents is fine
+abbrev pub FineLines : ℕ → Contents → Type 0
+FineLines limit c = AllFine (c .count) limit (linesOf (ruled (c .count) (c .hiddens) (length (c .written)) (c .written)))
+
 -- the text s is the spelling of contents whose every line is fine
 pub record Spells (limit : ℕ) (s : List ℕ) (c : Contents) : Type 0 where
   pub text : s ≡ sheetText c
-  pub fine : AllFine (c .count) limit (linesOf (ruled (c .count) (c .hiddens) (length (c .written)) (c .written)))
+  pub fine : FineLines limit c
 
 -- ---- refused
 

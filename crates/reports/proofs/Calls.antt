@@ -27,7 +27,8 @@ use Rattle.writing.specs.Writing.{writtenText, written}
 use Rattle.writing.specs.Promises.{maxWritten, TextWritten}
 use Rattle.writing.proofs.Promised.{reply-text}
 use Rattle.reports.specs.Refusals.{refusalText}
-use Rattle.reports.specs.Keys.{tableReport, SheetTable}
+use Rattle.reports.specs.Reports.{tableReport}
+use Rattle.reports.specs.Promises.{SheetTable}
 use Rattle.reports.proofs.Sheets.{fine-sheet, exactly-serves, key-checks, key-length}
 use Rattle.reports.proofs.Reports.{table-length}
 

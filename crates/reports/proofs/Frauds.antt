@@ -8,7 +8,8 @@ use lib.ListN.{length, getD, take, drop}
 use lib.Seq.{take-append-seam}
 use borrow.Author.Tests.{eqb-false}
 use Rattle.numerals.specs.Bytes.{bytes}
-use Rattle.reports.specs.Keys.{keyReport, KeyPrinted}
+use Rattle.reports.specs.Reports.{keyReport}
+use Rattle.reports.specs.Promises.{KeyPrinted}
 use Rattle.reports.proofs.Starred.{Case, Passes, sheetA, halvedBelow, oneHalf, seenLate, unpaired, starred-pass}
 
 -- what is printed for a case that passes, so many bytes as are counted, is no list that differs from the case's at some byte

@@ -23,7 +23,7 @@ use Rattle.reading.specs.Meaning.{Spells}
 use Rattle.writing.specs.Writing.{writtenOf, rulesAt, tableRules, writtenText}
 use Rattle.writing.proofs.Meanings.{written-rule, front-word}
 use Rattle.writing.proofs.Back.{spells-within}
-use Rattle.reports.specs.Keys.{NoneNames}
+use Rattle.reports.specs.Meaning.{NoneNames}
 use Rattle.reports.proofs.Sheets.{setIn, tableIn, keyIn, Sheet, key-bounds}
 
 -- ---- every line is fine

@@ -4,6 +4,7 @@ pub mod Hiddens
 pub mod Sheets
 pub mod KeyTexts
 pub mod Refusals
+pub mod Telling
 pub mod Reports
 pub mod Calls
 pub mod Readings

@@ -19,7 +19,8 @@ use Rattle.reading.specs.Texts.{Contents}
 use Rattle.reading.specs.Meaning.{Spells, FailsFor, ShortFor}
 use Rattle.reading.specs.Reading.{readingNumber, readingValues}
 use Rattle.reading.specs.Promises.{ReadInto}
-use Rattle.reports.specs.Keys.{tableReport, keyReport, SheetTable}
+use Rattle.reports.specs.Reports.{tableReport, keyReport}
+use Rattle.reports.specs.Promises.{SheetTable}
 use Rattle.reports.proofs.Sheets.{tableIn, fine-sheet, in-range-size}
 use Rattle.reports.proofs.Reports.{report-accepted}
 

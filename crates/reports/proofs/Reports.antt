@@ -1,8 +1,9 @@
 -- What *key* prints for a text, by what the text means: its refusal, 5, or the text of its key; and that it is never longer than the longest text written.
 -- Assumes nothing.
-use mathlib.Core.Path.{_≡_, refl, sym, _∙_, ap}
+use mathlib.Core.Path.{_≡_, refl, sym, _∙_, ap, subst}
 use mathlib.Core.Bool.{Bool, true, false, cond}
 use mathlib.Core.List.{List, [], _++_}
+use mathlib.Core.Logic.{_↔_, _⊎_, inl, inr, ⊎-elim}
 use Prim.Native.Nat.{ℕ, _≤_}
 use native.Mathlib.Omega.{arith}
 use lib.ListN.{length, drop, length-append}
@@ -24,11 +25,14 @@ use Rattle.writing.specs.Writing.{tableRules, writtenText}
 use Rattle.writing.specs.Promises.{maxWritten}
 use Rattle.writing.proofs.Meanings.{table-meaning}
 use Rattle.reports.specs.Refusals.{refusalText}
-use Rattle.reports.specs.Keys.{tableReport, reportOf, keyReport, rulesOf, KeyText, KeyPrinted}
+use Rattle.reports.specs.Reports.{tableReport, reportOf, keyReport}
+use Rattle.reports.specs.Meaning.{rulesOf, KeyText, Unmet}
+use Rattle.reports.specs.Promises.{KeyPrinted}
 use Rattle.reading.proofs.Means.{text-means}
-use Rattle.reports.proofs.Sheets.{setIn, tableIn, keyIn, Sheet, fine-sheet, sheet-refuted, sheet-met, key-length, key-meaning, key-text-length}
+use Rattle.reports.proofs.Sheets.{setIn, tableIn, keyIn, Sheet, fine-sheet, sheet-refuted, sheet-unmet, sheet-met, key-length, key-meaning, key-text-length}
 use Rattle.reports.proofs.KeyTexts.{key-spells, key-spares}
 use Rattle.reports.proofs.Refusals.{refusal-width, refusal-length}
+use Rattle.reports.proofs.Telling.{refusal-same, fails-number, text-unlike}
 
 -- ---- of a table
 
@@ -66,7 +70,7 @@ unfolding keyReport reportOf
 report-accepted s c l p = rw (text-means s (accepted c []) .1 (l, p, refl))
 
 -- no integers meet its rules: 5
-pub report-none : (s : List ℕ) (c : Contents) → length s ≤ maxText → Spells maxBound s c → ((σ : Assignment) → rulesOf c σ → ⊥)
+report-none : (s : List ℕ) (c : Contents) → length s ≤ maxText → Spells maxBound s c → ((σ : Assignment) → rulesOf c σ → ⊥)
     → keyReport s ≡ refusalText NoAssignment
 report-none s c l p none = report-accepted s c l p ∙ report-five c (sheet-refuted c (fine-sheet c (p .fine)) none)
 
@@ -85,6 +89,34 @@ report-some s c l p σ₀ m =
           let k = key-meaning c t σ₀ m σ in
           (λ a. k .0 (w .1 a), λ a. w .0 (k .1 a));
     }
+
+-- what is printed is a refusal's text: it is the text's own, or 5 and no integers meet its rules
+report-tells : (s : List ℕ) (f : Refusal) → keyReport s ≡ refusalText f → FailsFor s f ⊎ ((f ≡ NoAssignment) × Unmet s)
+unfolding keyReport reportOf
+report-tells s f = go (checkText s) (text-means s (checkText s) .0 refl)
+  where
+    table : (c : Contents) → length s ≤ maxText → Spells maxBound s c → (b : Bool) → refuted (c .count) (tableIn c) ≡ b
+        → tableReport (c .count) (setIn c) (tableIn c) ≡ refusalText f → (f ≡ NoAssignment) × Unmet s
+    table c l p true h e = (
+      sym (refusal-same NoAssignment f (omega arith) (sym (report-five c h) ∙ e)),
+      record { contents = c; small = l; spelled = p; none = sheet-unmet c (fine-sheet c (p .fine)) h },
+    )
+    table c l p false h e = absurd (text-unlike (c .count) (setIn c) (keyIn c) f (sym (report-key c h) ∙ e))
+
+    go : (j : Judged Contents) → Means s j → reportOf j ≡ refusalText f → FailsFor s f ⊎ ((f ≡ NoAssignment) × Unmet s)
+    go (accepted c u) m e = inr (table c (m .0) (m .1) (refuted (c .count) (tableIn c)) refl e)
+    go (refused g) m e = inl (subst (FailsFor s) (refusal-same g f (fails-number s g m) e) m)
+
+-- a refusal other than 5, exactly when the text is refused for it
+pub refused-exactly : (s : List ℕ) (f : Refusal) → (f ≡ NoAssignment → ⊥) → (keyReport s ≡ refusalText f) ↔ FailsFor s f
+refused-exactly s f other = (λ e. ⊎-elim (λ h. h) (λ u. absurd (other (u .0))) (report-tells s f e), report-refused s f)
+
+-- 5, exactly when the text is accepted and no integers meet its rules
+pub five-exactly : (s : List ℕ) → (keyReport s ≡ refusalText NoAssignment) ↔ Unmet s
+five-exactly s = (
+  λ e. ⊎-elim (λ h. absurd h) (λ u. u .1) (report-tells s NoAssignment e),
+  λ u. report-none s (u .contents) (u .small) (u .spelled) (u .none),
+)
 
 -- it is never longer than the longest text that can be written
 pub report-length : (s : List ℕ) → length (keyReport s) ≤ maxWritten
@@ -106,7 +138,7 @@ printed {s} {out} {text} {end} {out'} e w =
       bytes = bytes;
       room = room;
       front = sym (length-take-le end out' room);
-      refused = report-refused s;
-      none = report-none s;
+      refused = refused-exactly s;
+      five = five-exactly s;
       some = report-some s;
     }

@@ -36,10 +36,11 @@ use Rattle.numerals.proofs.Decimals.{signed-width}
 use Rattle.lines.specs.Spelling.{lineWithin, writtenRules}
 use Rattle.rules.specs.Hidden.{setOf}
 use Rattle.reading.specs.Texts.{Contents}
+use Rattle.reading.specs.Meaning.{FineLines}
 use Rattle.writing.specs.Writing.{hiddenList, writtenText}
 use Rattle.writing.specs.Promises.{maxWritten}
 use Rattle.writing.proofs.Lengths.{longest}
-use Rattle.reports.specs.Keys.{FineLines, rulesOf}
+use Rattle.reports.specs.Meaning.{rulesOf}
 use Rattle.reports.proofs.Rules.{rules-meaning, read-within}
 use Rattle.reports.proofs.Hiddens.{quantity-range, set-range, list-back, list-count, count-most}
 
@@ -65,7 +66,7 @@ pub record Sheet (c : Contents) : Type 0 where
   pub meaning : (σ : Assignment) → Satisfies (c .count) (tableIn c) σ ↔ rulesOf c σ
 
 -- contents whose lines are fine are a sheet
-pub fine-sheet : (c : Contents) → FineLines c → Sheet c
+pub fine-sheet : (c : Contents) → FineLines maxBound c → Sheet c
 unfolding lineWithin
 fine-sheet c f =
     let n = quantity-range maxQuantities (c .count) (f .0 .within) in
@@ -109,12 +110,16 @@ key-checks c s w h =
 pub sheet-refuted : (c : Contents) → Sheet c → ((σ : Assignment) → rulesOf c σ → ⊥) → refuted (c .count) (tableIn c) ≡ true
 sheet-refuted c s none = refuted-exactly (c .count) (tableIn c) (s .fits) .1 (λ σ m. none σ (s .meaning σ .0 m))
 
+-- only there
+pub sheet-unmet : (c : Contents) → Sheet c → refuted (c .count) (tableIn c) ≡ true → (σ : Assignment) → rulesOf c σ → ⊥
+sheet-unmet c s e σ m = refuted-exactly (c .count) (tableIn c) (s .fits) .0 e σ (s .meaning σ .1 m)
+
 -- and where some do
 pub sheet-met : (c : Contents) → Sheet c → (σ : Assignment) → rulesOf c σ → refuted (c .count) (tableIn c) ≡ false
 sheet-met c s σ m = go (refuted (c .count) (tableIn c)) refl
   where
     go : (b : Bool) → refuted (c .count) (tableIn c) ≡ b → b ≡ false
-    go true e = absurd (refuted-exactly (c .count) (tableIn c) (s .fits) .0 e σ (s .meaning σ .1 m))
+    go true e = absurd (sheet-unmet c s e σ m)
     go false e = refl
 
 -- ---- the key

@@ -31,7 +31,7 @@ use Rattle.reading.specs.Texts.{Contents, linesText, headerText, sheetText}
 use Rattle.reading.specs.Reading.{onward, rulesFrom, linesFrom, checkText}
 use Rattle.writing.specs.Writing.{writtenOf, rulesAt, hiddenFrom, writtenText}
 use Rattle.reports.specs.Refusals.{refusalText}
-use Rattle.reports.specs.Keys.{tableReport, reportOf, keyReport}
+use Rattle.reports.specs.Reports.{tableReport, reportOf, keyReport}
 
 -- a sheet's text, and all that *key* prints for it
 pub record Case : Type 0 where
@@ -207,10 +207,17 @@ bytesAfter = record {
   printed = "refused=2\nline=5\n";
 }
 
+-- 3: the key of `largest` read as a sheet, whose bound is outside the sheet's limit
+abbrev pub keyAgain : Case
+keyAgain = record {
+  sheet = largest .printed;
+  printed = "refused=3\nline=4\n";
+}
+
 abbrev pub refusals : List Case
 refusals =
     empty ∷ tooMany ∷ pastEnd ∷ falling ∷ malformedFirst ∷ minusZero ∷ leadingZero ∷ plusBound
-    ∷ cancels ∷ outsideFirst ∷ quantityZero ∷ longNumeral ∷ noEnd ∷ missing ∷ bytesAfter ∷ []
+    ∷ cancels ∷ outsideFirst ∷ quantityZero ∷ longNumeral ∷ noEnd ∷ missing ∷ bytesAfter ∷ keyAgain ∷ []
 
 -- ---- they pass
 
@@ -259,7 +266,7 @@ starred-pass = (refl, (refl, (refl, (refl, (refl, (largest-found ∙ largest-spe
 -- so does every refusal
 pub refusals-pass : AllPass refusals
 unfolding reckoning spelling decimal
-refusals-pass = (refl, (refl, (refl, (refl, (refl, (refl, (refl, (refl, (refl, (refl, (refl, (refl, (refl, (refl, (refl, tt)))))))))))))))
+refusals-pass = (refl, (refl, (refl, (refl, (refl, (refl, (refl, (refl, (refl, (refl, (refl, (refl, (refl, (refl, (refl, (refl, tt))))))))))))))))
 
 -- 1: a text over 65,536 bytes, whatever they are
 pub too-long : (s : List ℕ) → maxText < length s → keyReport s ≡ bytes "refused=1\nline=0\n"

@@ -1,3 +1,6 @@
--- What the crate's contracts cite: what the programs print, and what it means.
+-- What the crate's contracts cite. Refusals and Reports are the steps: what the programs print; Meaning is what to believe; Promises are the contracts'
+-- records.
 pub mod Refusals
-pub mod Keys
+pub mod Reports
+pub mod Meaning
+pub mod Promises

@@ -17,7 +17,8 @@ ghost use Rattle.tables.specs.Tables.{serves};
 ghost use Rattle.numerals.specs.Writing.{Spliced};
 ghost use Rattle.writing.specs.Writing.{writtenText};
 ghost use Rattle.writing.specs.Promises.{maxWritten};
-ghost use Rattle.reports.specs.Keys.{tableReport, SheetTable, KeyPrinted};
+ghost use Rattle.reports.specs.Reports.{tableReport};
+ghost use Rattle.reports.specs.Promises.{SheetTable, KeyPrinted};
 
 // The words of the largest table.
 const WORDS: usize = 2 * Sheet::MAX_QUANTITIES * Sheet::MAX_QUANTITIES;

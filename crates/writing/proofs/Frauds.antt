@@ -1,10 +1,12 @@
--- Frauds of writers: for a named table each breaks what writing promises, by its reply and its bytes alone. Assumes nothing.
+-- Frauds of writers: for a named table each breaks what writing promises, by its reply and its bytes alone. `keyA-text` and `smallest-written` are texts
+-- written. Assumes nothing.
 use mathlib.Core.Path.{_≡_, refl, sym, _∙_, ap}
 use mathlib.Core.Bool.{false}
-use mathlib.Core.List.{List, _∷_, _++_}
+use mathlib.Core.List.{List, [], _∷_, _++_}
 use Prim.Native.Nat.{ℕ, _≤_}
+use native.Mathlib.Omega.{arith}
 use lib.Dec.{eqb}
-use lib.IntN.{ℤ, pos}
+use lib.IntN.{ℤ, pos, negsuc}
 use lib.ListN.{length, getD, take, drop, replicate}
 use borrow.Author.Tests.{eqb-false}
 use Rattle.places.specs.Numbering.{blockStart, blockUpTo, blockOf, offsetOf, isOne, higherAt, lowerAt}
@@ -14,6 +16,10 @@ use Rattle.tables.specs.Places.{ruleAt}
 use Rattle.tables.specs.Tables.{tableSize, serves}
 use Rattle.tables.proofs.Tests.{clash}
 use Rattle.numerals.specs.Bytes.{bytes}
+use Rattle.numerals.specs.Decimal.{decimalUpTo, signedDecimal}
+use Rattle.numerals.proofs.Decimals.{up-to-enough}
+use Rattle.lines.specs.Spelling.{one, termText, ruleText, listText, valueText, lineText}
+use Rattle.reading.specs.Texts.{Contents, linesText, headerText, sheetText}
 use Rattle.reading.proofs.Frauds.{spelling}
 use Rattle.writing.specs.declared.write.Writing.the-variants.{Text, Refused}
 use Rattle.writing.specs.Writing.{writtenOf, rulesAt, hiddenFrom, writtenText, isText, written}
@@ -32,21 +38,41 @@ unfolding blockStart blockUpTo blockOf offsetOf isOne higherAt lowerAt ruleAt ta
 writing = tt
 
 -- which has these 52 bytes
-abbrev pub textA : List ℕ
-textA = bytes "quantities=3\nhidden=2\nrules=2\nrule=+1:3\nrule=+1+3:5\n"
+abbrev pub keyTextA : List ℕ
+keyTextA = bytes "quantities=3\nhidden=2\nrules=2\nrule=+1:3\nrule=+1+3:5\n"
 
-pub keyA-text : writtenText 3 2 keyA ≡ textA
+pub keyA-text : writtenText 3 2 keyA ≡ keyTextA
 unfolding writing spelling
 keyA-text = refl
+
+-- ---- the smallest word
+
+-- what is written of +1:-2⁶³ over one quantity
+abbrev smallest-contents : Contents
+smallest-contents = record { count = 1; hiddens = []; written = one (record { negative = false; quantity = 1 }) (negsuc 9223372036854775807) ∷ [] }
+
+smallest-found : writtenText 1 0 (negsuc 9223372036854775807 ∷ noRule ∷ []) ≡ sheetText smallest-contents
+unfolding writing
+smallest-found = refl
+
+-- its bound is computed by its digits, of which nineteen are enough
+smallest-spelled : sheetText smallest-contents ≡ bytes "quantities=1\nhidden=\nrules=1\nrule=+1:-9223372036854775808\n"
+unfolding decimalUpTo signedDecimal termText ruleText listText valueText lineText linesText headerText sheetText
+smallest-spelled = rw (← up-to-enough 18 9223372036854775808 (omega arith), ← up-to-enough 0 1 (omega arith))
+
+-- -2⁶³ is written
+pub smallest-written :
+    writtenText 1 0 (negsuc 9223372036854775807 ∷ noRule ∷ []) ≡ bytes "quantities=1\nhidden=\nrules=1\nrule=+1:-9223372036854775808\n"
+smallest-written = smallest-found ∙ smallest-spelled
 
 -- ---- frauds: the text
 
 module _ (out : List ℕ) (m : ℕ) (out' : List ℕ) (w : TextWritten 3 2 keyA out (Text m) out') where
   -- what is written, so many bytes as the reply says, is no list that differs from that text at some byte
-  unlike : {s : List ℕ} (k : ℕ) → take m out' ≡ s → eqb (getD s k 0) (getD textA k 0) ≡ false → ⊥
+  unlike : {s : List ℕ} (k : ℕ) → take m out' ≡ s → eqb (getD s k 0) (getD keyTextA k 0) ≡ false → ⊥
   unlike {s} k e h =
-      let f : take m out' ≡ textA = ap (take m) (w .bytes) ∙ text-front 3 2 keyA out m (sym (w .reply)) ∙ keyA-text in
-      eqb-false (getD s k 0) (getD textA k 0) h (ap (λ (l : List ℕ). getD l k 0) (sym e ∙ f))
+      let f : take m out' ≡ keyTextA = ap (take m) (w .bytes) ∙ text-front 3 2 keyA out m (sym (w .reply)) ∙ keyA-text in
+      eqb-false (getD s k 0) (getD keyTextA k 0) h (ap (λ (l : List ℕ). getD l k 0) (sym e ∙ f))
 
   -- an invented N
   pub count-invented : take m out' ≡ bytes "quantities=3\nhidden=2\nrules=3\nrule=+1:3\nrule=+1+3:5\n" → ⊥

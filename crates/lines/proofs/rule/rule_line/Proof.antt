@@ -45,7 +45,7 @@ malformed-requires c κs = search needs
 
 returns : tie.Need-returns
 returns c = let k = c .before in let f = k .before in let l = f .before .before in let v = f .form .given .0 in
-    rw (c .one .ensures, held-value {z = v .0} (k .known-told .given .0 .1), held-value {z = v .1 .0} (k .known-told .given .1 .0 .1))
+    rw (c .one .ensures, held-value {z = v .0} (k .known-told .given .0 .1), held-value {z = v .1 .1 .0} (k .known-told .given .1 .1 .0 .1))
     (judged-form l (One (v .0) (v .1 .0) (v .1 .1 .0)) (f .form .given .1))
 
 returns-2 : tie.Need-returns-2
@@ -53,8 +53,8 @@ returns-2 c = let k = c .before in let f = k .before in let l = f .before .befor
     rw (
       c .two .ensures,
       held-value {z = v .0} (k .known-told2 .given .0 .1),
-      held-value {z = v .1 .0} (k .known-told2 .given .1 .0 .1),
       held-value {z = v .1 .1 .0} (k .known-told2 .given .1 .1 .0 .1),
+      held-value {z = v .1 .1 .1 .0} (k .known-told2 .given .1 .1 .1 .0 .1),
     )
     (judged-form l (Two (v .0) (v .1 .0) (v .1 .1 .0) (v .1 .1 .1 .0)) (f .form2 .given .1))
 

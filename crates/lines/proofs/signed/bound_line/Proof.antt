@@ -1,15 +1,18 @@
 -- `signed::bound_line` meets its contract: after the bound its line ends. Assumes nothing.
-use mathlib.Core.Path.{_≡_, refl, sym, _∙_, ap, ap₂}
+use mathlib.Core.Path.{_≡_, sym, _∙_, ap, ap₂}
+use mathlib.Core.Bool.{true}
+use mathlib.Core.List.{[], _∷_}
 use Prim.Native.Nat.{ℕ, _+_, _<_}
 use native.Mathlib.Omega.{arith}
 use lib.ListN.{length, drop}
 use denote.Ref.{now}
 use borrow.Author.Needs.{needs}
+use borrow.Author.Tests.{not-true, not-false}
 use Rattle.integers.proofs.Parts.{held-value}
-use Rattle.numerals.specs.declared.byte.Kind.the-variants.{LineEnd}
-use Rattle.numerals.specs.Parsing.{andThen, kindAt}
+use Rattle.numerals.specs.Bytes.{newline}
+use Rattle.numerals.specs.Parsing.{andThen, startsWith}
 use Rattle.numerals.proofs.Cursors.{cursor-here}
-use Rattle.numerals.proofs.Keys.{kind-else, kind-inside}
+use Rattle.numerals.proofs.Keys.{byte-inside}
 use Rattle.lines.specs.declared.signed.Signed.the-variants.{Read}
 use Rattle.lines.specs.Lines.{boundAt, boundLine, ended}
 use Rattle.lines.specs.Answers.{told, signedAnswer}
@@ -44,34 +47,31 @@ after : (c : tie.After-known-told) → let g = c .before in let a = g .before .b
 unfolding boundLine andThen
 after c = rw (bound c .is)
 
-kind-at-requires : tie.Need-kind-at-requires
-kind-at-requires c κs = search needs
-
-enum-told-2 : tie.Need-enum-told-2
-enum-told-2 c = search needs
+is-at-requires : tie.Need-is-at-requires
+is-at-requires c κs = search needs
 
 returns-2 : tie.Need-returns-2
 unfolding signedAnswer
 returns-2 c = let k = c .before in let t = k .before in let g = t .before in let a = g .before .before .before .before .args in
     ap (signedAnswer (now (a .s))) (sym (after t ∙ ended-not (bound t .value) (drop (g .got .given .0 .1 .0) (now (a .s)))
-    (λ e. kind-else LineEnd (k .kind-at .result) (c .match2 .keys2) (k .kind-at .ensures ∙ e))))
+    (sym (k .is-at .ensures) ∙ not-true (k .is-at .result) (c .if1 .taken))))
 
 -- the line ends
-end-here : (c : tie.After-enum-told2) → let g = c .before .before .before .before in let a = g .before .before .before .before .args in
-    kindAt (drop (g .got .given .0 .1 .0) (now (a .s))) ≡ LineEnd
-end-here c = sym (c .before .before .kind-at .ensures) ∙ c .enum-told2 .given .1
+end-here : (c : tie.Else1) → let g = c .before .before .before in let a = g .before .before .before .before .args in
+    startsWith (newline ∷ []) (drop (g .got .given .0 .1 .0) (now (a .s))) ≡ true
+end-here c = let k = c .before in sym (k .is-at .ensures) ∙ not-false (k .is-at .result) (c .if1 .left)
 
-inside : (c : tie.After-enum-told2) → let g = c .before .before .before .before in let a = g .before .before .before .before .args in
+inside : (c : tie.Else1) → let g = c .before .before .before in let a = g .before .before .before .before .args in
     g .got .given .0 .1 .0 < length (now (a .s))
-inside c = let g = c .before .before .before .before in let a = g .before .before .before .before .args in
-    kind-inside LineEnd (now (a .s)) (g .got .given .0 .1 .0) refl (end-here c)
+inside c = let g = c .before .before .before in let a = g .before .before .before .before .args in
+    byte-inside newline (now (a .s)) (g .got .given .0 .1 .0) (end-here c)
 
-add-t7 : tie.Need-add-t7
-add-t7 c = omega (arith, inside c)
+add-t8 : tie.Need-add-t8
+add-t8 c = omega (arith, inside c)
 
 returns-3 : tie.Need-returns-3
 unfolding signedAnswer
-returns-3 c = let t = c .before .before .before in let g = t .before in let a = g .before .before .before .before .args in
+returns-3 c = let t = c .before .before in let g = t .before in let a = g .before .before .before .before .args in
     let next : ℕ = g .got .given .0 .1 .0 in
     ap₂ Read (held-value (t .known-told .given .0 .1) ∙ sym (bound t .told)) (sym (cursor-here (now (a .s)) (next + 1) (omega (arith, inside c))))
     ∙ ap (signedAnswer (now (a .s))) (sym (after t ∙ ended-here (bound t .value) (now (a .s)) next (end-here c)))
@@ -84,8 +84,7 @@ bound-line-spec =
     enum-known-got
     enum-told
     returns
-    kind-at-requires
-    enum-told-2
+    is-at-requires
     returns-2
-    add-t7
+    add-t8
     returns-3)

@@ -1,78 +1,70 @@
 -- `read::digits` meets its contract. The loop's invariant: the answer is that of the digits that are left, after the value so far. The measure is
 -- what is left of the text. Assumes nothing.
 use mathlib.Core.Path.{_≡_, refl, sym, _∙_, ap}
-use mathlib.Core.Bool.{false}
-use Prim.Native.Nat.{ℕ, _+_, _-_, _*_, _≤_}
+use mathlib.Core.Bool.{true}
+use Prim.Native.Nat.{ℕ, _+_, _-_, _*_, _≤_, _<_}
 use native.Mathlib.Omega.{arith}
-use lib.ListN.{length, drop, getD, drop-of-length-le}
+use lib.ListN.{length, drop, getD}
 use denote.Ref.{now}
 use borrow.Author.Needs.{needs}
-use Rattle.numerals.specs.declared.byte.Kind.the-variants.{Digit}
-use Rattle.numerals.specs.declared.read.Numeral.the-variants.{Number}
-use Rattle.numerals.specs.Bytes.{digitZero}
+use Rattle.numerals.specs.Bytes.{isDigit, digitZero}
 use Rattle.numerals.specs.Decimal.{cap}
-use Rattle.numerals.specs.Parsing.{digitNext, digitsFrom, numeralAnswer}
-use Rattle.numerals.proofs.Keys.{kind-digit, kind-else, kind-at, no-digit-next}
+use Rattle.numerals.specs.Parsing.{digitsFrom, numeralAnswer}
+use Rattle.numerals.proofs.Keys.{digit-at, digit-inside}
 use Rattle.numerals.proofs.Values.{capped-cap}
 use Rattle.numerals.proofs.Reading.{answer-told, digits-next, answer-stop}
 use Rattle.numerals.proofs.read.digits.Statement.{statement}
 use Rattle.numerals.proofs.read.digits.Tie as tie
 
 abbrev Inv-loop : tie.InvT-loop
-Inv-loop s at first value₀ i₀ value i =
-    (value ≤ cap) × (i ≤ length s) × (numeralAnswer s (digitsFrom value (drop i s)) ≡ numeralAnswer s (digitsFrom first (drop at s)))
+Inv-loop s at first value₀ next₀ value next =
+    (value ≤ cap) × (next ≤ length s) × (numeralAnswer s (digitsFrom value (drop next s)) ≡ numeralAnswer s (digitsFrom first (drop at s)))
 
 abbrev μ-loop : tie.MeasureT-loop
-μ-loop s at first value₀ i₀ value i = length s - i
-
--- where the digits end the answer is told
-stopped : (c : tie.At-loop Inv-loop μ-loop) → let a = c .before .before .args in digitNext (drop (c .loop .i) (now (a .s))) ≡ false
-    → Number (c .loop .value) (c .loop .i) ≡ numeralAnswer (now (a .s)) (digitsFrom (a .first) (drop (a .at) (now (a .s))))
-stopped c e = let l = c .loop in let a = c .before .before .args in
-    answer-stop (now (a .s)) (l .value) (l .i) (l .inv .0) (l .inv .1) e ∙ l .inv .2
+μ-loop s at first value₀ next₀ value next = length s - next
 
 loop-holds : tie.Need-loop-holds Inv-loop μ-loop
 loop-holds c = (omega arith, omega arith, refl)
 
-shared-slice-read-b : tie.Need-shared-slice-read-b Inv-loop μ-loop
-shared-slice-read-b c = omega arith
+is-digit-at-requires : tie.Need-is-digit-at-requires Inv-loop μ-loop
+is-digit-at-requires c κs = search needs
 
-kind-of-requires : tie.Need-kind-of-requires Inv-loop μ-loop
-kind-of-requires c κs = search needs
+-- a digit is at the cursor
+inside : (c : tie.Then1 Inv-loop μ-loop) → let l = c .before .before in l .loop .next < length (now (l .before .before .args .s))
+inside c = let l = c .before .before in
+    digit-inside (now (l .before .before .args .s)) (l .loop .next) (sym (c .before .is-digit-at .ensures) ∙ c .if1 .taken)
 
-enum-told : tie.Need-enum-told Inv-loop μ-loop
-enum-told c = search needs
+digit : (c : tie.Then1 Inv-loop μ-loop) → let l = c .before .before in isDigit (getD (now (l .before .before .args .s)) (l .loop .next) 0) ≡ true
+digit c = let l = c .before .before in
+    sym (digit-at (now (l .before .before .args .s)) (l .loop .next) (inside c)) ∙ sym (c .before .is-digit-at .ensures) ∙ c .if1 .taken
 
-returns : tie.Need-returns Inv-loop μ-loop
-returns c = let l = c .before .before .before .before in let s = now (l .before .before .args .s) in
-    stopped l (no-digit-next (drop (l .loop .i) s)
-    (λ e. kind-else Digit (c .before .kind-of .result) (c .match .keys2)
-    (c .before .kind-of .ensures ∙ sym (kind-at s (l .loop .i) (omega arith)) ∙ e)))
+shared-slice-read-with-digit : tie.Need-shared-slice-read-with-digit Inv-loop μ-loop
+shared-slice-read-with-digit c = inside (c .before)
 
 with-digit-requires : tie.Need-with-digit-requires Inv-loop μ-loop
-with-digit-requires c κs = kind-digit _ (sym (c .before .before .kind-of .ensures) ∙ c .enum-told .given .1)
+with-digit-requires c κs = digit (c .before)
 
-add-i : tie.Need-add-i Inv-loop μ-loop
-add-i c = omega arith
+add-next : tie.Need-add-next Inv-loop μ-loop
+add-next c = omega (arith, inside (c .before .before))
 
 loop-less : tie.Need-loop-less Inv-loop μ-loop
-loop-less c = omega arith
+loop-less c = omega (arith, inside (c .before .before))
 
 loop-again : tie.Need-loop-again Inv-loop μ-loop
-loop-again c = let l = c .before .before .before .before .before .before in let s = now (l .before .before .args .s) in
-    let b : ℕ = getD s (l .loop .i) 0 in
+loop-again c = let t = c .before .before in let l = t .before .before in let s = now (l .before .before .args .s) in
+    let b : ℕ = getD s (l .loop .next) 0 in
     let v : ℕ = 10 * l .loop .value + (b - digitZero) in (
       omega (arith, c .with-digit .ensures, capped-cap v),
-      omega arith,
-      ap (λ (x : ℕ). numeralAnswer s (digitsFrom x (drop (l .loop .i + 1) s))) (c .with-digit .ensures)
-          ∙ answer-told s (drop (l .loop .i + 1) s) v
-          ∙ ap (numeralAnswer s) (sym (digits-next s (l .loop .value) (l .loop .i) (omega arith) (with-digit-requires (c .before) tt)))
+      omega (arith, inside t),
+      ap (λ (x : ℕ). numeralAnswer s (digitsFrom x (drop (l .loop .next + 1) s))) (c .with-digit .ensures)
+          ∙ answer-told s (drop (l .loop .next + 1) s) v
+          ∙ ap (numeralAnswer s) (sym (digits-next s (l .loop .value) (l .loop .next) (inside t) (digit t)))
           ∙ l .loop .inv .2,
     )
 
-returns-2 : tie.Need-returns-2 Inv-loop μ-loop
-returns-2 c = let l = c .before in
-    stopped l (ap digitNext (drop-of-length-le (now (l .before .before .args .s)) (c .loop-test .left)))
+returns : tie.Need-returns Inv-loop μ-loop
+returns c = let l = c .before .before in let i = l .loop in let s = now (l .before .before .args .s) in
+    answer-stop s (i .value) (i .next) (i .inv .0) (i .inv .1) (sym (c .before .is-digit-at .ensures) ∙ c .if1 .left) ∙ i .inv .2
 
 pub digits-spec : {M : Type 1} → statement M
 digits-spec =
@@ -81,12 +73,10 @@ digits-spec =
     Inv-loop
     μ-loop
     loop-holds
-    shared-slice-read-b
-    kind-of-requires
-    enum-told
-    returns
+    is-digit-at-requires
+    shared-slice-read-with-digit
     with-digit-requires
-    add-i
+    add-next
     loop-less
     loop-again
-    returns-2)
+    returns)

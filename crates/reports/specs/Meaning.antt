@@ -1,0 +1,42 @@
+-- What is meant by what *key* prints: the rules of a text, the text of their key, and that no integers satisfy them. No step of the program is in it.
+use mathlib.Core.Path.{_≡_}
+use mathlib.Core.Bool.{true, false}
+use mathlib.Core.Logic.{_↔_}
+use mathlib.Core.List.{List, [], _∷_}
+use Prim.Native.Nat.{ℕ, _*_, _^_, _≤_}
+use lib.ListN.{length}
+use Rattle.rules.specs.declared.rule.Rule.{Rule}
+use Rattle.rules.specs.Hidden.{hiddenIn, setOf, isListed}
+use Rattle.rules.specs.Limits.{maxBound, maxText}
+use Rattle.rules.specs.Meaning.{Assignment, names}
+use Rattle.tables.specs.Meaning.{Paper, MeetsAll, SheetAllows}
+use Rattle.lines.specs.Spelling.{Written, writtenRules}
+use Rattle.reading.specs.Texts.{Contents}
+use Rattle.reading.specs.Meaning.{Spells}
+
+-- the rules that contents write, as a paper: a doubled term is taken as written
+abbrev pub rulesOf : Contents → Paper
+rulesOf c σ = MeetsAll σ (writtenRules (c .written))
+
+-- no rule of a list names quantity q
+abbrev pub NoneNames : ℕ → List Rule → Type 0
+NoneNames q [] = Unit {0}
+NoneNames q (r ∷ rs) = (names q r ≡ false) × NoneNames q rs
+
+-- the text is that of a key of these contents, with document 01's words of it
+pub record KeyText (c : Contents) (text : List ℕ) : Type 0 where
+  pub key : List Written
+  -- it has their n and hidden list, and every line is fine: quantity numbers of 1 to n, no `+q-q`, and bounds up to the sheet's limit doubled once for each
+  -- hidden quantity ("One hiding step at most doubles the largest magnitude of a bound")
+  pub spelled : Spells (maxBound * 2 ^ length (c .hiddens)) text (record { count = c .count; hiddens = c .hiddens; written = key })
+  -- no rule names a hidden quantity ("then all places that name q become no rule")
+  pub visible : (q : ℕ) → isListed q (c .hiddens) ≡ true → NoneNames q (writtenRules key)
+  -- its rules allow integers for the visible quantities exactly when some integers for the hidden ones satisfy the whole sheet with them (demand 2)
+  pub meaning : (σ : Assignment) → MeetsAll σ (writtenRules key) ↔ SheetAllows (hiddenIn (setOf (c .hiddens))) (rulesOf c) σ
+
+-- the text is accepted, and no integers satisfy its rules
+pub record Unmet (s : List ℕ) : Type 0 where
+  pub contents : Contents
+  pub small : length s ≤ maxText
+  pub spelled : Spells maxBound s contents
+  pub none : (σ : Assignment) → rulesOf contents σ → ⊥

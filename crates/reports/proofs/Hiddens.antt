@@ -10,10 +10,9 @@ use lib.Dec.{leb, eqb}
 use lib.ListN.{length, length-append}
 use lib.Pow.{pow-mono}
 use borrow.Author.Tests.{leb-true, eqb-true, eqb-false, eq-eqb, ne-eqb, lt-ltb}
-use Rattle.rules.specs.Hidden.{hiddenIn, setWithin}
+use Rattle.rules.specs.Hidden.{hiddenIn, setWithin, setOf}
 use Rattle.tables.proofs.Tests.{both-true}
 use Rattle.lines.specs.Spelling.{IncreasingFrom, quantityWithin, allWithin}
-use Rattle.rules.specs.Hidden.{setOf}
 use Rattle.keys.specs.Keys.{hiddenCount}
 use Rattle.writing.specs.Writing.{hiddenFrom, hiddenList}
 use Rattle.writing.proofs.ListTexts.{hidden-last}

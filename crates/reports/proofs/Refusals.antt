@@ -1,12 +1,10 @@
 -- A refusal of a text is printed in at most 20 bytes: its number has one digit, its line at most four. Assumes nothing.
 use mathlib.Core.Path.{_≡_, refl}
-use mathlib.Core.List.{List, [], _∷_, _++_}
+use mathlib.Core.List.{List, [], _∷_}
 use Prim.Native.Nat.{ℕ, suc, _+_, _^_, _≤_, _<_}
 use native.Mathlib.Omega.{arith}
 use lib.ListN.{length, length-append}
 use borrow.Author.Tests.{leb-true}
-use Rattle.numerals.specs.Bytes.{newline}
-use Rattle.numerals.specs.Decimal.{decimal}
 use Rattle.numerals.proofs.Decimals.{decimal-width}
 use Rattle.rules.specs.declared.refusal.Refusal.{Refusal}
 use Rattle.rules.specs.declared.refusal.Refusal.the-variants.{Size, Malformed, OutOfLimit, Cancelling, NoAssignment, TooShort, Mismatch}
@@ -15,7 +13,9 @@ use Rattle.rules.specs.Refusal.{refusalNumber}
 use Rattle.lines.specs.Spelling.{Written, lineWithin}
 use Rattle.reading.specs.Texts.{ruleLines}
 use Rattle.reading.specs.Meaning.{Opening, start, counted, headed, ruled, linesOf, countOf, AllFine, AtMost, Reaches, FailsFor}
-use Rattle.reports.specs.Refusals.{refusedKey, lineKey, lineOf, numberLine, refusalText}
+use Rattle.writing.specs.Writing.{countText}
+use Rattle.writing.proofs.Texts.{count-length}
+use Rattle.reports.specs.Refusals.{refusedKey, lineKey, lineOf, refusalText}
 
 -- ---- the line of a refusal
 
@@ -58,15 +58,11 @@ number-digit NoAssignment = omega arith
 number-digit (TooShort needed) = omega arith
 number-digit Mismatch = omega arith
 
--- a line of a key and a number
-pub number-length : (key : List ℕ) (v : ℕ) → length (numberLine key v) ≡ length key + length (decimal v) + 1
-number-length key v = omega (arith, length-append key (decimal v ++ newline ∷ []), length-append (decimal v) (newline ∷ []))
-
 -- the text of a refusal has the two lines
 pub refusal-parts : (f : Refusal)
-    → length (refusalText f) ≡ length (numberLine refusedKey (refusalNumber f)) + length (numberLine lineKey (lineOf f))
+    → length (refusalText f) ≡ length (countText refusedKey (refusalNumber f)) + length (countText lineKey (lineOf f))
 unfolding refusalText
-refusal-parts f = length-append (numberLine refusedKey (refusalNumber f)) (numberLine lineKey (lineOf f))
+refusal-parts f = length-append (countText refusedKey (refusalNumber f)) (countText lineKey (lineOf f))
 
 -- the text of a refusal whose line has at most k + 1 digits
 pub refusal-width : (k : ℕ) (f : Refusal) → lineOf f < 10 ^ suc k → length (refusalText f) ≤ 17 + k
@@ -74,8 +70,8 @@ refusal-width k f h =
     omega (
       arith,
       refusal-parts f,
-      number-length refusedKey (refusalNumber f),
-      number-length lineKey (lineOf f),
+      count-length refusedKey (refusalNumber f),
+      count-length lineKey (lineOf f),
       decimal-width 0 (refusalNumber f) (number-digit f),
       decimal-width k (lineOf f) h,
     )

@@ -17,7 +17,7 @@ use Rattle.integers.proofs.Within.{within-to, within-mono}
 use Rattle.words.specs.Change.{wordAt}
 use Rattle.places.specs.Numbering.{blockStart}
 use Rattle.places.proofs.Numbering.{blockStart-above}
-use Rattle.rules.specs.Hidden.{hiddenIn, setWithin}
+use Rattle.rules.specs.Hidden.{hiddenIn, setWithin, setOf}
 use Rattle.rules.specs.Limits.{maxQuantities, maxBound}
 use Rattle.rules.specs.Meaning.{Assignment}
 use Rattle.tables.specs.declared.reply.Reply.the-variants.{Done}
@@ -34,7 +34,6 @@ use Rattle.keys.proofs.Checking.{lent-done, key-passed}
 use Rattle.numerals.specs.Decimal.{signedDecimal}
 use Rattle.numerals.proofs.Decimals.{signed-width}
 use Rattle.lines.specs.Spelling.{lineWithin, writtenRules}
-use Rattle.rules.specs.Hidden.{setOf}
 use Rattle.reading.specs.Texts.{Contents}
 use Rattle.reading.specs.Meaning.{FineLines}
 use Rattle.writing.specs.Writing.{hiddenList, writtenText}

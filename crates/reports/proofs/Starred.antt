@@ -24,12 +24,11 @@ use Rattle.numerals.specs.Decimal.{decimalUpTo, decimal, signedDecimal}
 use Rattle.numerals.proofs.Decimals.{up-to-enough}
 use Rattle.numerals.specs.Parsing.{andThen, expect, digitsFrom, numeralOf}
 use Rattle.lines.specs.Spelling.{two, termText, ruleText, joinedText, listText, valueText, lineText, cancelling, writtenRule}
-use Rattle.lines.specs.Lines.{ended, countLine, membersAfter, membersFrom, listOf, hiddenLine, termOf, boundAt, boundLine, afterTerm, ruleLine}
-use Rattle.lines.specs.Lines.{judged, countJudged, hiddenJudged, ruleJudged}
+use Rattle.lines.specs.Lines.{ended, countLine, membersAfter, membersFrom, listOf, hiddenLine, termOf, boundAt, boundLine, afterTerm, ruleLine, judged, countJudged, hiddenJudged, ruleJudged}
 use Rattle.rules.specs.Hidden.{setOf}
 use Rattle.reading.specs.Texts.{Contents, linesText, headerText, sheetText}
 use Rattle.reading.specs.Reading.{onward, rulesFrom, linesFrom, checkText}
-use Rattle.writing.specs.Writing.{writtenOf, rulesAt, hiddenFrom, writtenText}
+use Rattle.writing.specs.Writing.{writtenOf, rulesAt, hiddenFrom, writtenText, countText}
 use Rattle.reports.specs.Refusals.{refusalText}
 use Rattle.reports.specs.Reports.{tableReport, reportOf, keyReport}
 
@@ -236,7 +235,8 @@ reckoning = tt
 
 -- and this the spelling
 unfoldable pub spelling : Unit {0}
-unfolding decimalUpTo signedDecimal termText ruleText joinedText listText valueText lineText linesText headerText sheetText refusalText
+unfolding decimalUpTo signedDecimal termText ruleText joinedText listText valueText lineText linesText headerText sheetText countText
+    refusalText
 spelling = tt
 
 -- the key of `largest`

@@ -16,8 +16,8 @@ use Rattle.lines.specs.Spelling.{lineText}
 use Rattle.lines.proofs.Spellings.{count-complete}
 use Rattle.reading.specs.Texts.{linesText, headerText, sheetText}
 use Rattle.reading.specs.Meaning.{FailsFor}
-use Rattle.writing.specs.Writing.{writtenText}
-use Rattle.reports.specs.Refusals.{refusedKey, lineKey, lineOf, numberLine, refusalText}
+use Rattle.writing.specs.Writing.{writtenText, countText}
+use Rattle.reports.specs.Refusals.{refusedKey, lineKey, lineOf, refusalText}
 
 -- ---- the number and the line
 
@@ -26,22 +26,23 @@ parsed-same : {v w : ℕ} {t u : List ℕ} → parsed v t ≡ parsed w u → (v 
 parsed-same e = (cc, cc)
 
 -- a line of a key and a number is read as the number
-number-read : (key : List ℕ) (v : ℕ) (u : List ℕ) → countLine key (numberLine key v ++ u) ≡ parsed v u
+number-read : (key : List ℕ) (v : ℕ) (u : List ℕ) → countLine key (countText key v ++ u) ≡ parsed v u
+unfolding countText
 number-read key v u =
     ap (countLine key) (append-assoc key (decimal v ++ newline ∷ []) u ∙ ap (λ (t : List ℕ). key ++ t) (append-assoc (decimal v) (newline ∷ []) u))
     ∙ count-complete key v u
 
 -- so lines that are the same, whatever follows, have one number
-number-same : (key : List ℕ) (v w : ℕ) (t u : List ℕ) → numberLine key v ++ t ≡ numberLine key w ++ u → (v ≡ w) × (t ≡ u)
+number-same : (key : List ℕ) (v w : ℕ) (t u : List ℕ) → countText key v ++ t ≡ countText key w ++ u → (v ≡ w) × (t ≡ u)
 number-same key v w t u e = parsed-same (sym (number-read key v t) ∙ ap (countLine key) e ∙ number-read key w u)
 
 -- a refusal's text tells both
 text-tells : (f g : Refusal) → refusalText f ≡ refusalText g → (refusalNumber f ≡ refusalNumber g) × (lineOf f ≡ lineOf g)
 unfolding refusalText
 text-tells f g e =
-    let first = number-same refusedKey (refusalNumber f) (refusalNumber g) (numberLine lineKey (lineOf f)) (numberLine lineKey (lineOf g)) e in
+    let first = number-same refusedKey (refusalNumber f) (refusalNumber g) (countText lineKey (lineOf f)) (countText lineKey (lineOf g)) e in
     let second = number-same lineKey (lineOf f) (lineOf g) [] []
-    (append-nil (numberLine lineKey (lineOf f)) ∙ first .1 ∙ sym (append-nil (numberLine lineKey (lineOf g)))) in
+    (append-nil (countText lineKey (lineOf f)) ∙ first .1 ∙ sym (append-nil (countText lineKey (lineOf g)))) in
     (first .0, second .0)
 
 -- ---- the refusal
@@ -86,5 +87,5 @@ fails-number s Mismatch h = absurd h
 
 -- `q` and `r` are their first bytes
 pub text-unlike : (n set : ℕ) (t : List ℤ) (f : Refusal) → writtenText n set t ≡ refusalText f → ⊥
-unfolding writtenText sheetText headerText linesText lineText refusalText
+unfolding writtenText sheetText headerText linesText lineText refusalText countText
 text-unlike n set t f e = let z : _≡_ {A = ℕ} 113 114 = ap (λ (u : List ℕ). getD u 0 0) e in omega arith

@@ -1,11 +1,11 @@
 -- How the programs print a refusal (document 01, 'Programs and host'): `refused=` and its number, `line=` and its line.
-use mathlib.Core.List.{List, [], _∷_, _++_}
+use mathlib.Core.List.{List, _++_}
 use Prim.Native.Nat.{ℕ}
-use Rattle.numerals.specs.Bytes.{bytes, newline}
-use Rattle.numerals.specs.Decimal.{decimal}
+use Rattle.numerals.specs.Bytes.{bytes}
 use Rattle.rules.specs.declared.refusal.Refusal.{Refusal}
 use Rattle.rules.specs.declared.refusal.Refusal.the-variants.{Size, Malformed, OutOfLimit, Cancelling, NoAssignment, TooShort, Mismatch}
 use Rattle.rules.specs.Refusal.{refusalNumber}
+use Rattle.writing.specs.Writing.{countText}
 
 -- the keys
 abbrev pub refusedKey : List ℕ
@@ -24,9 +24,5 @@ lineOf NoAssignment = 0
 lineOf (TooShort needed) = 0
 lineOf Mismatch = 0
 
--- a key, a number and the line's end
-abbrev pub numberLine : List ℕ → ℕ → List ℕ
-numberLine key v = key ++ (decimal v ++ newline ∷ [])
-
 unfoldable pub refusalText : Refusal → List ℕ
-refusalText r = numberLine refusedKey (refusalNumber r) ++ numberLine lineKey (lineOf r)
+refusalText r = countText refusedKey (refusalNumber r) ++ countText lineKey (lineOf r)

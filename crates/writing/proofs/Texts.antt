@@ -196,7 +196,7 @@ measure-more k t {w} {a} {b} m h v e n = record {
 
 -- three lines' keys and values, each line by itself and then one after the other
 regroup : (j v k w l x e : List ℕ)
-    → (j ++ (v ++ e)) ++ ((k ++ (w ++ e)) ++ ((l ++ (x ++ e)) ++ [])) ≡ (j ++ v ++ e) ++ k ++ w ++ e ++ (l ++ x ++ e)
+    → (j ++ (v ++ e)) ++ ((k ++ (w ++ e)) ++ ((l ++ (x ++ e)) ++ [])) ≡ (j ++ (v ++ e)) ++ k ++ w ++ e ++ (l ++ (x ++ e))
 regroup j v k w l x e = simp (append-assoc, append-nil)
 
 -- its three lines, as they are written
@@ -208,7 +208,7 @@ head-text n set m = regroup quantitiesKey (decimal n) hiddenKey (listText (hidde
 -- a line of a key and a number, as it is written
 pub count-text : (key : List ℕ) (v : ℕ) → countText key v ≡ key ++ decimal v ++ newline ∷ []
 unfolding countText
-count-text key v = refl
+count-text key v = sym (append-assoc key (decimal v) (newline ∷ []))
 
 -- its length
 pub count-length : (key : List ℕ) (v : ℕ) → length (countText key v) ≡ length key + length (decimal v) + 1

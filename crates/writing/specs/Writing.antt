@@ -101,7 +101,7 @@ memberText set j =
 
 -- a line of a key and a number
 unfoldable pub countText : List ℕ → ℕ → List ℕ
-countText key v = key ++ decimal v ++ newline ∷ []
+countText key v = key ++ (decimal v ++ newline ∷ [])
 
 -- the three lines before m rules
 unfoldable pub headText : ℕ → ℕ → ℕ → List ℕ

@@ -1,4 +1,5 @@
 // The three lines before the rules.
+use crate::line;
 use numerals::write;
 use rules::hidden;
 ghost use mathlib.Core.Path.{_≡_};
@@ -7,7 +8,7 @@ ghost use lib.ListN.{length};
 ghost use Rattle.numerals.specs.Writing.{Spliced};
 ghost use Rattle.rules.specs.Limits.{maxQuantities, maxRules};
 ghost use Rattle.lines.specs.Spelling.{listText};
-ghost use Rattle.writing.specs.Writing.{hiddenList, memberText, countText, headText};
+ghost use Rattle.writing.specs.Writing.{hiddenList, memberText, headText};
 
 // How many bytes quantity `j + 1` takes in the list, where the list of the quantities before it takes so many.
 fn member_width(set: u32, j: usize, before: usize) -> usize
@@ -78,24 +79,14 @@ pub(crate) fn header_width(n: usize, set: u32, count: usize) -> usize
     27 + write::width(n as u64) + list_width(n, set) + write::width(count as u64)
 }
 
-// Writes a key, a number and the line's end; answers the cursor after them.
-fn put_count(out: &mut [u8], at: usize, key: &[u8], value: usize) -> usize
-    requires { ⌜ at + length (countText (now key) value) ≤ length (now out) ⌝ }
-    ensures { λ r. ⌜ Spliced (now (out .entry)) at (countText (now (key .entry)) value) r (now (out .exit)) ⌝ }
-{
-    let from = write::put_text(out, at, key);
-    let end = write::put_number(out, from, value as u64);
-    write::put_byte(out, end, b'\n')
-}
-
 // Writes the header; answers the cursor after it.
 pub(crate) fn put_header(out: &mut [u8], n: usize, set: u32, count: usize) -> usize
     requires { ⌜ (n ≤ maxQuantities) × (length (headText n set count) ≤ length (now out)) ⌝ }
     ensures { λ r. ⌜ Spliced (now (out .entry)) 0 (headText n set count) r (now (out .exit)) ⌝ }
 {
-    let second = put_count(out, 0, b"quantities=", n);
+    let second = line::put_count(out, 0, b"quantities=", n);
     let list = write::put_text(out, second, b"hidden=");
     let end = put_list(out, list, n, set);
     let third = write::put_byte(out, end, b'\n');
-    put_count(out, third, b"rules=", count)
+    line::put_count(out, third, b"rules=", count)
 }

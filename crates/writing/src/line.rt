@@ -1,4 +1,4 @@
-// The line of a rule.
+// The line of a rule, and one of a key and a number.
 use numerals::write;
 use rules::literal;
 use rules::rule::Rule;
@@ -7,7 +7,7 @@ ghost use Prim.Native.Nat.{_+_, _≤_};
 ghost use lib.ListN.{length};
 ghost use Rattle.numerals.specs.Writing.{Spliced};
 ghost use Rattle.lines.specs.Spelling.{termText};
-ghost use Rattle.writing.specs.Writing.{literalTerm, boundText, ruleValueText, ruleLineText};
+ghost use Rattle.writing.specs.Writing.{countText, literalTerm, boundText, ruleValueText, ruleLineText};
 
 // How many bytes a literal takes, as +1 or -12; one of 32 bits has at most 11.
 fn term_width(x: u32) -> usize
@@ -101,5 +101,15 @@ pub fn put_rule(out: &mut [u8], at: usize, rule: Rule) -> usize
 {
     let value = write::put_text(out, at, b"rule=");
     let end = put_value(out, value, rule);
+    write::put_byte(out, end, b'\n')
+}
+
+// Writes a key, a number and the line's end; answers the cursor after them.
+pub fn put_count(out: &mut [u8], at: usize, key: &[u8], value: usize) -> usize
+    requires { ⌜ at + length (countText (now key) value) ≤ length (now out) ⌝ }
+    ensures { λ r. ⌜ Spliced (now (out .entry)) at (countText (now (key .entry)) value) r (now (out .exit)) ⌝ }
+{
+    let from = write::put_text(out, at, key);
+    let end = write::put_number(out, from, value as u64);
     write::put_byte(out, end, b'\n')
 }

@@ -7,30 +7,30 @@ use Rattle.reports.proofs.Refusals.{refusal-parts}
 use Rattle.reports.proofs.refusal.put_refusal.Statement.{statement}
 use Rattle.reports.proofs.refusal.put_refusal.Tie as tie
 
-slice-aggregate-put-number-line : tie.Need-slice-aggregate-put-number-line
-slice-aggregate-put-number-line c = search needs
+slice-aggregate-put-count : tie.Need-slice-aggregate-put-count
+slice-aggregate-put-count c = search needs
 
 number-requires : tie.Need-number-requires
 number-requires c κs = search needs
 
-cast-put-number-line : tie.Need-cast-put-number-line
-cast-put-number-line c = search needs
+cast-put-count : tie.Need-cast-put-count
+cast-put-count c = search needs
 
-put-number-line-requires : tie.Need-put-number-line-requires
-put-number-line-requires c κs = rw (c .number .ensures) (omega (arith, refusal-parts (c .before .before .before .before .args .r)))
+put-count-requires : tie.Need-put-count-requires
+put-count-requires c κs = rw (c .number .ensures) (omega (arith, refusal-parts (c .before .before .before .before .args .r)))
 
-slice-aggregate-put-number-line-2 : tie.Need-slice-aggregate-put-number-line-2
-slice-aggregate-put-number-line-2 c = search needs
+slice-aggregate-put-count-2 : tie.Need-slice-aggregate-put-count-2
+slice-aggregate-put-count-2 c = search needs
 
 line-of-requires : tie.Need-line-of-requires
 line-of-requires c κs = search needs
 
-put-number-line-requires-2 : tie.Need-put-number-line-requires-2
-put-number-line-requires-2 c κs =
+put-count-requires-2 : tie.Need-put-count-requires-2
+put-count-requires-2 c κs =
     let f = c .before .before .before .before .before in
     let n = f .before in
-    let first = rw (n .number .ensures) at (f .put-number-line .ensures) in
-    rw (c .line-of .ensures) (omega (arith, f .put-number-line .kept .0, first .cursor, refusal-parts (n .before .before .before .before .args .r)))
+    let first = rw (n .number .ensures) at (f .put-count .ensures) in
+    rw (c .line-of .ensures) (omega (arith, f .put-count .kept .0, first .cursor, refusal-parts (n .before .before .before .before .args .r)))
 
 same-length : tie.Need-same-length
 same-length c = search needs
@@ -40,19 +40,19 @@ unfolding refusalText
 returns c =
     let l = c .before .before in
     let f = l .before .before .before .before .before .before in
-    let first = rw (f .before .number .ensures) at (f .put-number-line .ensures) in
-    spliced-more first (rw (l .before .line-of .ensures) at (l .put-number-line2 .ensures)) (omega arith)
+    let first = rw (f .before .number .ensures) at (f .put-count .ensures) in
+    spliced-more first (rw (l .before .line-of .ensures) at (l .put-count2 .ensures)) (omega arith)
 
 pub put-refusal-spec : {M : Type 1} → statement M
 put-refusal-spec =
     tie.close
     (tie.spec
-    slice-aggregate-put-number-line
+    slice-aggregate-put-count
     number-requires
-    cast-put-number-line
-    put-number-line-requires
-    slice-aggregate-put-number-line-2
+    cast-put-count
+    put-count-requires
+    slice-aggregate-put-count-2
     line-of-requires
-    put-number-line-requires-2
+    put-count-requires-2
     same-length
     returns)

@@ -1,11 +1,11 @@
--- `header::put_count` meets its contract: the key, the numeral and the line's end. Assumes nothing.
+-- `line::put_count` meets its contract: the key, the numeral and the line's end. Assumes nothing.
 use native.Mathlib.Omega.{arith}
 use denote.Ref.{now}
 use borrow.Author.Needs.{needs}
 use Rattle.numerals.proofs.Splices.{spliced-more}
 use Rattle.writing.proofs.Texts.{count-text, count-length}
-use Rattle.writing.proofs.header.put_count.Statement.{statement}
-use Rattle.writing.proofs.header.put_count.Tie as tie
+use Rattle.writing.proofs.line.put_count.Statement.{statement}
+use Rattle.writing.proofs.line.put_count.Tie as tie
 
 put-text-requires : tie.Need-put-text-requires
 put-text-requires c κs =

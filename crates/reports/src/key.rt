@@ -23,8 +23,8 @@ ghost use Rattle.reports.specs.Promises.{SheetTable, KeyPrinted};
 // The words of the largest table.
 const WORDS: usize = 2 * Sheet::MAX_QUANTITIES * Sheet::MAX_QUANTITIES;
 
-// Bytes enough for whatever is printed.
-pub const ROOM: usize = 67703;
+// Bytes enough for whatever is printed: 119 for a text's header, and 33 for each rule.
+pub const ROOM: usize = 119 + 33 * Sheet::MAX_RULES;
 
 // Writes the text of a table, for which there is room, at the start of the output; answers its length. The writer has nothing to refuse.
 fn print_text(n: usize, hidden: u32, table: &[i64], out: &mut [u8]) -> usize

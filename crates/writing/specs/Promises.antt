@@ -4,12 +4,12 @@ use mathlib.Core.Path.{_≡_}
 use mathlib.Core.Bool.{true, false}
 use mathlib.Core.Logic.{_↔_}
 use mathlib.Core.List.{List, [], _∷_, _++_}
-use Prim.Native.Nat.{ℕ, _^_, _≤_, _<_}
+use Prim.Native.Nat.{ℕ, _*_, _+_, _^_, _≤_, _<_}
 use lib.IntN.{ℤ, pos}
 use lib.ListN.{length, take, drop}
 use Rattle.places.specs.Numbering.{blockStart}
 use Rattle.rules.specs.Hidden.{setWithin}
-use Rattle.rules.specs.Limits.{maxBound}
+use Rattle.rules.specs.Limits.{maxBound, maxRules}
 use Rattle.rules.specs.Meaning.{Assignment}
 use Rattle.tables.specs.Tables.{serves}
 use Rattle.tables.specs.Meaning.{Satisfies, MeetsAll, WordsWithin}
@@ -20,9 +20,9 @@ use Rattle.reading.specs.Reading.{readReply, readTable}
 use Rattle.writing.specs.declared.write.Writing.{Writing}
 use Rattle.writing.specs.Writing.{tableRules, contentsOf, writtenText, writeReply, written, writingNumber, writingValues, Wrote}
 
--- no text written is longer than this: 119 bytes for the header, and 33 for each of at most 2048 rules (it is not said to be attained)
+-- no text written is longer than this: 119 bytes for the header, and 33 for each rule (it is not said to be attained)
 abbrev pub maxWritten : ℕ
-maxWritten = 67703
+maxWritten = 119 + 33 * maxRules
 
 -- a table and a hidden set written
 pub record TextWritten (n set : ℕ) (table : List ℤ) (out : List ℕ) (r : Writing) (out' : List ℕ) : Type 0 where

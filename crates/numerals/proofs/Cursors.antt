@@ -11,10 +11,6 @@ use Rattle.numerals.specs.Parsing.{cursorOf}
 pub cursor-here : (s : List ℕ) (at : ℕ) → at ≤ length s → cursorOf s (drop at s) ≡ at
 cursor-here s at h = rw (length-drop at s) (omega arith)
 
--- a cursor is inside its text, or at its end
-pub cursor-inside : (s rest : List ℕ) → cursorOf s rest ≤ length s
-cursor-inside s rest = omega arith
-
 -- the bytes from the cursor of some last bytes on are these
 pub cursor-rest : (s : List ℕ) (at : ℕ) (xs rest : List ℕ) → drop at s ≡ xs ++ rest → drop (cursorOf s rest) s ≡ rest
 cursor-rest s at xs rest e = ap (drop (cursorOf s rest)) whole ∙ drop-at before rest (cursorOf s rest) size
@@ -27,7 +23,3 @@ cursor-rest s at xs rest e = ap (drop (cursorOf s rest)) whole ∙ drop-at befor
 
     size : length before ≡ cursorOf s rest
     size = omega (arith, ap length whole, length-append before rest)
-
--- the cursor after some bytes at a cursor is as far from it as they are many
-pub cursor-after : (s : List ℕ) (at : ℕ) (xs rest : List ℕ) → drop at s ≡ xs ++ rest → at ≤ length s → cursorOf s rest ≡ at + length xs
-cursor-after s at xs rest e h = omega (arith, ap length e, length-append xs rest, length-drop at s)

@@ -8,13 +8,12 @@ use lib.Dec.{eqb}
 use lib.ListN.{length, take, drop, length-append, length-drop}
 use lib.Seq.{append-snoc, take-at}
 use borrow.Author.Tests.{eqb-true, eqb-false}
-use Rattle.numerals.specs.declared.byte.Kind.the-variants.{Digit}
 use Rattle.numerals.specs.declared.read.Numeral.the-variants.{Number, Malformed}
 use Rattle.numerals.specs.Bytes.{isDigit, digitZero}
 use Rattle.numerals.specs.Decimal.{decimal, capped}
-use Rattle.numerals.specs.Parsing.{Parsed, parsed, malformed, digitsFrom, numeralOf, digitNext, kindAt, cursorOf, numeralAnswer}
+use Rattle.numerals.specs.Parsing.{Parsed, parsed, malformed, digitsFrom, numeralOf, digitNext, cursorOf, numeralAnswer}
 use Rattle.numerals.proofs.Cases.{clash, by-below}
-use Rattle.numerals.proofs.Keys.{digit-range, is-digit, digit-kind}
+use Rattle.numerals.proofs.Keys.{digit-range, is-digit}
 use Rattle.numerals.proofs.Decimals.{decimal-digit, decimal-more, decimal-some}
 use Rattle.numerals.proofs.Cursors.{cursor-rest}
 use Rattle.numerals.proofs.Reading.{digits-more, digits-stop, numeral-missing, numeral-zero, numeral-first}
@@ -59,17 +58,6 @@ digits-sound (b ∷ u) v w rest h e = go (isDigit b) refl e (λ q. digits-sound 
     go true d q ih = sym (rw (decimal-append v (b - digitZero) h (digit-value b d), digit-byte b d) (append-snoc (decimal v) b u)) ∙ ih q
     go false d q ih = cc
 
--- and they are all that stand there
-digits-end : (u : List ℕ) (v w : ℕ) (rest : List ℕ) → digitsFrom v u ≡ parsed w rest → digitNext rest ≡ false
-unfolding digitsFrom
-digits-end [] v w rest e = let q : [] ≡ rest = cc in ap digitNext (sym q)
-digits-end (b ∷ u) v w rest e = go (isDigit b) refl e (digits-end u (10 * v + (b - digitZero)) w rest)
-  where
-    go : (t : Bool) → isDigit b ≡ t → cond t (digitsFrom (10 * v + (b - digitZero)) u) (parsed v (b ∷ u)) ≡ parsed w rest
-        → (digitsFrom (10 * v + (b - digitZero)) u ≡ parsed w rest → digitNext rest ≡ false) → digitNext rest ≡ false
-    go true d q ih = ih q
-    go false d q ih = let p : b ∷ u ≡ rest = cc in ap digitNext (sym p) ∙ d
-
 -- a numeral is a zero that stands alone, or begins with another digit
 by-first : {X : Type 0} (b : ℕ) (u : List ℕ) (v : ℕ) (rest : List ℕ) → numeralOf (b ∷ u) ≡ parsed v rest
     → (b ≡ digitZero → digitNext u ≡ false → parsed 0 u ≡ parsed v rest → X)
@@ -93,13 +81,6 @@ numeral-sound (b ∷ u) v rest e = by-first b u v rest e
     ap (λ (x : ℕ). x ∷ u) z ∙ ap (λ (ds : List ℕ). ds ++ u) (sym (decimal-byte digitZero refl)) ∙ p)
     (λ d n q. let h : 0 < b - digitZero = omega (arith, digit-range b d) in
     ap (λ (ds : List ℕ). ds ++ u) (sym (decimal-byte b d)) ∙ digits-sound u (b - digitZero) v rest h q)
-
--- and no other digit follows
-pub numeral-ends : (u : List ℕ) (v : ℕ) (rest : List ℕ) → numeralOf u ≡ parsed v rest → digitNext rest ≡ false
-numeral-ends [] v rest e = absurd (never (sym (numeral-missing [] refl) ∙ e))
-numeral-ends (b ∷ u) v rest e = by-first b u v rest e
-    (λ z n q. let p : u ≡ rest = cc in ap digitNext (sym p) ∙ n)
-    (λ d n q. digits-end u (b - digitZero) v rest q)
 
 -- ---- and each numeral that is spelled is read
 
@@ -151,11 +132,6 @@ decimal-first v = digit-first (decimal v) (numeral-next (decimal v) v [] (rw app
 -- whatever follows it
 pub decimal-next : (v : ℕ) (rest : List ℕ) → digitNext (decimal v ++ rest) ≡ true
 decimal-next v rest = rw (decimal-first v .is) (decimal-first v .digit)
-
--- so that the kind there is that of digits
-pub decimal-kind : (v : ℕ) (rest : List ℕ) → kindAt (decimal v ++ rest) ≡ Digit
-unfolding kindAt
-decimal-kind v rest = rw (decimal-first v .is) (digit-kind (decimal-first v .first) (decimal-first v .digit))
 
 -- ---- the program's answer
 

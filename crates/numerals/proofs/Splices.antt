@@ -1,21 +1,15 @@
 -- Bytes written into a buffer one after another: what each write leaves, and how two in a row are one. Assumes nothing.
-use mathlib.Core.Path.{_≡_, sym, _∙_, ap}
+use mathlib.Core.Path.{_≡_, sym, _∙_}
 use mathlib.Core.List.{List, [], _∷_, _++_, append-assoc, append-nil}
 use Prim.Native.Nat.{ℕ, suc, _+_, _≤_, _<_}
 use native.Mathlib.Nat.{add-zero, zero-add, add-assoc}
 use native.Mathlib.Numerals.{add-one}
 use native.Mathlib.Omega.{arith}
-use lib.ListN.{length, set, take, drop, length-append, length-take, length-drop, length-set, take-append-drop}
-use lib.Seq.{length-take-le, drop-cons, append-snoc, take-append-seam, drop-append-seam, take-at, drop-at, drop-drop}
-use lib.Seq.{set-split, getD-set-same, take-set-le, drop-set-lt}
+use lib.ListN.{length, set, take, drop, length-append, length-set, take-append-drop}
+use lib.Seq.{length-take-le, drop-cons, append-snoc, take-at, drop-at, drop-drop, set-split, getD-set-same, take-set-le, drop-set-lt}
 use Rattle.numerals.specs.Writing.{splice, Spliced}
 
 -- ---- one write
-
--- a write keeps the length of the buffer
-pub splice-length : (out : List ℕ) (at : ℕ) (xs : List ℕ) → at + length xs ≤ length out → length (splice out at xs) ≡ length out
-unfolding splice
-splice-length out at xs h = simp (length-append, length-take, length-drop) (omega arith)
 
 -- nothing written
 pub splice-none : (out : List ℕ) (at : ℕ) → splice out at [] ≡ out
@@ -33,14 +27,6 @@ splice-byte out at b h = set-split out at b h ∙ sym (rw (add-one at) (append-s
 pub splice-start : (out xs : List ℕ) → splice out 0 xs ≡ xs ++ drop (length xs) out
 unfolding splice
 splice-start out xs = rw (zero-add (length xs))
-
--- they are the first ones
-pub splice-start-take : (out xs : List ℕ) → take (length xs) (splice out 0 xs) ≡ xs
-splice-start-take out xs = rw (splice-start out xs) (take-append-seam xs (drop (length xs) out))
-
--- and what follows them is as it was
-pub splice-start-drop : (out xs : List ℕ) → drop (length xs) (splice out 0 xs) ≡ drop (length xs) out
-splice-start-drop out xs = rw (splice-start out xs) (drop-append-seam xs (drop (length xs) out))
 
 -- ---- two writes
 
@@ -90,10 +76,6 @@ splice-before out at xs b h =
 -- nothing written
 pub spliced-none : (out : List ℕ) (at : ℕ) → Spliced out at [] at out
 spliced-none out at = record { cursor = sym (add-zero at); buffer = sym (splice-none out at) }
-
--- a write keeps the length of the buffer
-pub spliced-length : {a b xs : List ℕ} {at m : ℕ} → Spliced a at xs m b → at + length xs ≤ length a → length b ≡ length a
-spliced-length {a} {b} {xs} {at} s h = ap length (s .buffer) ∙ splice-length a at xs h
 
 -- two writes in a row are one
 pub spliced-more : {a b c xs ys : List ℕ} {at m e : ℕ} → Spliced a at xs m b → Spliced b m ys e c → at ≤ length a → Spliced a at (xs ++ ys) e c

@@ -21,10 +21,6 @@ capped-above v h = rw (le-ltb v cap h)
 pub capped-cap : (v : ℕ) → capped v ≤ cap
 capped-cap v = by-below v cap (λ h. omega (arith, capped-below v h)) (λ h. omega (arith, capped-above v h))
 
--- nor above itself
-pub capped-less : (v : ℕ) → capped v ≤ v
-capped-less v = by-below v cap (λ h. omega (arith, capped-below v h)) (λ h. omega (arith, capped-above v h))
-
 -- a value that is told below the cap is the one told
 pub capped-exact : (v : ℕ) → capped v < cap → capped v ≡ v
 capped-exact v l = by-below v cap (capped-below v) (λ h. let z : ⊥ = omega (arith, capped-above v h) in absurd z)

@@ -26,8 +26,7 @@ use Rattle.tables.proofs.Tests.{clash}
 use Rattle.numerals.specs.Bytes.{bytes}
 use Rattle.numerals.specs.Decimal.{decimalUpTo, decimal, signedDecimal}
 use Rattle.numerals.specs.Parsing.{andThen, expect, digitsFrom, numeralOf}
-use Rattle.lines.specs.Spelling.{Line, WellFormed, lineCancels}
-use Rattle.lines.specs.Spelling.{two, termText, ruleText, joinedText, listText, valueText, lineText, lineWithin, cancelling, writtenRule}
+use Rattle.lines.specs.Spelling.{Line, WellFormed, lineCancels, two, termText, ruleText, joinedText, listText, valueText, lineText, lineWithin, cancelling, writtenRule}
 use Rattle.lines.specs.Lines.{ended, countLine, membersAfter, membersFrom, listOf, hiddenLine, termOf, boundAt, boundLine, afterTerm, ruleLine, refused, judged, countJudged, hiddenJudged, ruleJudged}
 use Rattle.reading.specs.declared.check.Checked.{Checked}
 use Rattle.reading.specs.declared.check.Checked.the-variants.{Passed}

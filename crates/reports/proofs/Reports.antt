@@ -31,7 +31,7 @@ use Rattle.reports.specs.Promises.{KeyPrinted}
 use Rattle.reading.proofs.Means.{text-means}
 use Rattle.reports.proofs.Sheets.{setIn, tableIn, keyIn, Sheet, fine-sheet, sheet-refuted, sheet-unmet, sheet-met, key-length, key-meaning, key-text-length}
 use Rattle.reports.proofs.KeyTexts.{key-spells, key-spares}
-use Rattle.reports.proofs.Refusals.{refusal-width, refusal-length}
+use Rattle.reports.proofs.Refusals.{refusal-width}
 use Rattle.reports.proofs.Telling.{refusal-same, fails-number, text-unlike}
 
 -- ---- of a table
@@ -117,15 +117,6 @@ five-exactly s = (
   λ e. ⊎-elim (λ h. absurd h) (λ u. u .1) (report-tells s NoAssignment e),
   λ u. report-none s (u .contents) (u .small) (u .spelled) (u .none),
 )
-
--- it is never longer than the longest text that can be written
-pub report-length : (s : List ℕ) → length (keyReport s) ≤ maxWritten
-unfolding keyReport reportOf
-report-length s = go (checkText s) (text-means s (checkText s) .0 refl)
-  where
-    go : (j : Judged Contents) → Means s j → length (reportOf j) ≤ maxWritten
-    go (accepted c u) m = table-length c (fine-sheet c (m .1 .fine))
-    go (refused f) m = omega (arith, refusal-length s f m)
 
 -- the record of the contract, where the text printed is known
 pub printed : {s out text : List ℕ} {end : ℕ} {out' : List ℕ} → keyReport s ≡ text → Spliced out 0 text end out' → KeyPrinted s out end out'

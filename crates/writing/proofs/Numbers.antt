@@ -7,15 +7,12 @@ use lib.ListN.{getD}
 use Rattle.rules.proofs.Refusals.{refusal-number}
 use Rattle.writing.specs.declared.write.Writing.{Writing}
 use Rattle.writing.specs.declared.write.Writing.the-variants.{Text, Refused}
-use Rattle.writing.specs.Writing.{isText, writingNumber, writingValues, Wrote}
+use Rattle.writing.specs.Writing.{isText, writingNumber, Wrote}
 
--- 0 and a length are returned for a text of this length, and back
+-- 0 and a length are returned for a text of this length
 pub wrote-text : (r : Writing) (m : ℕ) → Wrote r m → r ≡ Text m
 wrote-text (Text k) m w = ap (λ (vs : List ℕ). Text (getD vs 0 0)) (w .1)
 wrote-text (Refused f) m w = absurd (refusal-number f (w .0))
-
-pub text-wrote : (r : Writing) (m : ℕ) → r ≡ Text m → Wrote r m
-text-wrote r m e = (ap writingNumber e, ap writingValues e)
 
 -- a reply with another number than 0 is no text
 pub refused-number : (r : Writing) → (writingNumber r ≡ 0 → ⊥) → isText r ≡ false

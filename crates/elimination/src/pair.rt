@@ -84,7 +84,7 @@ fn pair_block(table: &mut [i64], b: usize, from: usize, plus: &[i64], minus: &[i
 }
 
 // Puts the sums in, block after block.
-fn pair_blocks(
+pub fn pair_blocks(
     n: usize,
     table: &mut [i64],
     from: usize,

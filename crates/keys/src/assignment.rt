@@ -12,7 +12,7 @@ ghost use Rattle.keys.specs.Reducing.{Layered, fillDown};
 ghost use Rattle.keys.specs.Promises.{Assigned};
 
 // Chooses a value for each quantity of a reduced table, the last first.
-fn fill(n: usize, table: &[i64], values: &mut [i64])
+pub fn fill(n: usize, table: &[i64], values: &mut [i64])
     requires { ⌜ Layered n (now table) × (n ≤ length (now values)) ⌝ }
     ensures { λ _. ⌜ now (values .exit) ≡ fillDown n (now (table .entry)) n (now (values .entry)) ⌝ }
 {

@@ -7,7 +7,7 @@ ghost use Rattle.keys.specs.Reducing.{Fits};
 ghost use Rattle.keys.specs.Promises.{Reduced, Decided};
 
 // Pairs the rules of each of `n` quantities that have a later one beside it or none, and answers whether a contradiction is met, at which it stops.
-fn reduce(n: usize, table: &mut [i64]) -> bool
+pub fn reduce(n: usize, table: &mut [i64]) -> bool
     requires { ⌜ Fits n (now table) ⌝ }
     ensures { λ r. ⌜ Reduced n (now (table .entry)) r (now (table .exit)) ⌝ }
 {
@@ -22,7 +22,7 @@ fn reduce(n: usize, table: &mut [i64]) -> bool
 }
 
 // Whether no integers satisfy the table. Where some do, the workspace has the table reduced, from which `assignment` reads them.
-pub(crate) fn decide(n: usize, table: &[i64], workspace: &mut [i64]) -> bool
+pub fn decide(n: usize, table: &[i64], workspace: &mut [i64]) -> bool
     requires { ⌜ Fits n (now table) × (blockStart n ≤ length (now workspace)) ⌝ }
     ensures { λ r. ⌜ Decided n (now (table .entry)) (now (workspace .entry)) r (now (workspace .exit)) ⌝ }
 {

@@ -27,7 +27,7 @@ fn hide_member(n: usize, set: u32, table: &mut [i64], j: usize)
 }
 
 // Hides each quantity of the set in increasing number.
-fn hide_set(n: usize, set: u32, table: &mut [i64])
+pub fn hide_set(n: usize, set: u32, table: &mut [i64])
     requires { ⌜ Fits n (now table) ⌝ }
     ensures { λ _. ⌜ now (table .exit) ≡ keyOf (hiddenIn set) n (now (table .entry)) ⌝ }
 {

@@ -10,7 +10,8 @@ use Rattle.places.specs.Numbering.{blockStart}
 use Rattle.rules.specs.declared.refusal.Refusal.{Refusal}
 use Rattle.rules.specs.declared.refusal.Refusal.the-variants.{Size, Malformed, OutOfLimit, Cancelling, NoAssignment, TooShort, Mismatch}
 use Rattle.rules.specs.Limits.{maxBound, maxText}
-use Rattle.lines.specs.Spelling.{Written, Line, quantities, hidden, rules, rule, lineText, WellFormed, lineWithin, lineCancels}
+use Rattle.tables.specs.Meaning.{Paper, MeetsAll}
+use Rattle.lines.specs.Spelling.{Written, Line, quantities, hidden, rules, rule, lineText, WellFormed, lineWithin, lineCancels, writtenRules}
 use Rattle.lines.specs.Lines.{Judged, accepted, refused}
 use Rattle.rules.specs.Hidden.{hiddenIn, setOf, isListed}
 use Rattle.reading.specs.Texts.{Contents, ruleLines, linesText, headerText, sheetText}
@@ -86,6 +87,10 @@ FineLines limit c = AllFine (c .count) limit (linesOf (ruled (c .count) (c .hidd
 pub record Spells (limit : ℕ) (s : List ℕ) (c : Contents) : Type 0 where
   pub text : s ≡ sheetText c
   pub fine : FineLines limit c
+
+-- the rules that contents write, as a paper: a doubled term is taken as written
+abbrev pub rulesOf : Contents → Paper
+rulesOf c σ = MeetsAll σ (writtenRules (c .written))
 
 -- ---- refused
 

@@ -29,7 +29,7 @@ use Rattle.writing.proofs.Promised.{reply-text}
 use Rattle.reports.specs.Refusals.{refusalText}
 use Rattle.reports.specs.Reports.{tableReport}
 use Rattle.reports.specs.Promises.{SheetTable}
-use Rattle.reports.proofs.Sheets.{fine-sheet, exactly-serves, key-checks, key-length}
+use Rattle.scripts.proofs.Sheets.{fine-sheet, exactly-serves, key-checks, key-length}
 use Rattle.reports.proofs.Reports.{table-length}
 
 -- ---- the writer, where it can write

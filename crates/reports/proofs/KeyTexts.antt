@@ -14,7 +14,7 @@ use Rattle.rules.specs.Limits.{maxBound}
 use Rattle.rules.specs.Meaning.{names}
 use Rattle.tables.specs.Places.{ruleAt}
 use Rattle.tables.specs.Tables.{hasRule}
-use Rattle.tables.specs.Meaning.{HoldsRule, ruleIn, NamesVisible}
+use Rattle.tables.specs.Meaning.{HoldsRule, ruleIn, NamesVisible, NoneNames}
 use Rattle.tables.proofs.Tests.{clash}
 use Rattle.keys.proofs.Several.{key-visible}
 use Rattle.lines.specs.Spelling.{writtenRules}
@@ -23,8 +23,9 @@ use Rattle.reading.specs.Meaning.{Spells}
 use Rattle.writing.specs.Writing.{writtenOf, rulesAt, tableRules, writtenText}
 use Rattle.writing.proofs.Meanings.{written-rule, front-word}
 use Rattle.writing.proofs.Back.{spells-within}
-use Rattle.reports.specs.Meaning.{NoneNames}
-use Rattle.reports.proofs.Sheets.{setIn, tableIn, keyIn, Sheet, key-bounds}
+
+use Rattle.scripts.specs.Meaning.{setIn, tableIn}
+use Rattle.scripts.proofs.Sheets.{keyIn, Sheet, key-bounds}
 
 -- ---- every line is fine
 

@@ -1,7 +1,4 @@
--- The laws of what *key* prints: what a fine text's rules and hidden list come to, its key, and the report; and cases of whole texts.
-pub mod Rules
-pub mod Hiddens
-pub mod Sheets
+-- The laws of what the programs print: the text of a sheet's key, the report, and cases of whole texts.
 pub mod KeyTexts
 pub mod Refusals
 pub mod Telling

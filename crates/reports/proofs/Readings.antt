@@ -21,7 +21,8 @@ use Rattle.reading.specs.Reading.{readingNumber, readingValues}
 use Rattle.reading.specs.Promises.{ReadInto}
 use Rattle.reports.specs.Reports.{tableReport, keyReport}
 use Rattle.reports.specs.Promises.{SheetTable}
-use Rattle.reports.proofs.Sheets.{tableIn, fine-sheet, in-range-size}
+use Rattle.scripts.specs.Meaning.{tableIn}
+use Rattle.scripts.proofs.Sheets.{fine-sheet, in-range-size}
 use Rattle.reports.proofs.Reports.{report-accepted}
 
 -- ---- accepted

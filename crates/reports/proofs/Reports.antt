@@ -19,17 +19,18 @@ use Rattle.lines.specs.Lines.{Judged, accepted, refused}
 use Rattle.lines.specs.Spelling.{lineWithin}
 use Rattle.lines.proofs.SetMembers.{list-members}
 use Rattle.reading.specs.Texts.{Contents}
-use Rattle.reading.specs.Meaning.{Spells, FailsFor, Means}
+use Rattle.reading.specs.Meaning.{Spells, rulesOf, FailsFor, Means}
 use Rattle.reading.specs.Reading.{checkText}
 use Rattle.writing.specs.Writing.{tableRules, writtenText}
 use Rattle.writing.specs.Promises.{maxWritten}
 use Rattle.writing.proofs.Meanings.{table-meaning}
 use Rattle.reports.specs.Refusals.{refusalText}
 use Rattle.reports.specs.Reports.{tableReport, reportOf, keyReport}
-use Rattle.reports.specs.Meaning.{rulesOf, KeyText, Unmet}
+use Rattle.reports.specs.Meaning.{KeyText, Unmet}
 use Rattle.reports.specs.Promises.{KeyPrinted}
 use Rattle.reading.proofs.Means.{text-means}
-use Rattle.reports.proofs.Sheets.{setIn, tableIn, keyIn, Sheet, fine-sheet, sheet-refuted, sheet-unmet, sheet-met, key-length, key-meaning, key-text-length}
+use Rattle.scripts.specs.Meaning.{setIn, tableIn}
+use Rattle.scripts.proofs.Sheets.{keyIn, Sheet, fine-sheet, sheet-refuted, sheet-unmet, sheet-met, key-length, key-meaning, key-text-length}
 use Rattle.reports.proofs.KeyTexts.{key-spells, key-spares}
 use Rattle.reports.proofs.Refusals.{refusal-width}
 use Rattle.reports.proofs.Telling.{refusal-same, fails-number, text-unlike}

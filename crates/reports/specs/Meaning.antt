@@ -1,27 +1,17 @@
--- What is meant by what *key* prints: the rules of a text, the text of their key, and that no integers satisfy them. No step of the program is in it.
+-- What is meant by what *key* prints: the text of a sheet's key, and that no integers satisfy a sheet. No step of the program is in it.
 use mathlib.Core.Path.{_≡_}
 use mathlib.Core.Bool.{true, false}
 use mathlib.Core.Logic.{_↔_}
 use mathlib.Core.List.{List, [], _∷_}
 use Prim.Native.Nat.{ℕ, _*_, _^_, _≤_}
 use lib.ListN.{length}
-use Rattle.rules.specs.declared.rule.Rule.{Rule}
 use Rattle.rules.specs.Hidden.{hiddenIn, setOf, isListed}
 use Rattle.rules.specs.Limits.{maxBound, maxText}
-use Rattle.rules.specs.Meaning.{Assignment, names}
-use Rattle.tables.specs.Meaning.{Paper, MeetsAll, SheetAllows}
+use Rattle.rules.specs.Meaning.{Assignment}
+use Rattle.tables.specs.Meaning.{MeetsAll, NoneNames, SheetAllows}
 use Rattle.lines.specs.Spelling.{Written, writtenRules}
 use Rattle.reading.specs.Texts.{Contents}
-use Rattle.reading.specs.Meaning.{Spells}
-
--- the rules that contents write, as a paper: a doubled term is taken as written
-abbrev pub rulesOf : Contents → Paper
-rulesOf c σ = MeetsAll σ (writtenRules (c .written))
-
--- no rule of a list names quantity q
-abbrev pub NoneNames : ℕ → List Rule → Type 0
-NoneNames q [] = Unit {0}
-NoneNames q (r ∷ rs) = (names q r ≡ false) × NoneNames q rs
+use Rattle.reading.specs.Meaning.{Spells, rulesOf}
 
 -- the text is that of a key of these contents, with document 01's words of it
 pub record KeyText (c : Contents) (text : List ℕ) : Type 0 where

@@ -13,10 +13,10 @@ use Rattle.rules.specs.Meaning.{Assignment}
 use Rattle.tables.specs.Tables.{tableOf}
 use Rattle.lines.specs.Spelling.{writtenRules}
 use Rattle.reading.specs.Texts.{Contents}
-use Rattle.reading.specs.Meaning.{FineLines, Spells, FailsFor}
+use Rattle.reading.specs.Meaning.{FineLines, Spells, rulesOf, FailsFor}
 use Rattle.reports.specs.Refusals.{refusalText}
 use Rattle.reports.specs.Reports.{keyReport}
-use Rattle.reports.specs.Meaning.{rulesOf, KeyText, Unmet}
+use Rattle.reports.specs.Meaning.{KeyText, Unmet}
 
 -- n, a hidden set and a table are those of a sheet whose lines are fine
 pub record SheetTable (n set : ℕ) (table : List ℤ) : Type 0 where

@@ -51,6 +51,11 @@ abbrev pub MeetsAll : Assignment → List Rule → Type 0
 MeetsAll σ [] = Unit {0}
 MeetsAll σ (r ∷ rs) = Meets σ r × MeetsAll σ rs
 
+-- no rule of a list names quantity q
+abbrev pub NoneNames : ℕ → List Rule → Type 0
+NoneNames q [] = Unit {0}
+NoneNames q (r ∷ rs) = (names q r ≡ false) × NoneNames q rs
+
 -- a paper, sheet or script, by what satisfies its rules: those its table holds, `Satisfies n t`, or those its text writes,
 -- `λ σ. MeetsAll σ rules`, a doubled term taken as written
 abbrev pub Paper : Type 1
@@ -76,6 +81,12 @@ ScriptAllows script visibles = script visibles
 -- and it forbids all others
 abbrev pub ScriptForbids : Paper → Assignment → Type 0
 ScriptForbids script visibles = ScriptAllows script visibles → ⊥
+
+-- some assignment of a paper breaks a rule, that is, does not meet it
+pub record Breaks (paper : Paper) (r : Rule) : Type 0 where
+  pub assignment : Assignment
+  pub satisfies : paper assignment
+  pub broken : Meets assignment r → ⊥
 
 -- the rules of a table name visible quantities alone, as those of a script have to
 pub record NamesVisible (n : ℕ) (hidden : ℕ → Bool) (t : List ℤ) : Type 0 where

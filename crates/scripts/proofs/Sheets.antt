@@ -35,21 +35,15 @@ use Rattle.numerals.specs.Decimal.{signedDecimal}
 use Rattle.numerals.proofs.Decimals.{signed-width}
 use Rattle.lines.specs.Spelling.{lineWithin, writtenRules}
 use Rattle.reading.specs.Texts.{Contents}
-use Rattle.reading.specs.Meaning.{FineLines}
+use Rattle.reading.specs.Meaning.{FineLines, rulesOf}
 use Rattle.writing.specs.Writing.{hiddenList, writtenText}
 use Rattle.writing.specs.Promises.{maxWritten}
 use Rattle.writing.proofs.Lengths.{longest}
-use Rattle.reports.specs.Meaning.{rulesOf}
-use Rattle.reports.proofs.Rules.{rules-meaning, read-within}
-use Rattle.reports.proofs.Hiddens.{quantity-range, set-range, list-back, list-count, count-most}
+use Rattle.scripts.specs.Meaning.{setIn, tableIn}
+use Rattle.scripts.proofs.Rules.{rules-meaning, read-within}
+use Rattle.scripts.proofs.Hiddens.{quantity-range, set-range, list-back, list-count, count-most}
 
--- the hidden set and the table of contents, and their key
-abbrev pub setIn : Contents → ℕ
-setIn c = setOf (c .hiddens)
-
-abbrev pub tableIn : Contents → List ℤ
-tableIn c = tableOf (c .count) (writtenRules (c .written))
-
+-- the key of contents
 abbrev pub keyIn : Contents → List ℤ
 keyIn c = keyOf (hiddenIn (setIn c)) (c .count) (tableIn c)
 

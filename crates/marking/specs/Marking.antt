@@ -1,0 +1,113 @@
+-- Marking two tables (document 01, 'Marking', 'Returned to the caller'): the verdict and the reply, which compute.
+use mathlib.Core.Bool.{Bool, false, cond, not, _&&_, _||_}
+use mathlib.Core.List.{List, [], _∷_}
+use Prim.Native.Nat.{ℕ, zero, suc, _+_, _*_}
+use lib.IntN.{ℤ}
+use lib.ListN.{length, take}
+use lib.Signed.{ltZ}
+use Rattle.words.specs.Change.{wordAt}
+use Rattle.places.specs.declared.Place.{Place}
+use Rattle.places.specs.declared.Place.the-variants.{At, Nowhere}
+use Rattle.places.specs.Numbering.{blockStart}
+use Rattle.rules.specs.declared.rule.Rule.{Rule}
+use Rattle.rules.specs.declared.rule.Rule.the-variants.{One, Two, Nothing}
+use Rattle.rules.specs.declared.refusal.Refusal.the-variants.{Size, Mismatch}
+use Rattle.rules.specs.Hidden.{hiddenIn, setWithin}
+use Rattle.rules.specs.Literal.{quantityOf}
+use Rattle.rules.specs.Steps.{trivialRule, oppositeOf}
+use Rattle.tables.specs.declared.reply.Reply.{Reply}
+use Rattle.tables.specs.declared.reply.Reply.the-variants.{Done}
+use Rattle.tables.specs.declared.reply.Reply.the-variants.{Refused as NotDone}
+use Rattle.tables.specs.Places.{ruleAt}
+use Rattle.tables.specs.Tables.{hasRule, serves, putRule}
+use Rattle.keys.specs.Keys.{keyOf, refuted, inSheetLimit, andThen, lengthReply, limitReply}
+use Rattle.marking.specs.declared.verdict.Verdict.{Verdict}
+use Rattle.marking.specs.declared.verdict.Verdict.the-variants.{Equal, Loose, Tight}
+use Rattle.marking.specs.declared.verdict.Marking.{Marking}
+use Rattle.marking.specs.declared.verdict.Marking.the-variants.{Marked, Refused}
+
+-- ---- the verdict
+
+-- does some assignment of a table over n quantities break a rule? Where it does, the table with the opposite of the rule put in has an assignment
+unfoldable pub breakable : ℕ → List ℤ → Rule → Bool
+breakable n t r = not (refuted n (putRule t (oppositeOf r)))
+
+-- the first rule of words, the first being the word of place k, that is broken; the trivial rule where none is
+unfoldable pub firstRule : (Rule → Bool) → ℕ → List ℤ → Rule
+firstRule broken k [] = trivialRule
+firstRule broken k (w ∷ ws) = cond (hasRule w && broken (ruleAt k w)) (ruleAt k w) (firstRule broken (suc k) ws)
+
+-- the first rule by place of one table that some assignment of another breaks
+unfoldable pub firstBroken : ℕ → List ℤ → List ℤ → Rule
+firstBroken n rules t = firstRule (breakable n t) 0 (take (blockStart n) rules)
+
+-- the verdict that carries a rule, where there is one
+abbrev pub orElse : (Rule → Verdict) → Rule → Verdict → Verdict
+orElse carry (One x c) next = carry (One x c)
+orElse carry (Two x y c) next = carry (Two x y c)
+orElse carry (Nothing c) next = next
+
+-- of a sheet that no integers satisfy: equal where none satisfy the script, and else loose with no rule. Of others: loose where some assignment of the script
+-- breaks a rule of the key, tight where some assignment of the sheet breaks a rule of the script, and else equal
+unfoldable pub verdictOf : (ℕ → Bool) → ℕ → List ℤ → List ℤ → Verdict
+verdictOf hidden n sheet script =
+    cond (refuted n sheet)
+    (cond (refuted n script) Equal (Loose trivialRule))
+    (orElse Loose (firstBroken n (keyOf hidden n sheet) script) (orElse Tight (firstBroken n script sheet) Equal))
+
+-- ---- the checks
+
+-- does a rule name a hidden quantity?
+unfoldable pub namesHidden : (ℕ → Bool) → Rule → Bool
+namesHidden hidden (One x c) = hidden (quantityOf x)
+namesHidden hidden (Two x y c) = hidden (quantityOf x) || hidden (quantityOf y)
+namesHidden hidden (Nothing c) = false
+
+-- does one of the rules of words, the first being the word of place k?
+unfoldable pub anyNamesHidden : (ℕ → Bool) → ℕ → List ℤ → Bool
+anyNamesHidden hidden k [] = false
+anyNamesHidden hidden k (w ∷ ws) = (hasRule w && namesHidden hidden (ruleAt k w)) || anyNamesHidden hidden (suc k) ws
+
+-- does one of the rules of a table?
+abbrev pub tableNamesHidden : (ℕ → Bool) → ℕ → List ℤ → Bool
+tableNamesHidden hidden n t = anyNamesHidden hidden 0 (take (blockStart n) t)
+
+-- the reply to the script's rules: 7 where one names a hidden quantity
+unfoldable pub visibleReply : (ℕ → Bool) → ℕ → List ℤ → Reply
+visibleReply hidden n script = cond (tableNamesHidden hidden n script) (NotDone Mismatch) Done
+
+-- the words of a workspace for marking over n quantities, 4n²
+abbrev pub workspaceSize : ℕ → ℕ
+workspaceSize n = 2 * blockStart n
+
+-- the checks of marking two tables: 1 for n and the tables, 6 for the workspace, 6 for the assignment, 3 for the hidden set and the tables' words, 7
+unfoldable pub markChecks : ℕ → ℕ → List ℤ → List ℤ → ℕ → ℕ → Reply
+markChecks n set sheet script workspace values =
+    cond (serves n (length sheet) && serves n (length script))
+    (andThen (lengthReply workspace (workspaceSize n))
+    (andThen (lengthReply values n)
+    (andThen (limitReply (setWithin n set && (inSheetLimit n sheet && inSheetLimit n script)))
+    (visibleReply (hiddenIn set) n script))))
+    (NotDone Size)
+
+-- a verdict where the checks are done, else their refusal
+abbrev pub markedAs : Reply → Verdict → Marking
+markedAs Done v = Marked v
+markedAs (NotDone f) v = Refused f
+
+-- the reply
+unfoldable pub markReply : ℕ → ℕ → List ℤ → List ℤ → ℕ → ℕ → Marking
+markReply n set sheet script workspace values =
+    markedAs (markChecks n set sheet script workspace values) (verdictOf (hiddenIn set) n sheet script)
+
+-- ---- how the program finds a rule that is broken
+
+-- the first of count places from k on whose word of a list is a rule, and smaller than the word m places further on
+unfoldable pub firstAboveFrom : ℕ → ℕ → ℕ → List ℤ → Place
+firstAboveFrom zero k m ws = Nowhere
+firstAboveFrom (suc count) k m ws =
+    cond (hasRule (wordAt ws k) && ltZ (wordAt ws k) (wordAt ws (m + k))) (At k) (firstAboveFrom count (suc k) m ws)
+
+-- of the first m places
+abbrev pub firstAbove : ℕ → List ℤ → Place
+firstAbove m ws = firstAboveFrom m 0 m ws

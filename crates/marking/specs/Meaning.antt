@@ -1,0 +1,100 @@
+-- What a verdict means (demand 3), over unbounded integers and apart from any algorithm. Sheet and script are papers: what satisfies the rules that a table holds, or
+-- those that a text writes, a doubled term taken as written.
+use mathlib.Core.Bool.{Bool, true}
+use mathlib.Core.Path.{_≡_}
+use mathlib.Core.Logic.{_↔_, _⊎_}
+use mathlib.Core.List.{List}
+use Prim.Native.Nat.{ℕ, _≤_, _<_}
+use lib.IntN.{ℤ, pos}
+use Rattle.integers.specs.Bound.{Within}
+use Rattle.words.specs.Change.{wordAt}
+use Rattle.rules.specs.declared.rule.Rule.{Rule}
+use Rattle.rules.specs.declared.rule.Rule.the-variants.{One, Two, Nothing}
+use Rattle.rules.specs.Meaning.{Assignment, Meets}
+use Rattle.rules.specs.Steps.{trivialRule}
+use Rattle.tables.specs.Meaning.{HoldsRule, ruleIn, Satisfiable, Unsatisfiable, Paper, Completes, SheetAllows, ScriptAllows, ScriptForbids, Breaks, assignmentOf}
+use Rattle.elimination.specs.Magnitude.{valueLimit}
+use Rattle.keys.specs.Keys.{keyOf}
+
+-- ---- demand 3
+
+-- equal: script and sheet allow the same visible integers
+abbrev pub AllowSame : (ℕ → Bool) → Paper → Paper → Type 0
+AllowSame hidden sheet script = (σ : Assignment) → ScriptAllows script σ ↔ SheetAllows hidden sheet σ
+
+-- loose (document 01: too wide): the script allows some that no hidden values complete
+pub record IsLoose (hidden : ℕ → Bool) (sheet script : Paper) : Type 0 where
+  pub visibles : Assignment
+  pub allowed : ScriptAllows script visibles
+  pub incomplete : SheetAllows hidden sheet visibles → ⊥
+
+-- too narrow: the script forbids some that hidden values do complete
+pub record IsNarrow (hidden : ℕ → Bool) (sheet script : Paper) : Type 0 where
+  pub visibles : Assignment
+  pub completed : SheetAllows hidden sheet visibles
+  pub forbidden : ScriptForbids script visibles
+
+-- tight: not loose, and too narrow
+abbrev pub IsTight : (ℕ → Bool) → Paper → Paper → Type 0
+IsTight hidden sheet script = (IsLoose hidden sheet script → ⊥) × IsNarrow hidden sheet script
+
+-- a number is that of the verdict, 100, 101 or 102, exactly when demand 3 says so
+pub record ByDemand (hidden : ℕ → Bool) (sheet script : Paper) (number : ℕ) : Type 0 where
+  pub equal : (number ≡ 100) ↔ AllowSame hidden sheet script
+  pub loose : (number ≡ 101) ↔ IsLoose hidden sheet script
+  pub tight : (number ≡ 102) ↔ IsTight hidden sheet script
+
+-- ---- the rule that is carried
+
+-- the rule of place k is the first by place of a table's rules that some assignment of a paper breaks
+pub record FirstAt (n : ℕ) (rules : List ℤ) (paper : Paper) (k : ℕ) : Type 0 where
+  pub holds : HoldsRule n rules k
+  pub breaks : Breaks paper (ruleIn rules k)
+  pub first : (i : ℕ) → i < k → HoldsRule n rules i → Breaks paper (ruleIn rules i) → ⊥
+
+-- a rule is that first one
+pub record FirstBroken (n : ℕ) (rules : List ℤ) (paper : Paper) (r : Rule) : Type 0 where
+  pub place : ℕ
+  pub is : r ≡ ruleIn rules place
+  pub at : FirstAt n rules paper place
+
+-- none of the table's rules is broken
+abbrev pub NoneBroken : ℕ → List ℤ → Paper → Type 0
+NoneBroken n rules paper = (k : ℕ) → HoldsRule n rules k → Breaks paper (ruleIn rules k) → ⊥
+
+-- a loose verdict carries the first key rule by place that some assignment allowed by the script breaks, and none, which is the trivial rule, where the sheet
+-- itself allows nothing
+abbrev pub LooseRule : (ℕ → Bool) → ℕ → List ℤ → Paper → Rule → Type 0
+LooseRule hidden n sheet script r =
+    (Unsatisfiable n sheet × (r ≡ trivialRule)) ⊎ (Satisfiable n sheet × FirstBroken n (keyOf hidden n sheet) script r)
+
+-- a tight one the first script rule by place that some assignment of the sheet breaks
+abbrev pub TightRule : ℕ → Paper → List ℤ → Rule → Type 0
+TightRule n sheet script r = FirstBroken n script sheet r
+
+-- ---- the assignment that shows it
+
+-- an assignment breaks the rule that is carried, where there is one
+abbrev pub BreaksCarried : Assignment → Rule → Type 0
+BreaksCarried σ (One x c) = Meets σ (One x c) → ⊥
+BreaksCarried σ (Two x y c) = Meets σ (Two x y c) → ⊥
+BreaksCarried σ (Nothing c) = Unit {0}
+
+-- the first n of the words lie between -2 ^ 62 and 2 ^ 62
+abbrev pub ValuesWithin : ℕ → List ℤ → Type 0
+ValuesWithin n values = (k : ℕ) → k < n → Within valueLimit (wordAt values k)
+
+-- for loose: the script allows its visible integers, no hidden values complete them, and its hidden words are 0
+pub record LooseShown (n : ℕ) (hidden : ℕ → Bool) (sheet script : Paper) (r : Rule) (values : List ℤ) : Type 0 where
+  pub allowed : ScriptAllows script (assignmentOf values)
+  pub incomplete : SheetAllows hidden sheet (assignmentOf values) → ⊥
+  pub breaks : BreaksCarried (assignmentOf values) r
+  pub zero : (q : ℕ) → 1 ≤ q → q ≤ n → hidden q ≡ true → assignmentOf values q ≡ pos 0
+  pub range : ValuesWithin n values
+
+-- for tight: its hidden words complete its visible integers, which the script forbids
+pub record TightShown (n : ℕ) (hidden : ℕ → Bool) (sheet script : Paper) (r : Rule) (values : List ℤ) : Type 0 where
+  pub complete : Completes hidden sheet (assignmentOf values) (assignmentOf values)
+  pub forbidden : ScriptForbids script (assignmentOf values)
+  pub breaks : BreaksCarried (assignmentOf values) r
+  pub range : ValuesWithin n values

@@ -1,0 +1,139 @@
+-- What the functions ask and promise: the reply and every lent word, for every input, and demand 3's meaning.
+use mathlib.Core.Bool.{Bool, true, false}
+use mathlib.Core.Path.{_≡_}
+use mathlib.Core.Logic.{_↔_}
+use mathlib.Core.List.{List}
+use Prim.Native.Nat.{ℕ, suc, _*_, _≤_, _<_}
+use lib.IntN.{ℤ, pos}
+use lib.ListN.{length, take, drop}
+use lib.Signed.{_<ℤ_}
+use Rattle.integers.specs.Bound.{oppositeBound}
+use Rattle.words.specs.Change.{wordAt}
+use Rattle.places.specs.declared.Place.{Place}
+use Rattle.places.specs.declared.Place.the-variants.{At, Nowhere}
+use Rattle.places.specs.Numbering.{blockStart}
+use Rattle.rules.specs.declared.rule.Rule.{Rule}
+use Rattle.rules.specs.Hidden.{hiddenIn, setWithin}
+use Rattle.rules.specs.Limits.{maxQuantities}
+use Rattle.rules.specs.Meaning.{Meets, names}
+use Rattle.rules.specs.Steps.{oppositeOf}
+use Rattle.tables.specs.declared.reply.Reply.the-variants.{Done}
+use Rattle.tables.specs.Places.{ruleAt}
+use Rattle.tables.specs.Tables.{hasRule, putRule}
+use Rattle.tables.specs.Meaning.{HoldsRule, ruleIn, Satisfies, Unsatisfiable, Breaks, NamesVisible, assignmentOf}
+use Rattle.elimination.specs.Magnitude.{Unnamed}
+use Rattle.keys.specs.Keys.{refuted, inSheetLimit}
+use Rattle.keys.specs.Reducing.{Fits}
+use Rattle.keys.specs.Promises.{Lent}
+use Rattle.marking.specs.declared.verdict.Verdict.{Verdict}
+use Rattle.marking.specs.declared.verdict.Verdict.the-variants.{Loose, Tight}
+use Rattle.marking.specs.declared.verdict.Marking.{Marking}
+use Rattle.marking.specs.declared.verdict.Marking.the-variants.{Marked}
+use Rattle.marking.specs.Verdicts.{markingNumber, isMarked, isMarkingShown, isShown, hasTerm}
+use Rattle.marking.specs.Meaning.{ByDemand, FirstAt, FirstBroken, NoneBroken, LooseRule, TightRule, LooseShown, TightShown, ValuesWithin}
+use Rattle.marking.specs.Marking.{firstBroken, verdictOf, markChecks, markReply, workspaceSize}
+
+-- ---- marking two tables
+
+-- marking two tables over n quantities with a hidden set, by document 01's numbers and values; neither table is changed, and a refusal changes no word. The tables are
+-- accepted where the checks are done
+pub record TablesMarked (n set : ℕ) (sheet script workspace values : List ℤ) (r : Marking) (workspace' values' : List ℤ) : Type 0 where
+  pub reply : r ≡ markReply n set sheet script (length workspace) (length values)
+  -- the workspace is free after a verdict; the assignment is written for loose and tight alone
+  pub lent : Lent (workspaceSize n) (isMarked r) workspace workspace'
+  pub written : Lent n (isMarkingShown r) values values'
+  -- 7 comes, past the earlier checks, exactly where a script rule names a hidden quantity
+  pub visible : isMarked r ≡ true → NamesVisible n (hiddenIn set) script
+  pub mismatch : markingNumber r ≡ 7 → NamesVisible n (hiddenIn set) script → ⊥
+  -- demand 3
+  pub demand : isMarked r ≡ true → ByDemand (hiddenIn set) (Satisfies n sheet) (Satisfies n script) (markingNumber r)
+  -- the rule that is carried
+  pub loose-rule : (rule : Rule) → r ≡ Marked (Loose rule) → LooseRule (hiddenIn set) n sheet (Satisfies n script) rule
+  pub tight-rule : (rule : Rule) → r ≡ Marked (Tight rule) → TightRule n (Satisfies n sheet) script rule
+  -- the assignment that shows it
+  pub loose-shown : (rule : Rule) → r ≡ Marked (Loose rule) → LooseShown n (hiddenIn set) (Satisfies n sheet) (Satisfies n script) rule values'
+  pub tight-shown : (rule : Rule) → r ≡ Marked (Tight rule) → TightShown n (hiddenIn set) (Satisfies n sheet) (Satisfies n script) rule values'
+
+-- ---- the parts
+
+-- what the checks leave: tables over n quantities in the sheet's limits, a script of visible quantities, and room enough
+pub record Markable (n set : ℕ) (sheet script workspace values : List ℤ) : Type 0 where
+  pub some : 1 ≤ n
+  pub most : n ≤ maxQuantities
+  pub sheet-room : blockStart n ≤ length sheet
+  pub script-room : blockStart n ≤ length script
+  pub room : workspaceSize n ≤ length workspace
+  pub values-room : n ≤ length values
+  pub set-within : setWithin n set ≡ true
+  pub sheet-limit : inSheetLimit n sheet ≡ true
+  pub script-limit : inSheetLimit n script ≡ true
+  pub visible : NamesVisible n (hiddenIn set) script
+
+-- the verdict of such tables
+pub record VerdictGiven (n set : ℕ) (sheet script workspace values : List ℤ) (r : Verdict) (workspace' values' : List ℤ) : Type 0 where
+  pub reply : r ≡ verdictOf (hiddenIn set) n sheet script
+  pub lent : Lent (workspaceSize n) true workspace workspace'
+  pub written : Lent n (isShown r) values values'
+  pub loose-shown : (rule : Rule) → r ≡ Loose rule → LooseShown n (hiddenIn set) (Satisfies n sheet) (Satisfies n script) rule values'
+  pub tight-shown : (rule : Rule) → r ≡ Tight rule → TightShown n (hiddenIn set) (Satisfies n sheet) (Satisfies n script) rule values'
+
+-- the least bounds of a table's terms, and whether no integers satisfy it
+pub record LeastBounds (n : ℕ) (table before : List ℤ) (r : Bool) (after : List ℤ) : Type 0 where
+  pub none : (r ≡ true) ↔ Unsatisfiable n table
+  pub lent : Lent (blockStart n) true before after
+  pub least : r ≡ false → (k : ℕ) → k < blockStart n → (c : ℤ) → hasRule c ≡ true → (c <ℤ wordAt after k) ↔ Breaks (Satisfies n table) (ruleAt k c)
+
+-- the first of the rules that the front of a workspace holds that some assignment of a table breaks; none where none does. The front stays
+abbrev pub Found : ℕ → List ℤ → List ℤ → Place → Type 0
+Found n table rules (At k) = FirstAt n rules (Satisfies n table) k
+Found n table rules Nowhere = NoneBroken n rules (Satisfies n table)
+
+pub record BrokenFound (n : ℕ) (table workspace : List ℤ) (r : Place) (workspace' : List ℤ) : Type 0 where
+  pub found : Found n table workspace r
+  pub front : take (blockStart n) workspace' ≡ take (blockStart n) workspace
+  pub lent : Lent (workspaceSize n) true workspace workspace'
+
+-- an assignment of a table that breaks a rule. It is 0 at quantities that neither names
+pub record BreakShown (n : ℕ) (table : List ℤ) (r : Rule) (values : List ℤ) : Type 0 where
+  pub satisfies : Satisfies n table (assignmentOf values)
+  pub broken : Meets (assignmentOf values) r → ⊥
+  pub zero : (j : ℕ) → j < n → Unnamed n j table → names (suc j) r ≡ false → wordAt values j ≡ pos 0
+  pub range : ValuesWithin n values
+
+-- a table, and the rule of a place that some assignment of the table breaks; sums fit also with the rule's opposite put in
+pub record RuleBreakable (n : ℕ) (table : List ℤ) (r : Rule) (workspace values : List ℤ) : Type 0 where
+  pub place : ℕ
+  pub inside : place < blockStart n
+  pub bound : ℤ
+  pub bounded : hasRule bound ≡ true
+  pub is : r ≡ ruleAt place bound
+  pub small : hasRule (oppositeBound bound) ≡ true
+  pub room : blockStart n ≤ length table
+  pub fits : Fits n (putRule table (oppositeOf r))
+  pub breaks : Breaks (Satisfies n table) r
+  pub workspace-room : blockStart n ≤ length workspace
+  pub values-room : n ≤ length values
+
+-- the assignment written
+pub record RuleBroken (n : ℕ) (table : List ℤ) (r : Rule) (workspace values workspace' values' : List ℤ) : Type 0 where
+  pub lent : Lent (blockStart n) true workspace workspace'
+  pub written : Lent n true values values'
+  pub shown : BreakShown n table r values'
+
+-- a table, and rules at the front of a workspace: sums fit, also with the opposite of any of these rules put in
+pub record FrontBreakable (n : ℕ) (table workspace values : List ℤ) : Type 0 where
+  pub fits : Fits n table
+  pub some : 1 ≤ n
+  pub opposed : (k : ℕ) → HoldsRule n workspace k → Fits n (putRule table (oppositeOf (ruleIn workspace k)))
+  pub small : (k : ℕ) → HoldsRule n workspace k → hasRule (oppositeBound (wordAt workspace k)) ≡ true
+  pub room : workspaceSize n ≤ length workspace
+  pub values-room : n ≤ length values
+
+-- the first of the rules at the front that some assignment of the table breaks, with such an assignment; the trivial rule where there is none
+pub record FrontBroken (n : ℕ) (table workspace values : List ℤ) (r : Rule) (workspace' values' : List ℤ) : Type 0 where
+  pub reply : r ≡ firstBroken n workspace table
+  pub lent : Lent (workspaceSize n) true workspace workspace'
+  pub written : Lent n (hasTerm r) values values'
+  pub none : hasTerm r ≡ false → NoneBroken n workspace (Satisfies n table)
+  pub some : hasTerm r ≡ true → FirstBroken n workspace (Satisfies n table) r
+  pub shown : hasTerm r ≡ true → BreakShown n table r values'

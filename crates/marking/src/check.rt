@@ -1,0 +1,96 @@
+// The checks of marking two tables.
+use rules::hidden;
+use rules::literal;
+use rules::refusal::Refusal;
+use rules::rule::Rule;
+use rules::sheet::Sheet;
+use tables::limit;
+use tables::place;
+use tables::reply::Reply;
+use tables::table;
+ghost use mathlib.Core.Path.{_≡_};
+ghost use Prim.Native.Nat.{_*_, _≤_};
+ghost use lib.ListN.{take};
+ghost use Rattle.rules.specs.Hidden.{hiddenIn};
+ghost use Rattle.rules.specs.Limits.{maxQuantities};
+ghost use Rattle.marking.specs.Marking.{namesHidden, anyNamesHidden, markChecks};
+
+// Whether a rule names a quantity of the set.
+fn is_naming(set: u32, rule: Rule) -> bool
+    ensures { λ r. ⌜ r ≡ namesHidden (hiddenIn set) rule ⌝ }
+{
+    match rule {
+        Rule::One { literal, bound: _ } => hidden::is_hidden(set, literal::quantity(literal)),
+        Rule::Two {
+            first,
+            second,
+            bound: _,
+        } => {
+            if hidden::is_hidden(set, literal::quantity(first)) {
+                return true;
+            }
+            hidden::is_hidden(set, literal::quantity(second))
+        }
+        Rule::Nothing { bound: _ } => false,
+    }
+}
+
+// Whether a rule of the first `m` words, or of all where there are fewer, names a quantity of the set. A table has at most 2,048 words.
+fn is_any_naming(set: u32, script: &[i64], m: usize) -> bool
+    requires { ⌜ m ≤ 2 * (maxQuantities * maxQuantities) ⌝ }
+    ensures { λ r. ⌜ r ≡ anyNamesHidden (hiddenIn set) 0 (take m (now (script .entry))) ⌝ }
+{
+    let mut k = 0;
+    while k < m {
+        if script.len() <= k {
+            return false;
+        }
+        let w = script[k];
+        if w < Sheet::NO_RULE {
+            if is_naming(set, place::rule_at(k as u32, w)) {
+                return true;
+            }
+        }
+        k = k + 1;
+    }
+    false
+}
+
+// The first refusal of marking two tables with a workspace and an assignment of so many words, or done.
+pub(crate) fn check(
+    n: usize,
+    set: u32,
+    sheet: &[i64],
+    script: &[i64],
+    workspace: usize,
+    values: usize,
+) -> Reply
+    ensures { λ r. ⌜ r ≡ markChecks n set (now (sheet .entry)) (now (script .entry)) workspace values ⌝ }
+{
+    if !table::serves(n, sheet.len()) {
+        return Reply::Refused(Refusal::Size);
+    }
+    if !table::serves(n, script.len()) {
+        return Reply::Refused(Refusal::Size);
+    }
+    let m = table::size(n);
+    if workspace < 2 * m {
+        return Reply::Refused(Refusal::TooShort { needed: 2 * m });
+    }
+    if values < n {
+        return Reply::Refused(Refusal::TooShort { needed: n });
+    }
+    if !hidden::is_within(set, n) {
+        return Reply::Refused(Refusal::OutOfLimit { line: 0 });
+    }
+    if !limit::is_table_in(sheet, m, Sheet::MAX_BOUND) {
+        return Reply::Refused(Refusal::OutOfLimit { line: 0 });
+    }
+    if !limit::is_table_in(script, m, Sheet::MAX_BOUND) {
+        return Reply::Refused(Refusal::OutOfLimit { line: 0 });
+    }
+    if is_any_naming(set, script, m) {
+        return Reply::Refused(Refusal::Mismatch);
+    }
+    Reply::Done
+}

@@ -1,0 +1,84 @@
+-- When two texts are accepted for marking, and when and for which paper they are refused, by how they are spelled and what they write; nothing is read here.
+use mathlib.Core.Path.{_≡_}
+use mathlib.Core.Bool.{true}
+use mathlib.Core.Logic.{_⊎_}
+use mathlib.Core.List.{List}
+use Prim.Native.Nat.{ℕ, _≤_, _<_}
+use lib.IntN.{ℤ}
+use lib.ListN.{length}
+use Rattle.places.specs.Numbering.{blockStart}
+use Rattle.rules.specs.declared.refusal.Refusal.{Refusal}
+use Rattle.rules.specs.declared.refusal.Refusal.the-variants.{TooShort, Mismatch}
+use Rattle.rules.specs.Hidden.{setOf, isListed}
+use Rattle.rules.specs.Limits.{maxBound, maxText}
+use Rattle.tables.specs.Tables.{tableOf}
+use Rattle.tables.specs.Meaning.{NoneNames}
+use Rattle.lines.specs.Spelling.{writtenRules}
+use Rattle.reading.specs.Texts.{Contents}
+use Rattle.reading.specs.Meaning.{Spells, FailsFor}
+use Rattle.marking.specs.Marking.{workspaceSize}
+use Rattle.scripts.specs.declared.reply.Papers.{Papers}
+use Rattle.scripts.specs.declared.reply.Papers.the-variants.{Sheet, Script, Both}
+
+-- the hidden set and the table of contents
+abbrev pub setIn : Contents → ℕ
+setIn c = setOf (c .hiddens)
+
+abbrev pub tableIn : Contents → List ℤ
+tableIn c = tableOf (c .count) (writtenRules (c .written))
+
+-- the text s is fine by itself, and these are its contents
+pub record Reads (s : List ℕ) (c : Contents) : Type 0 where
+  pub small : length s ≤ maxText
+  pub spelled : Spells maxBound s c
+
+-- it is fine
+pub record Readable (s : List ℕ) : Type 0 where
+  pub contents : Contents
+  pub reads : Reads s contents
+
+-- a script fits a sheet: it has its n and its hidden list, and no rule names a hidden quantity
+pub record Matches (sheet script : Contents) : Type 0 where
+  pub count : script .count ≡ sheet .count
+  pub hiddens : script .hiddens ≡ sheet .hiddens
+  pub visible : (q : ℕ) → isListed q (sheet .hiddens) ≡ true → NoneNames q (writtenRules (script .written))
+
+-- what is lent, the sheet's table, the script's, the workspace and the assignment, has words enough for n quantities
+pub record Room (n sheet script workspace values : ℕ) : Type 0 where
+  pub sheet-room : blockStart n ≤ sheet
+  pub script-room : blockStart n ≤ script
+  pub workspace-room : workspaceSize n ≤ workspace
+  pub values-room : n ≤ values
+
+-- two texts are accepted
+pub record Accepted (sheet script : List ℕ) (a b w v : ℕ) : Type 0 where
+  pub of-sheet : Contents
+  pub of-script : Contents
+  pub sheet-reads : Reads sheet of-sheet
+  pub script-reads : Reads script of-script
+  pub room : Room (of-sheet .count) a b w v
+  pub matches : Matches of-sheet of-script
+
+-- ---- refused
+
+-- 6: the first of what is lent that is too short, in this order, with the length needed
+abbrev pub ShortIn : ℕ → ℕ → ℕ → ℕ → ℕ → Refusal → Type 0
+ShortIn n a b w v f =
+    ((a < blockStart n) × (f ≡ TooShort (blockStart n)))
+    ⊎ (((blockStart n ≤ a) × (b < blockStart n) × (f ≡ TooShort (blockStart n)))
+    ⊎ (((blockStart n ≤ a) × (blockStart n ≤ b) × (w < workspaceSize n) × (f ≡ TooShort (workspaceSize n)))
+    ⊎ ((blockStart n ≤ a) × (blockStart n ≤ b) × (workspaceSize n ≤ w) × (v < n) × (f ≡ TooShort n))))
+
+-- both texts are fine, and what is lent is too short, or there is room and the script does not fit the sheet (7)
+pub record PairFails (sheet script : List ℕ) (a b w v : ℕ) (f : Refusal) : Type 0 where
+  pub of-sheet : Contents
+  pub of-script : Contents
+  pub sheet-reads : Reads sheet of-sheet
+  pub script-reads : Reads script of-script
+  pub fails : ShortIn (of-sheet .count) a b w v f ⊎ (Room (of-sheet .count) a b w v × (Matches of-sheet of-script → ⊥) × (f ≡ Mismatch))
+
+-- a refusal and the paper that it names: the sheet's comes first, then the script's
+abbrev pub RefusedFor : List ℕ → List ℕ → ℕ → ℕ → ℕ → ℕ → Papers → Refusal → Type 0
+RefusedFor sheet script a b w v Sheet f = FailsFor sheet f
+RefusedFor sheet script a b w v Script f = Readable sheet × FailsFor script f
+RefusedFor sheet script a b w v Both f = PairFails sheet script a b w v f

@@ -1,0 +1,62 @@
+-- Document 01's number and values of each reply of marking two texts.
+use mathlib.Core.Bool.{Bool, true, false}
+use mathlib.Core.List.{List}
+use Prim.Native.Nat.{ℕ}
+use lib.IntN.{ℤ}
+use Rattle.rules.specs.declared.refusal.Refusal.the-variants.{Size}
+use Rattle.rules.specs.Refusal.{refusalNumber, refusalValues, refusalValue}
+use Rattle.tables.specs.declared.reply.Reply.{Reply}
+use Rattle.tables.specs.declared.reply.Reply.the-variants.{Done}
+use Rattle.tables.specs.declared.reply.Reply.the-variants.{Refused as NotDone}
+use Rattle.marking.specs.declared.verdict.Marking.{Marking}
+use Rattle.marking.specs.declared.verdict.Marking.the-variants.{Refused as NotMarked}
+use Rattle.marking.specs.declared.verdict.Marking.the-variants.{Marked as TablesMarkedAs}
+use Rattle.marking.specs.Verdicts.{verdictNumber, verdictValues, isShown, integersOf}
+use Rattle.reading.specs.declared.check.Checked.{Checked}
+use Rattle.reading.specs.declared.check.Checked.the-variants.{Passed}
+use Rattle.reading.specs.declared.check.Checked.the-variants.{Refused as Failed}
+use Rattle.scripts.specs.declared.reply.Papers.{Papers}
+use Rattle.scripts.specs.declared.reply.Papers.the-variants.{Both}
+use Rattle.scripts.specs.declared.reply.TextMarking.{TextMarking}
+use Rattle.scripts.specs.declared.reply.TextMarking.the-variants.{Marked, Refused}
+
+abbrev pub textNumber : TextMarking → ℕ
+textNumber (Marked n v) = verdictNumber v
+textNumber (Refused p f) = refusalNumber f
+
+-- what is returned beside it: the rule of a verdict; the line or the length of a refusal
+abbrev pub textValues : TextMarking → List ℤ
+textValues (Marked n v) = verdictValues v
+textValues (Refused p f) = integersOf (refusalValues f)
+
+-- a refusal's line or length as one number, 0 where there is none
+abbrev pub textValue : TextMarking → ℕ
+textValue (Marked n v) = 0
+textValue (Refused p f) = refusalValue f
+
+-- is it a verdict?
+abbrev pub isTextMarked : TextMarking → Bool
+isTextMarked (Marked n v) = true
+isTextMarked (Refused p f) = false
+
+-- does an assignment come with it?
+abbrev pub isTextShown : TextMarking → Bool
+isTextShown (Marked n v) = isShown v
+isTextShown (Refused p f) = false
+
+-- ---- from the replies of its parts
+
+-- a text that did not pass; one that did has no refusal of its own
+abbrev pub refusedText : Papers → Checked → TextMarking
+refusedText p (Passed n set m body) = Refused p Size
+refusedText p (Failed f) = Refused p f
+
+-- what is lent is too short, or the papers do not fit each other
+abbrev pub refusedBoth : Reply → TextMarking
+refusedBoth Done = Refused Both Size
+refusedBoth (NotDone f) = Refused Both f
+
+-- the tables marked
+abbrev pub markedTexts : ℕ → Marking → TextMarking
+markedTexts n (TablesMarkedAs v) = Marked n v
+markedTexts n (NotMarked f) = Refused Both f

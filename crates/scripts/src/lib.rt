@@ -1,0 +1,3 @@
+// Scripts marked against sheets, both as texts.
+pub mod reply;
+pub mod texts;

@@ -1,0 +1,55 @@
+-- The contract of `tighten`, from plain facts. Assumes nothing.
+use mathlib.Core.Path.{_≡_, refl, sym, _∙_}
+use mathlib.Core.Bool.{Bool, true, false}
+use mathlib.Core.List.{List}
+use mathlib.Core.Logic.{_↔_}
+use Prim.Native.Nat.{ℕ}
+use lib.IntN.{ℤ}
+use Rattle.tables.specs.Meaning.{Unsatisfiable}
+use Rattle.tables.proofs.Tests.{clash}
+use Rattle.keys.specs.Keys.{refuted}
+use Rattle.keys.specs.Reducing.{Fits}
+use Rattle.keys.proofs.Deciding.{refuted-exactly}
+use Rattle.tightening.specs.Tightening.{pairUpTo, strengthened, tightened}
+use Rattle.tightening.specs.Promises.{Adding, AllPaired, Tightened}
+use Rattle.tightening.proofs.Growing.{paired-adding}
+use Rattle.tightening.proofs.Least.{clash-refuted, tightened-least}
+use Rattle.tightening.proofs.Steps.{strengthen-rest}
+
+-- the words of a table paired without a contradiction add
+pub clear-adding : (n : ℕ) (t u : List ℤ) → Fits n t → AllPaired n t false u → Adding n u
+clear-adding n t u f p = rw (p .table refl) (paired-adding n t f)
+
+-- the answer tells whether no integers satisfy the table
+answer-tells : (n : ℕ) (t : List ℤ) (r : Bool) → Fits n t → r ≡ refuted n t → (r ≡ true) ↔ Unsatisfiable n t
+answer-tells n t r f e = rw e (refuted-exactly n t f)
+
+-- with a contradiction met, no integers satisfy the table
+pub tightened-none : (n : ℕ) (t u : List ℤ) → Fits n t → AllPaired n t true u → Tightened n t true u
+tightened-none n t u f p = record {
+  reply = same;
+  none = answer-tells n t true f same;
+  table = λ e. clash refl e;
+  rest = p .rest;
+  least = λ e. clash refl e;
+}
+  where
+    same : true ≡ refuted n t
+    same = p .reply ∙ clash-refuted n t f
+
+-- with none, the strengthened table is the tightest
+pub tightened-some : (n : ℕ) (t u v : List ℤ) → Fits n t → AllPaired n t false u → v ≡ strengthened n u → Tightened n t false v
+unfolding tightened
+tightened-some n t u v f p e = record {
+  reply = same;
+  none = answer-tells n t false f same;
+  table = λ d. made;
+  rest = rw e (strengthen-rest n u ∙ p .rest);
+  least = λ d. rw made (tightened-least n t f (sym (p .reply)));
+}
+  where
+    same : false ≡ refuted n t
+    same = p .reply ∙ clash-refuted n t f
+
+    made : v ≡ strengthened n (pairUpTo n n t)
+    made = e ∙ rw (p .table refl)

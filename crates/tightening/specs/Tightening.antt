@@ -1,0 +1,34 @@
+-- The tightest table of a table that some integers satisfy: each word is the least bound of its term. Every quantity is paired with all others and nothing is
+-- cleared, then each term of two literals gets the sum of the two bounds alone.
+use mathlib.Core.Bool.{Bool, false, cond, _||_}
+use mathlib.Core.List.{List}
+use Prim.Native.Nat.{ℕ, zero, suc}
+use lib.IntN.{ℤ}
+use Rattle.words.specs.Change.{change}
+use Rattle.places.specs.Numbering.{blockStart, isOne, higherAt, lowerAt}
+use Rattle.elimination.specs.Hiding.{withSum, loneWord, paired, contradicts}
+
+-- the first m quantities of n paired, each with all others
+unfoldable pub pairUpTo : ℕ → ℕ → List ℤ → List ℤ
+pairUpTo n zero t = t
+pairUpTo n (suc j) t = paired 0 n j (pairUpTo n j t)
+
+-- pairing them meets a contradiction
+unfoldable pub clashUpTo : ℕ → ℕ → List ℤ → Bool
+clashUpTo n zero t = false
+clashUpTo n (suc j) t = clashUpTo n j t || contradicts 0 n j (pairUpTo n j t)
+
+-- as a change: at the term of two literals the sum of their bounds alone, by minimum
+unfoldable pub strengthening : List ℤ → ℕ → ℤ → ℤ
+strengthening t k w = cond (isOne k) w (withSum (loneWord t (lowerAt k)) (loneWord t (higherAt k)) w)
+
+unfoldable pub strengthened : ℕ → List ℤ → List ℤ
+strengthened n t = change (blockStart n) (strengthening t) t
+
+-- the tightest table
+unfoldable pub tightened : ℕ → List ℤ → List ℤ
+tightened n t = strengthened n (pairUpTo n n t)
+
+-- as a change: the bounds of each literal alone
+abbrev pub gatheringLone : List ℤ → ℕ → ℤ → ℤ
+gatheringLone t x w = loneWord t x

@@ -4,15 +4,23 @@ use mathlib.Core.List.{List}
 use Prim.Native.Nat.{ℕ}
 use lib.IntN.{ℤ}
 use lib.ListN.{length}
+use Rattle.rules.specs.Hidden.{hiddenIn}
+use Rattle.rules.specs.Limits.{maxQuantities}
 use Rattle.tables.specs.Tables.{replyNumber, replyValue}
 use Rattle.keys.specs.Keys.{keyReply, assignmentReply}
 use Rattle.keys.specs.Promises.{Keyed, Assigned}
+use Rattle.marking.specs.Meaning.{ByDemand}
 use Rattle.reading.specs.declared.read.Reading.{Reading}
 use Rattle.reading.specs.declared.read.Reading.the-variants.{Accepted, Refused}
 use Rattle.reading.specs.Reading.{readReply, readingNumber, readingValue}
 use Rattle.reading.specs.Promises.{ReadInto}
+use Rattle.reading.specs.Meaning.{rulesOf}
 use Rattle.writing.specs.Writing.{writeReply, writingNumber, writingValue}
 use Rattle.writing.specs.Promises.{TextWritten}
+use Rattle.scripts.specs.Replies.{textNumber}
+use Rattle.scripts.specs.Meaning.{setIn, Accepted}
+use Rattle.scripts.specs.Marking.{textsReply, lentTable, lentWorkspace}
+use Rattle.scripts.specs.Promises.{TextsJudged}
 
 -- n or the hidden set after reading: that of the text where it is accepted, else as it was
 abbrev pub countRead : ℕ → Reading → ℕ
@@ -48,3 +56,13 @@ pub record AssignmentAnswer (n : ℕ) (table workspace values : List ℤ) (r v :
   pub number : r ≡ replyNumber (assignmentReply n table (length workspace) (length values))
   pub value : v ≡ replyValue (assignmentReply n table (length workspace) (length values))
   pub call : Assigned n table workspace values (assignmentReply n table (length workspace) (length values)) workspace' values'
+
+-- marking two texts, for the exam host: its number r is that of the reply with room enough lent, a verdict's or a refusal's
+pub record MarkAnswer (sheet script : List ℕ) (r : ℕ) : Type 0 where
+  pub number : r ≡ textNumber (textsReply sheet script lentTable lentTable lentWorkspace maxQuantities)
+  -- refused exactly for these reasons, and a verdict by demand 3, of the rules as written
+  pub judged : TextsJudged sheet script lentTable lentTable lentWorkspace maxQuantities (textsReply sheet script lentTable lentTable lentWorkspace maxQuantities)
+  pub demand : (t : Accepted sheet script lentTable lentTable lentWorkspace maxQuantities)
+      → ByDemand (hiddenIn (setIn (t .of-sheet))) (rulesOf (t .of-sheet)) (rulesOf (t .of-script)) r
+  -- there is room for every sheet, so 6 does not come, and 5 is no reply of marking
+  pub never : ((r ≡ 5) → ⊥) × ((r ≡ 6) → ⊥)

@@ -2,7 +2,12 @@
 // returns beside it, a line or a length, 0 where there is nothing. C sees a slice as a pointer and its length in elements, words or bytes. The host passes
 // true lengths, and no slice overlaps another.
 use reading::read::Reading;
-ghost use Rattle.acornsled.specs.Promises.{ReadAnswer, WriteAnswer, KeyAnswer, AssignmentAnswer};
+use rules::sheet::Sheet;
+use scripts::texts;
+ghost use Rattle.acornsled.specs.Promises.{ReadAnswer, WriteAnswer, KeyAnswer, AssignmentAnswer, MarkAnswer};
+
+// The words of the largest table.
+const WORDS: usize = 2 * Sheet::MAX_QUANTITIES * Sheet::MAX_QUANTITIES;
 
 // Reads a text: where it answers 0, the table's first 2n² words hold its rules, and n and the hidden set are written to `quantities` and `hidden`.
 #[no_mangle]
@@ -75,4 +80,25 @@ pub extern "C" fn acornsled_assignment(
     let reply = keys::assignment::assignment(n, table, workspace, values);
     *value = reply.value();
     reply.number()
+}
+
+// Marks the text of a script against the text of a sheet: 100 for equal, 101 for loose, 102 for tight, or the refusal's number. What marking needs beside the texts
+// is lent here, on the stack.
+#[no_mangle]
+pub extern "C" fn acornsled_mark(sheet: &[u8], script: &[u8]) -> u32
+    ensures { λ r. ⌜ MarkAnswer (now (sheet .entry)) (now (script .entry)) r ⌝ }
+{
+    let mut sheet_table = [0; WORDS];
+    let mut script_table = [0; WORDS];
+    let mut workspace = [0; 2 * WORDS];
+    let mut values = [0; Sheet::MAX_QUANTITIES];
+    let marking = texts::mark_texts(
+        sheet,
+        script,
+        &mut sheet_table,
+        &mut script_table,
+        &mut workspace,
+        &mut values,
+    );
+    marking.number()
 }

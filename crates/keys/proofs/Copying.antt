@@ -31,7 +31,7 @@ copied n t w l h = record {
   words = λ k g. change-below (blockStart n) (copying t) w k g (omega arith) ∙ rw (lt-ltb k (length t) (omega arith));
 }
 
-holds-same : (n : ℕ) (t u : List ℤ) (k : ℕ) → SameTable n t u → HoldsRule n u k → HoldsRule n t k
+pub holds-same : (n : ℕ) (t u : List ℤ) (k : ℕ) → SameTable n t u → HoldsRule n u k → HoldsRule n t k
 holds-same n t u k s p = record { inside = p .inside; there = omega (arith, p .inside, s .mine); rule = rw (s .words k (p .inside)) at (p .rule) }
 
 pub same-satisfies : (n : ℕ) (t u : List ℤ) (σ : Assignment) → SameTable n t u → Satisfies n t σ → Satisfies n u σ
@@ -40,7 +40,7 @@ same-satisfies n t u σ s m = record { each = λ k p. rw (s .words k (p .inside)
 same-within : (n B : ℕ) (t u : List ℤ) → SameTable n t u → WordsWithin (blockStart n) (pos B) t → WordsWithin (blockStart n) (pos B) u
 same-within n B t u s w = record { each = λ k a b r. rw (s .words k a) (w .each k a (omega (arith, s .mine)) (rw (s .words k a) at r)) }
 
-same-unnamed : (n j : ℕ) (t u : List ℤ) → SameTable n t u → Unnamed n j t → Unnamed n j u
+pub same-unnamed : (n j : ℕ) (t u : List ℤ) → SameTable n t u → Unnamed n j t → Unnamed n j u
 same-unnamed n j t u s v = record { each = λ k p. rw (s .words k (p .inside)) (v .each k (holds-same n t u k s p)) }
 
 pub same-fits : (n : ℕ) (t u : List ℤ) → SameTable n t u → Fits n t → Fits n u

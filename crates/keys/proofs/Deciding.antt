@@ -3,11 +3,10 @@ use mathlib.Core.Path.{_≡_, refl, _∙_}
 use mathlib.Core.Bool.{Bool, true, false}
 use mathlib.Core.Logic.{_↔_}
 use mathlib.Core.List.{List}
-use Prim.Native.Nat.{ℕ, zero, suc, _≤_}
+use Prim.Native.Nat.{ℕ, _≤_}
 use native.Mathlib.Omega.{arith}
 use lib.IntN.{ℤ, pos}
 use lib.ListN.{length, replicate, length-replicate}
-use borrow.Author.Tests.{le-leb}
 use Rattle.tables.specs.Meaning.{Satisfies, Satisfiable, Unsatisfiable, assignmentOf}
 use Rattle.words.specs.Change.{change, copying}
 use Rattle.words.proofs.Change.{change-drop}
@@ -15,6 +14,7 @@ use Rattle.places.specs.Numbering.{blockStart}
 use Rattle.rules.specs.Limits.{maxQuantities}
 use Rattle.tables.specs.Tables.{tableSize}
 use Rattle.tables.proofs.Tests.{clash}
+use Rattle.tables.proofs.Sizes.{size-whole}
 use Rattle.keys.specs.Keys.{every, refuted}
 use Rattle.keys.specs.Reducing.{reduceUpTo, contradictsUpTo, fillDown, Fits}
 use Rattle.keys.specs.Promises.{Reduced, Decided}
@@ -64,12 +64,6 @@ refuted-exactly n t f = (refuted-true n t (hide-ample every n t f), λ u. go u (
         let s = refuted-false n t (f .grows .room) (hide-ample every n t f) e in absurd (u (s .assignment) (s .satisfies))
 
 -- ---- in the workspace
-
--- the size asked for is that of the table
-size-whole : (n : ℕ) → n ≤ maxQuantities → tableSize n ≡ blockStart n
-unfolding tableSize blockStart
-size-whole zero h = refl
-size-whole (suc n) h = rw (le-leb 1 (suc n) (omega arith), le-leb (suc n) maxQuantities h)
 
 copy-whole : (n m : ℕ) (t w u : List ℤ) → n ≤ maxQuantities → m ≡ tableSize n → u ≡ change m (copying t) w → u ≡ change (blockStart n) (copying t) w
 copy-whole n m t w u h d e = let p : m ≡ blockStart n = d ∙ size-whole n h in rw p at e

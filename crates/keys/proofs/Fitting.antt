@@ -35,7 +35,7 @@ limit-rises n limit reach step a (suc b) h g = go (ltb b a) refl (limit-rises n 
     go true e ih = let d : a ≡ suc b = omega (arith, ltb-true b a e) in rw d (omega arith)
     go false e ih = let s = step b (omega arith) in omega (arith, ih (ltb-false b a e) (omega arith), s .1)
 
-words-mono : (m B C : ℕ) (t : List ℤ) → B ≤ C → WordsWithin m (pos B) t → WordsWithin m (pos C) t
+pub words-mono : (m B C : ℕ) (t : List ℤ) → B ≤ C → WordsWithin m (pos B) t → WordsWithin m (pos C) t
 words-mono m B C t h w = record { each = λ k a b r. within-mono h (w .each k a b r) }
 
 -- a quantity that no rule names stays so

@@ -3,7 +3,7 @@ use mathlib.Core.Path.{_≡_, refl}
 use mathlib.Core.Bool.{Bool, true, false}
 use mathlib.Core.List.{List}
 use mathlib.Core.Logic.{_⊎_, inl, inr}
-use Prim.Native.Nat.{ℕ, zero, suc, _+_, _-_, _*_, _/_, _≤_, _<_}
+use Prim.Native.Nat.{ℕ, zero, suc, _+_, _*_, _/_, _≤_, _<_}
 use native.Mathlib.Omega.{arith}
 use lib.Dec.{ltb, eqb}
 use lib.IntN.{ℤ, pos}
@@ -31,7 +31,7 @@ pub record Layers (n m : ℕ) (limit reach : ℕ → ℕ) (t : List ℤ) : Type 
   pub past : TermsWithin (Past m n) (limit m) t
   pub own : (j : ℕ) → j < m → OwnWithin (Past (suc j) n) j (reach j) t
 
-reduce-unnamed : (n m i : ℕ) (t : List ℤ) → m ≤ n → blockStart n ≤ length t → Unnamed n i t → Unnamed n i (reduceUpTo n m t)
+pub reduce-unnamed : (n m i : ℕ) (t : List ℤ) → m ≤ n → blockStart n ≤ length t → Unnamed n i t → Unnamed n i (reduceUpTo n m t)
 unfolding reduceUpTo
 reduce-unnamed n zero i t h l u = u
 reduce-unnamed n (suc j) i t h l u =

@@ -10,9 +10,9 @@ use Rattle.words.specs.Change.{change, copying}
 use Rattle.words.proofs.Change.{change-drop}
 use Rattle.places.specs.Numbering.{blockStart}
 use Rattle.rules.specs.declared.refusal.Refusal.{Refusal}
-use Rattle.rules.specs.declared.refusal.Refusal.the-variants.{Size, Malformed, OutOfLimit, Cancelling, NoAssignment, TooShort, Mismatch}
-use Rattle.rules.specs.Refusal.{refusalNumber}
+use Rattle.rules.specs.declared.refusal.Refusal.the-variants.{NoAssignment}
 use Rattle.rules.specs.Limits.{maxBound}
+use Rattle.rules.proofs.Refusals.{refusal-number}
 use Rattle.rules.specs.Hidden.{hiddenIn}
 use Rattle.tables.specs.declared.reply.Reply.{Reply}
 use Rattle.tables.specs.declared.reply.Reply.the-variants.{Done, Refused}
@@ -47,29 +47,19 @@ rest-hidden hidden n (suc j) t = go (rest-hidden hidden n j t) (hidden (suc j))
     go ih true = rest-eliminated n j (hideUpTo hidden n j t) ∙ ih
     go ih false = ih
 
-rest-key : (hidden : ℕ → Bool) (n : ℕ) (t : List ℤ) → drop (blockStart n) (keyOf hidden n t) ≡ drop (blockStart n) t
+pub rest-key : (hidden : ℕ → Bool) (n : ℕ) (t : List ℤ) → drop (blockStart n) (keyOf hidden n t) ≡ drop (blockStart n) t
 unfolding keyOf
 rest-key hidden n t = rest-hidden hidden n n t
 
 -- a slice that no one touched
-untouched : (m : ℕ) (free : Bool) (w : List ℤ) → Lent m free w w
+pub untouched : (m : ℕ) (free : Bool) (w : List ℤ) → Lent m free w w
 untouched m free w = record { size = refl; rest = refl; kept = λ e. refl }
-
--- a refusal's number is not 0
-refused-number : (f : Refusal) → refusalNumber f ≡ 0 → ⊥
-refused-number Size e = omega arith
-refused-number (Malformed l) e = omega arith
-refused-number (OutOfLimit l) e = omega arith
-refused-number (Cancelling l) e = omega arith
-refused-number NoAssignment e = omega arith
-refused-number (TooShort m) e = omega arith
-refused-number Mismatch e = omega arith
 
 zero-five : _≡_ {A = ℕ} 0 5 → ⊥
 zero-five e = omega arith
 
 not-done : (r : Reply) (f : Refusal) → r ≡ Refused f → replyNumber r ≡ 0 → ⊥
-not-done r f d e = refused-number f (rw d at e)
+not-done r f d e = refusal-number f (rw d at e)
 
 -- ---- the key call
 
@@ -99,11 +89,11 @@ key-none n set t w w' e d = record {
   words = refl;
   rest = refl;
   lent = d .lent;
-  meaning = λ c. absurd (refused-number NoAssignment c);
-  some = λ c. absurd (refused-number NoAssignment c);
+  meaning = λ c. absurd (refusal-number NoAssignment c);
+  some = λ c. absurd (refusal-number NoAssignment c);
   none = λ c. (λ g. d .meaning .0 refl, λ u. refl);
-  visible = λ c. absurd (refused-number NoAssignment c);
-  growth = λ c. absurd (refused-number NoAssignment c);
+  visible = λ c. absurd (refusal-number NoAssignment c);
+  growth = λ c. absurd (refusal-number NoAssignment c);
 }
   where
     reply : Refused NoAssignment ≡ keyReply n set t (length w)
@@ -158,8 +148,8 @@ assignment-none n t w v w' e d = record {
   told = assignment-told n (length w) (length v) t _ reply;
   lent = d .lent;
   written = untouched n _ v;
-  meaning = λ c. absurd (refused-number NoAssignment c);
-  range = λ c. absurd (refused-number NoAssignment c);
+  meaning = λ c. absurd (refusal-number NoAssignment c);
+  range = λ c. absurd (refusal-number NoAssignment c);
   none = λ c. (λ g. d .meaning .0 refl, λ u. refl);
 }
   where

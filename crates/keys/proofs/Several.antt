@@ -96,7 +96,7 @@ allows-hidden n h g t σ same a = record {
   complete = satisfies-agree n t (joined h σ (a .hiddens)) (joined g σ (a .hiddens)) (λ q l u. rw (same q l u)) (a .complete);
 }
 
-cond-same : (b : Bool) (z : ℤ) → cond b z z ≡ z
+pub cond-same : (b : Bool) (z : ℤ) → cond b z z ≡ z
 cond-same true z = refl
 cond-same false z = refl
 

@@ -1,1 +1,14 @@
--- laws
+-- The laws of marking two tables: the checks; a rule's opposite put in, and that sums fit with it; the first rule that is broken; the verdict by demand 3 and the
+-- assignment that shows it; what the functions' proofs share; and the frauds on named tables.
+pub mod Checking
+pub mod Puts
+pub mod Zeros
+pub mod Breakable
+pub mod Opposed
+pub mod RuleBreaking
+pub mod Finding
+pub mod Demand
+pub mod Lending
+pub mod Showing
+pub mod Promised
+pub mod Frauds

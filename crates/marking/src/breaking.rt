@@ -67,7 +67,12 @@ fn break_rule(n: usize, table: &[i64], rule: Rule, workspace: &mut [i64], values
 }
 
 // The first of the rules at the front of the workspace that some assignment of the table breaks, with such an assignment; the trivial rule where there is none.
-pub(crate) fn break_first(n: usize, table: &[i64], workspace: &mut [i64], values: &mut [i64]) -> Rule
+pub(crate) fn break_first(
+    n: usize,
+    table: &[i64],
+    workspace: &mut [i64],
+    values: &mut [i64],
+) -> Rule
     requires { ⌜ FrontBreakable n (now table) (now workspace) (now values) ⌝ }
     ensures { λ r. ⌜ FrontBroken n (now (table .entry)) (now (workspace .entry)) (now (values .entry)) r (now (workspace .exit)) (now (values .exit)) ⌝ }
 {

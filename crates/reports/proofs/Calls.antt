@@ -13,7 +13,7 @@ use Rattle.rules.specs.Limits.{maxQuantities}
 use Rattle.tables.specs.declared.reply.Reply.{Reply}
 use Rattle.tables.specs.declared.reply.Reply.the-variants.{Done, Refused}
 use Rattle.tables.specs.Tables.{serves}
-use Rattle.tables.proofs.Sizes.{small-start}
+use Rattle.tables.proofs.Sizes.{small-start, long-serves}
 use Rattle.tables.proofs.Tests.{refused-done}
 use Rattle.keys.specs.Keys.{keyOf, refuted, keyChecks, keyReply, orNoAssignment}
 use Rattle.keys.specs.Promises.{Keyed}
@@ -29,7 +29,7 @@ use Rattle.writing.proofs.Promised.{reply-text}
 use Rattle.reports.specs.Refusals.{refusalText}
 use Rattle.reports.specs.Reports.{tableReport}
 use Rattle.reports.specs.Promises.{SheetTable}
-use Rattle.scripts.proofs.Sheets.{fine-sheet, exactly-serves, key-checks, key-length}
+use Rattle.scripts.proofs.Sheets.{fine-sheet, key-checks, key-length}
 use Rattle.reports.proofs.Reports.{table-length}
 
 -- ---- the writer, where it can write
@@ -101,7 +101,7 @@ module _ {n set : ℕ} {t w : List ℤ} {r : Reply} {t' w' : List ℤ} (k : Keye
   key-serves e =
       let c = s .contents in
       let f = fine-sheet c (s .fine) in
-      rw (keyed e, s .counts, s .hides, s .holds) (rw (key-length c f) (exactly-serves (c .count) (f .some) (f .most)), f .range)
+      rw (keyed e, s .counts, s .hides, s .holds) (rw (key-length c f) (long-serves (c .count) (blockStart (c .count)) (f .some) (f .most) (omega arith)), f .range)
 
   -- and its text is what is printed
   pub report-done : r ≡ Done → tableReport n set t ≡ writtenText n set t'

@@ -23,7 +23,6 @@ use Rattle.reading.specs.Meaning.{Spells}
 use Rattle.writing.specs.Writing.{writtenOf, rulesAt, tableRules, writtenText}
 use Rattle.writing.proofs.Meanings.{written-rule, front-word}
 use Rattle.writing.proofs.Back.{spells-within}
-
 use Rattle.scripts.specs.Meaning.{setIn, tableIn}
 use Rattle.scripts.proofs.Sheets.{keyIn, Sheet, key-bounds}
 

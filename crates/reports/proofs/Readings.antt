@@ -12,7 +12,7 @@ use Rattle.rules.specs.declared.refusal.Refusal.{Refusal}
 use Rattle.rules.specs.Hidden.{setOf}
 use Rattle.rules.specs.Limits.{maxQuantities, maxBound, maxText}
 use Rattle.tables.specs.Tables.{tableSize}
-use Rattle.tables.proofs.Sizes.{small-start}
+use Rattle.tables.proofs.Sizes.{small-start, size-whole}
 use Rattle.reading.specs.declared.read.Reading.{Reading}
 use Rattle.reading.specs.declared.read.Reading.the-variants.{Accepted, Refused}
 use Rattle.reading.specs.Texts.{Contents}
@@ -22,7 +22,7 @@ use Rattle.reading.specs.Promises.{ReadInto}
 use Rattle.reports.specs.Reports.{tableReport, keyReport}
 use Rattle.reports.specs.Promises.{SheetTable}
 use Rattle.scripts.specs.Meaning.{tableIn}
-use Rattle.scripts.proofs.Sheets.{fine-sheet, in-range-size}
+use Rattle.scripts.proofs.Sheets.{fine-sheet}
 use Rattle.reports.proofs.Reports.{report-accepted}
 
 -- ---- accepted
@@ -45,7 +45,7 @@ table-read {s} {t} {t'} {r} {n} {set} {m} i e z =
     let c = a .contents in
     let f = fine-sheet c (a .spelled .fine) in
     let rest = drop (blockStart (c .count)) t in
-    let size : m ≡ length (tableIn c) = z ∙ ap tableSize (a .counts) ∙ in-range-size (c .count) (f .some) (f .most) ∙ sym (f .size) in
+    let size : m ≡ length (tableIn c) = z ∙ ap tableSize (a .counts) ∙ size-whole (c .count) (f .most) ∙ sym (f .size) in
     let words : t' ≡ tableIn c ++ rest = i .filled (ap readingNumber e) c (a .spelled) in
     record {
       contents = c;

@@ -10,20 +10,19 @@ use native.Mathlib.Omega.{arith}
 use lib.IntN.{ℤ, pos, negsuc}
 use lib.ListN.{length}
 use lib.Pow.{pow-mono}
-use borrow.Author.Tests.{lt-ltb, le-leb}
 use Rattle.integers.specs.Bound.{Within}
 use Rattle.integers.proofs.Parts.{positivePart, negativePart}
 use Rattle.integers.proofs.Within.{within-to, within-mono}
 use Rattle.words.specs.Change.{wordAt}
 use Rattle.places.specs.Numbering.{blockStart}
-use Rattle.places.proofs.Numbering.{blockStart-above}
-use Rattle.rules.specs.Hidden.{hiddenIn, setWithin, setOf}
+use Rattle.rules.specs.Hidden.{hiddenIn, setWithin}
 use Rattle.rules.specs.Limits.{maxQuantities, maxBound}
 use Rattle.rules.specs.Meaning.{Assignment}
 use Rattle.tables.specs.declared.reply.Reply.the-variants.{Done}
-use Rattle.tables.specs.Tables.{tableSize, serves, tableOf}
+use Rattle.tables.specs.Tables.{serves}
 use Rattle.tables.specs.Meaning.{Satisfies, SheetAllows, joined, WordsWithin}
 use Rattle.tables.proofs.Limits.{wordsInLimit-within}
+use Rattle.tables.proofs.Sizes.{size-whole, long-serves}
 use Rattle.tables.proofs.Lists.{tableOf-length}
 use Rattle.keys.specs.Keys.{keyOf, hiddenCount, refuted, inSheetLimit, keyChecks}
 use Rattle.keys.specs.Reducing.{Fits}
@@ -78,22 +77,11 @@ fine-sheet c f =
 
 -- ---- the key call's checks
 
--- the size asked for, where n is in its range
-pub in-range-size : (n : ℕ) → 1 ≤ n → n ≤ maxQuantities → tableSize n ≡ blockStart n
-unfolding tableSize
-in-range-size n h g = rw (le-leb 1 n h, le-leb n maxQuantities g)
-
--- a table of just that size serves
-pub exactly-serves : (n : ℕ) → 1 ≤ n → n ≤ maxQuantities → serves n (blockStart n) ≡ true
-unfolding serves
-exactly-serves n h g =
-    rw (in-range-size n h g, lt-ltb 0 (blockStart n) (omega (arith, blockStart-above n)), le-leb (blockStart n) (blockStart n) (omega arith))
-
 -- they pass, with every workspace that is long enough
 pub key-checks : (c : Contents) → Sheet c → (w : ℕ) → blockStart (c .count) ≤ w → keyChecks (c .count) (setIn c) (tableIn c) w ≡ Done
 key-checks c s w h =
-    let e : serves (c .count) (length (tableIn c)) ≡ true = rw (s .size) (exactly-serves (c .count) (s .some) (s .most)) in
-    let d = in-range-size (c .count) (s .some) (s .most) in
+    let e : serves (c .count) (length (tableIn c)) ≡ true = rw (s .size) (long-serves (c .count) (blockStart (c .count)) (s .some) (s .most) (omega arith)) in
+    let d = size-whole (c .count) (s .most) in
     let l = lent-done (c .count) (length (tableIn c)) w (blockStart (c .count)) e (sym d) h in
     sym (key-passed (c .count) (setIn c) w (tableIn c) (sym l) (s .range) (s .limit))
 

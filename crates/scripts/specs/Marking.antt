@@ -6,6 +6,7 @@ use lib.Dec.{eqb}
 use Rattle.places.specs.Numbering.{blockStart}
 use Rattle.rules.specs.declared.refusal.Refusal.the-variants.{Mismatch}
 use Rattle.rules.specs.Hidden.{hiddenIn}
+use Rattle.rules.specs.Limits.{maxQuantities}
 use Rattle.tables.specs.declared.reply.Reply.{Reply}
 use Rattle.tables.specs.declared.reply.Reply.the-variants.{Done}
 use Rattle.tables.specs.declared.reply.Reply.the-variants.{Refused as NotDone}
@@ -58,3 +59,11 @@ countJudged (refused f) = 0
 
 abbrev pub countIn : List ℕ → ℕ
 countIn s = countJudged (checkText s)
+
+-- ---- room enough for every sheet: the words of a table and of a workspace at the largest n
+
+abbrev pub lentTable : ℕ
+lentTable = blockStart maxQuantities
+
+abbrev pub lentWorkspace : ℕ
+lentWorkspace = workspaceSize maxQuantities

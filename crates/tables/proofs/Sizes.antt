@@ -1,12 +1,13 @@
--- What it tells that a table serves n quantities. Assumes nothing.
+-- What it tells that a table serves n quantities, and when it does. Assumes nothing.
 use mathlib.Core.Path.{_≡_, refl}
 use mathlib.Core.Bool.{Bool, true, false, cond, _&&_}
-use Prim.Native.Nat.{ℕ, _*_, _≤_, _<_}
+use Prim.Native.Nat.{ℕ, zero, suc, _*_, _≤_, _<_}
 use native.Mathlib.Nat.{mul-le-mul}
 use native.Mathlib.Omega.{arith}
 use lib.Dec.{leb, ltb}
-use borrow.Author.Tests.{leb-true, ltb-true}
+use borrow.Author.Tests.{leb-true, ltb-true, le-leb, lt-ltb}
 use Rattle.places.specs.Numbering.{blockStart}
+use Rattle.places.proofs.Numbering.{blockStart-above}
 use Rattle.rules.specs.Limits.{maxQuantities}
 use Rattle.tables.specs.Tables.{tableSize, serves}
 use Rattle.tables.proofs.Tests.{both-true}
@@ -43,3 +44,17 @@ serves-tells n words e =
     let p = both-true (ltb 0 (tableSize n)) (leb (tableSize n) words) e in
     let s = sized n (ltb-true 0 (tableSize n) (p .0)) in
     record { some = s .0; most = s .1; size = s .2; room = rw (s .2) at (leb-true (tableSize n) words (p .1)) }
+
+-- ---- the other way
+
+-- the size asked for is that of the table
+pub size-whole : (n : ℕ) → n ≤ maxQuantities → tableSize n ≡ blockStart n
+unfolding tableSize blockStart
+size-whole zero h = refl
+size-whole (suc n) h = rw (le-leb 1 (suc n) (omega arith), le-leb (suc n) maxQuantities h)
+
+-- a table long enough for such an n serves it
+pub long-serves : (n words : ℕ) → 1 ≤ n → n ≤ maxQuantities → blockStart n ≤ words → serves n words ≡ true
+unfolding serves
+long-serves n words h g l =
+    rw (size-whole n g, lt-ltb 0 (blockStart n) (omega (arith, blockStart-above n)), le-leb (blockStart n) words l)

@@ -7,7 +7,6 @@ use Prim.Native.Nat.{ℕ, zero, suc, _+_, _≤_, _<_}
 use native.Mathlib.Omega.{arith}
 use lib.IntN.{ℤ, pos}
 use lib.ListN.{length}
-use Rattle.integers.proofs.Within.{within-mono}
 use Rattle.places.specs.Numbering.{blockStart}
 use Rattle.tables.specs.Meaning.{WordsWithin}
 use Rattle.elimination.specs.Hiding.{paired}
@@ -17,7 +16,7 @@ use Rattle.elimination.proofs.Step.{paired-length}
 use Rattle.elimination.proofs.Growth.{paired-within}
 use Rattle.elimination.proofs.Unnamed.{unnamed-same, unnamed-paired}
 use Rattle.keys.specs.Reducing.{Fits}
-use Rattle.keys.proofs.Fitting.{limit-rises}
+use Rattle.keys.proofs.Fitting.{words-mono, limit-rises}
 use Rattle.tightening.specs.Tightening.{pairUpTo}
 use Rattle.tightening.specs.Promises.{Adding}
 
@@ -37,10 +36,6 @@ unfolding pairUpTo
 pair-unnamed n zero i t h l u = u
 pair-unnamed n (suc j) i t h l u =
     unnamed-paired 0 n j i (pairUpTo n j t) (pair-room n j t l) (omega arith) (pair-unnamed n j i t (omega arith) l u)
-
--- words within a limit are within every larger one
-words-mono : (m B C : ℕ) (t : List ℤ) → B ≤ C → WordsWithin m (pos B) t → WordsWithin m (pos C) t
-words-mono m B C t h w = record { each = λ k a b r. within-mono h (w .each k a b r) }
 
 -- after m steps every bound is within the limit of m
 pair-within : (n m : ℕ) (t : List ℤ) (f : Fits n t) → m ≤ n → WordsWithin (blockStart n) (pos (f .limit m)) (pairUpTo n m t)

@@ -1,0 +1,341 @@
+-- What the checks of marking answer, and what it tells that they pass. Assumes nothing.
+use mathlib.Core.Path.{_≡_, refl, sym, _∙_, ap}
+use mathlib.Core.Bool.{Bool, true, false, cond, _&&_, _||_, and-false, or-true}
+use mathlib.Core.List.{List, [], _∷_}
+use mathlib.Core.Logic.{_↔_, _⊎_, ⊎-elim}
+use Prim.Native.Nat.{ℕ, zero, suc, _+_, _*_, _≤_, _<_}
+use native.Mathlib.Omega.{arith}
+use lib.Dec.{ltb, eqb}
+use lib.IntN.{ℤ, pos}
+use lib.ListN.{length, take, drop, length-take, drop-of-length-le}
+use lib.Seq.{length-take-le, getD-take, drop-cons}
+use borrow.Author.Tests.{ltb-false, lt-ltb, le-ltb, eq-eqb, eqb-true}
+use Rattle.words.specs.Change.{wordAt}
+use Rattle.places.specs.Numbering.{blockStart}
+use Rattle.rules.specs.declared.rule.Rule.{Rule}
+use Rattle.rules.specs.declared.rule.Rule.the-variants.{One, Two, Nothing}
+use Rattle.rules.specs.declared.refusal.Refusal.{Refusal}
+use Rattle.rules.specs.declared.refusal.Refusal.the-variants.{Size, OutOfLimit, TooShort, Mismatch}
+use Rattle.rules.specs.Hidden.{hiddenIn, setWithin}
+use Rattle.rules.specs.Limits.{maxQuantities, maxBound}
+use Rattle.rules.specs.Literal.{quantityOf}
+use Rattle.rules.specs.Meaning.{names}
+use Rattle.rules.specs.Refusal.{refusalNumber}
+use Rattle.tables.specs.declared.reply.Reply.{Reply}
+use Rattle.tables.specs.declared.reply.Reply.the-variants.{Done, Refused}
+use Rattle.tables.specs.Places.{ruleAt}
+use Rattle.tables.specs.Tables.{hasRule, tableSize, serves, replyNumber}
+use Rattle.tables.specs.Meaning.{HoldsRule, ruleIn, NamesVisible}
+use Rattle.tables.specs.Promises.{InLimit}
+use Rattle.tables.proofs.Tests.{refused-done, clash, both-true}
+use Rattle.tables.proofs.Sizes.{small-start, serves-tells, long-serves}
+use Rattle.elimination.proofs.Step.{neither}
+use Rattle.keys.specs.Keys.{andThen, lengthReply, limitReply, inSheetLimit}
+use Rattle.marking.specs.Marking.{namesHidden, anyNamesHidden, tableNamesHidden, visibleReply, workspaceSize, markChecks}
+use Rattle.marking.specs.Promises.{Markable}
+
+-- ---- the names of a script's rules
+
+-- a rule names no hidden quantity exactly where each that it names is visible
+rule-visible : (hidden : ℕ → Bool) (r : Rule) → (namesHidden hidden r ≡ false) ↔ ((q : ℕ) → names q r ≡ true → hidden q ≡ false)
+unfolding namesHidden names
+rule-visible hidden (One x c) =
+    (λ e q d. rw (sym (eqb-true (quantityOf x) q d)) e, λ f. f (quantityOf x) (eq-eqb (quantityOf x) (quantityOf x) refl))
+rule-visible hidden (Two x y c) = (
+  λ e q d. let p = neither (hidden (quantityOf x)) (hidden (quantityOf y)) .0 e in go q (p .0) (p .1) (eqb (quantityOf x) q) refl d,
+  λ f. neither (hidden (quantityOf x)) (hidden (quantityOf y)) .1 (f (quantityOf x) first, f (quantityOf y) second),
+)
+  where
+    first : (eqb (quantityOf x) (quantityOf x) || eqb (quantityOf y) (quantityOf x)) ≡ true
+    first = rw (eq-eqb (quantityOf x) (quantityOf x) refl)
+
+    second : (eqb (quantityOf x) (quantityOf y) || eqb (quantityOf y) (quantityOf y)) ≡ true
+    second = rw (eq-eqb (quantityOf y) (quantityOf y) refl) (or-true (eqb (quantityOf x) (quantityOf y)))
+
+    go : (q : ℕ) → hidden (quantityOf x) ≡ false → hidden (quantityOf y) ≡ false → (b : Bool) → eqb (quantityOf x) q ≡ b
+        → (b || eqb (quantityOf y) q) ≡ true → hidden q ≡ false
+    go q e f true d g = rw (sym (eqb-true (quantityOf x) q d)) e
+    go q e f false d g = rw (sym (eqb-true (quantityOf y) q g)) f
+rule-visible hidden (Nothing c) = (λ e q d. clash d refl, λ f. refl)
+
+-- each word's rule, the first word being that of place k, names no hidden quantity
+abbrev NoneNamed : (ℕ → Bool) → ℕ → List ℤ → Type 0
+NoneNamed hidden k ws = (i : ℕ) → i < length ws → hasRule (wordAt ws i) ≡ true → namesHidden hidden (ruleAt (k + i) (wordAt ws i)) ≡ false
+
+-- the test of words finds none exactly where each is so
+none-named : (hidden : ℕ → Bool) (k : ℕ) (ws : List ℤ) → (anyNamesHidden hidden k ws ≡ false) ↔ NoneNamed hidden k ws
+unfolding anyNamesHidden
+none-named hidden k [] = (λ e i h. let z : ⊥ = omega arith in absurd z, λ f. refl)
+none-named hidden k (w ∷ ws) =
+    let ih = none-named hidden (suc k) ws in
+    let p = neither (hasRule w && namesHidden hidden (ruleAt k w)) (anyNamesHidden hidden (suc k) ws) in
+    (λ e. to (p .0 e .0) (ih .0 (p .0 e .1)), λ f. p .1 (of f (hasRule w) refl, ih .1 (later f)))
+  where
+    here : k + 0 ≡ k
+    here = omega arith
+
+    next : (i : ℕ) → k + suc i ≡ suc k + i
+    next i = omega arith
+
+    to : (hasRule w && namesHidden hidden (ruleAt k w)) ≡ false → NoneNamed hidden (suc k) ws → NoneNamed hidden k (w ∷ ws)
+    to e ih zero h d = rw here (rw d at e)
+    to e ih (suc i) h d = rw (next i) (ih i (omega arith) d)
+
+    of : NoneNamed hidden k (w ∷ ws) → (b : Bool) → hasRule w ≡ b → (b && namesHidden hidden (ruleAt k w)) ≡ false
+    of f true d = rw here at (f 0 (omega arith) d)
+    of f false d = refl
+
+    later : NoneNamed hidden k (w ∷ ws) → NoneNamed hidden (suc k) ws
+    later f i h d = rw (next i) at (f (suc i) (omega arith) d)
+
+-- no rule of a table names a hidden quantity exactly where all name visible quantities alone
+pub names-visible : (hidden : ℕ → Bool) (n : ℕ) (t : List ℤ) → blockStart n ≤ length t → (tableNamesHidden hidden n t ≡ false) ↔ NamesVisible n hidden t
+names-visible hidden n t l = (λ e. record { each = to (none-named hidden 0 front .0 e) }, λ v. none-named hidden 0 front .1 (of v))
+  where
+    front : List ℤ
+    front = take (blockStart n) t
+
+    size : length front ≡ blockStart n
+    size = length-take-le (blockStart n) t l
+
+    from : (k : ℕ) → 0 + k ≡ k
+    from k = omega arith
+
+    same : (k : ℕ) → k < blockStart n → wordAt front k ≡ wordAt t k
+    same k h = getD-take (blockStart n) t k (pos 0) h
+
+    to : NoneNamed hidden 0 front → (k : ℕ) → HoldsRule n t k → (q : ℕ) → names q (ruleIn t k) ≡ true → hidden q ≡ false
+    to f k h =
+        rule-visible hidden (ruleIn t k) .0
+        (rw (from k, same k (h .inside)) at (f k (rw size (h .inside)) (rw (same k (h .inside)) (h .rule))))
+
+    of : NamesVisible n hidden t → NoneNamed hidden 0 front
+    of v k h d =
+        let i : k < blockStart n = rw size at h in
+        rw (from k, same k i) (rule-visible hidden (ruleIn t k) .1 (v .each k (record { inside = i; there = omega arith; rule = rw (same k i) at d })))
+
+-- ---- the loop over a script's words
+
+-- the present word decides, or the words after it
+naming-more : (hidden : ℕ → Bool) (m k : ℕ) (t : List ℤ) → k < m → k < length t
+    → anyNamesHidden hidden k (drop k (take m t))
+    ≡ ((hasRule (wordAt t k) && namesHidden hidden (ruleAt k (wordAt t k))) || anyNamesHidden hidden (k + 1) (drop (k + 1) (take m t)))
+unfolding anyNamesHidden
+naming-more hidden m k t h l = rw (drop-cons (take m t) k (pos 0) inside, getD-take m t k (pos 0) h, next)
+  where
+    inside : k < length (take m t)
+    inside = omega (arith, length-take m t)
+
+    next : k + 1 ≡ suc k
+    next = omega arith
+
+-- the answer of the words that are left is true where the present word's rule names a hidden quantity,
+pub naming-found : (hidden : ℕ → Bool) (m k : ℕ) (t : List ℤ) (r : Bool) → anyNamesHidden hidden k (drop k (take m t)) ≡ r → k < m → k < length t
+    → hasRule (wordAt t k) ≡ true → namesHidden hidden (ruleAt k (wordAt t k)) ≡ true → true ≡ r
+naming-found hidden m k t r e h l d f = rw (d, f) at (sym (naming-more hidden m k t h l) ∙ e)
+
+-- that of the words after it where it does not,
+pub naming-next : (hidden : ℕ → Bool) (m k : ℕ) (t : List ℤ) (r : Bool) → anyNamesHidden hidden k (drop k (take m t)) ≡ r → k < m → k < length t
+    → (hasRule (wordAt t k) && namesHidden hidden (ruleAt k (wordAt t k))) ≡ false → anyNamesHidden hidden (k + 1) (drop (k + 1) (take m t)) ≡ r
+naming-next hidden m k t r e h l d = rw d at (sym (naming-more hidden m k t h l) ∙ e)
+
+-- and false where none are left
+pub naming-end : (hidden : ℕ → Bool) (m k : ℕ) (t : List ℤ) (r : Bool) → anyNamesHidden hidden k (drop k (take m t)) ≡ r → (m ≤ k) ⊎ (length t ≤ k)
+    → false ≡ r
+unfolding anyNamesHidden
+naming-end hidden m k t r e h = rw (drop-of-length-le (take m t) past) at e
+  where
+    past : length (take m t) ≤ k
+    past = ⊎-elim (λ g. omega (arith, length-take m t)) (λ g. omega (arith, length-take m t)) h
+
+-- ---- the answer by the tests
+
+-- are all numbers in their limits?
+abbrev within : ℕ → ℕ → List ℤ → List ℤ → Bool
+within n set sheet script = setWithin n set && (inSheetLimit n sheet && inSheetLimit n script)
+
+-- the answer by the tests: both tables serve, the workspace is short, the assignment is, the limits are kept, a script rule names a hidden quantity
+abbrev tested : ℕ → Bool → Bool → Bool → Bool → Bool → Reply
+tested n serve short brief limited named =
+    cond serve
+    (cond short (Refused (TooShort (workspaceSize n)))
+    (cond brief (Refused (TooShort n)) (cond limited (cond named (Refused Mismatch) Done) (Refused (OutOfLimit 0)))))
+    (Refused Size)
+
+-- the checks answer by the tests
+checks-tested : (n set : ℕ) (sheet script : List ℤ) (w v : ℕ)
+    → markChecks n set sheet script w v
+    ≡ tested n (serves n (length sheet) && serves n (length script)) (ltb w (workspaceSize n)) (ltb v n) (within n set sheet script)
+    (tableNamesHidden (hiddenIn set) n script)
+unfolding markChecks andThen lengthReply limitReply visibleReply
+checks-tested n set sheet script w v =
+    go (serves n (length sheet) && serves n (length script)) (ltb w (workspaceSize n)) (ltb v n) (within n set sheet script)
+  where
+    named : Bool
+    named = tableNamesHidden (hiddenIn set) n script
+
+    go : (a b c d : Bool)
+        → cond a (andThen (cond b (Refused (TooShort (workspaceSize n))) Done)
+        (andThen (cond c (Refused (TooShort n)) Done)
+        (andThen (cond d Done (Refused (OutOfLimit 0))) (cond named (Refused Mismatch) Done)))) (Refused Size)
+        ≡ tested n a b c d named
+    go false b c d = refl
+    go true true c d = refl
+    go true false true d = refl
+    go true false false false = refl
+    go true false false true = refl
+
+-- ---- each answer of the program
+
+-- a sheet that does not serve
+pub sheet-refused : (n set : ℕ) (sheet script : List ℤ) (w v : ℕ) → serves n (length sheet) ≡ false → Refused Size ≡ markChecks n set sheet script w v
+sheet-refused n set sheet script w v e = rw (checks-tested n set sheet script w v, e)
+
+-- a script that does not
+pub script-refused : (n set : ℕ) (sheet script : List ℤ) (w v : ℕ) → serves n (length script) ≡ false → Refused Size ≡ markChecks n set sheet script w v
+script-refused n set sheet script w v e = rw (checks-tested n set sheet script w v, e, and-false (serves n (length sheet)))
+
+-- both serve, and m is their size
+pub record BothServe (n m : ℕ) (sheet script : List ℤ) : Type 0 where
+  pub sheet-serves : serves n (length sheet) ≡ true
+  pub script-serves : serves n (length script) ≡ true
+  pub size : m ≡ tableSize n
+
+both-size : (n m : ℕ) (sheet script : List ℤ) → BothServe n m sheet script → m ≡ blockStart n
+both-size n m sheet script b = b .size ∙ serves-tells n (length sheet) (b .sheet-serves) .size
+
+-- that size is small
+pub both-small : (n m : ℕ) (sheet script : List ℤ) → BothServe n m sheet script → m ≤ 2 * (maxQuantities * maxQuantities)
+both-small n m sheet script b =
+    let p = both-size n m sheet script b in
+    omega (arith, small-start n (serves-tells n (length sheet) (b .sheet-serves) .most))
+
+-- a workspace that is too short
+pub workspace-refused : (n set m : ℕ) (sheet script : List ℤ) (w v : ℕ) → BothServe n m sheet script → w < 2 * m
+    → Refused (TooShort (2 * m)) ≡ markChecks n set sheet script w v
+workspace-refused n set m sheet script w v b h =
+    let p = both-size n m sheet script b in
+    rw (checks-tested n set sheet script w v, b .sheet-serves, b .script-serves, lt-ltb w (workspaceSize n) (omega arith), p)
+
+-- an assignment that is
+pub values-refused : (n set m : ℕ) (sheet script : List ℤ) (w v : ℕ) → BothServe n m sheet script → 2 * m ≤ w → v < n
+    → Refused (TooShort n) ≡ markChecks n set sheet script w v
+values-refused n set m sheet script w v b h g =
+    let p = both-size n m sheet script b in
+    rw (checks-tested n set sheet script w v, b .sheet-serves, b .script-serves, le-ltb w (workspaceSize n) (omega arith), lt-ltb v n g)
+
+-- both serve, and all lengths are enough
+pub record AllServe (n m : ℕ) (sheet script : List ℤ) (w v : ℕ) : Type 0 where
+  pub both : BothServe n m sheet script
+  pub room : 2 * m ≤ w
+  pub values-room : n ≤ v
+
+-- the answer then is that of the limits and the names
+all-tested : (n set m : ℕ) (sheet script : List ℤ) (w v : ℕ) → AllServe n m sheet script w v
+    → markChecks n set sheet script w v ≡ tested n true false false (within n set sheet script) (tableNamesHidden (hiddenIn set) n script)
+all-tested n set m sheet script w v a =
+    let b = a .both in
+    let p = both-size n m sheet script b in
+    rw (checks-tested n set sheet script w v, b .sheet-serves, b .script-serves, le-ltb w (workspaceSize n) (omega (arith, a .room)), le-ltb v n (a .values-room))
+
+-- a hidden set past n
+pub set-refused : (n set m : ℕ) (sheet script : List ℤ) (w v : ℕ) → AllServe n m sheet script w v → setWithin n set ≡ false
+    → Refused (OutOfLimit 0) ≡ markChecks n set sheet script w v
+set-refused n set m sheet script w v a e = rw (all-tested n set m sheet script w v a, e)
+
+-- the test of the first m words is that of a served table
+pub limit-test : (n m : ℕ) (sheet script : List ℤ) (w v : ℕ) (t : List ℤ) (r : Bool) → AllServe n m sheet script w v → InLimit m (pos maxBound) t r
+    → inSheetLimit n t ≡ r
+limit-test n m sheet script w v t r a i = let p = both-size n m sheet script (a .both) in sym (rw p at (i .reply))
+
+-- a word of the sheet past its limit
+pub sheet-outside : (n set m : ℕ) (sheet script : List ℤ) (w v : ℕ) → AllServe n m sheet script w v → inSheetLimit n sheet ≡ false
+    → Refused (OutOfLimit 0) ≡ markChecks n set sheet script w v
+sheet-outside n set m sheet script w v a e = rw (all-tested n set m sheet script w v a, e, and-false (setWithin n set))
+
+-- a word of the script past its limit
+pub script-outside : (n set m : ℕ) (sheet script : List ℤ) (w v : ℕ) → AllServe n m sheet script w v → inSheetLimit n script ≡ false
+    → Refused (OutOfLimit 0) ≡ markChecks n set sheet script w v
+script-outside n set m sheet script w v a e =
+    rw (all-tested n set m sheet script w v a, e, and-false (inSheetLimit n sheet), and-false (setWithin n set))
+
+-- all limits kept, the names decide
+pub names-answered : (n set m : ℕ) (sheet script : List ℤ) (w v : ℕ) (named : Bool) → AllServe n m sheet script w v → setWithin n set ≡ true
+    → inSheetLimit n sheet ≡ true → inSheetLimit n script ≡ true → named ≡ anyNamesHidden (hiddenIn set) 0 (take m script)
+    → cond named (Refused Mismatch) Done ≡ markChecks n set sheet script w v
+names-answered n set m sheet script w v named a e f g h =
+    let p = both-size n m sheet script (a .both) in
+    rw (all-tested n set m sheet script w v a, e, f, g, h, p)
+
+-- ---- what it tells that they pass
+
+-- each test of a done answer
+tested-done : (n : ℕ) (a b c d e : Bool) → tested n a b c d e ≡ Done → (a ≡ true) × (b ≡ false) × (c ≡ false) × (d ≡ true) × (e ≡ false)
+tested-done n false b c d e p = absurd (refused-done p)
+tested-done n true true c d e p = absurd (refused-done p)
+tested-done n true false true d e p = absurd (refused-done p)
+tested-done n true false false false e p = absurd (refused-done p)
+tested-done n true false false true true p = absurd (refused-done p)
+tested-done n true false false true false p = (refl, refl, refl, refl, refl)
+
+-- what passes can be marked
+pub checks-tell : (n set : ℕ) (sheet script workspace values : List ℤ) → markChecks n set sheet script (length workspace) (length values) ≡ Done
+    → Markable n set sheet script workspace values
+checks-tell n set sheet script workspace values e =
+    let p =
+    tested-done n (serves n (length sheet) && serves n (length script)) (ltb (length workspace) (workspaceSize n)) (ltb (length values) n)
+    (within n set sheet script) (tableNamesHidden (hiddenIn set) n script) (sym (checks-tested n set sheet script (length workspace) (length values)) ∙ e) in
+    let s = both-true (serves n (length sheet)) (serves n (length script)) (p .0) in
+    let a = serves-tells n (length sheet) (s .0) in
+    let b = serves-tells n (length script) (s .1) in
+    let d = both-true (setWithin n set) (inSheetLimit n sheet && inSheetLimit n script) (p .3) in
+    let l = both-true (inSheetLimit n sheet) (inSheetLimit n script) (d .1) in
+    record {
+      some = a .some;
+      most = a .most;
+      sheet-room = a .room;
+      script-room = b .room;
+      room = ltb-false (length workspace) (workspaceSize n) (p .1);
+      values-room = ltb-false (length values) n (p .2);
+      set-within = d .0;
+      sheet-limit = l .0;
+      script-limit = l .1;
+      visible = names-visible (hiddenIn set) n script (b .room) .0 (p .4);
+    }
+
+-- 7 comes where the tables serve and a script rule names a hidden quantity
+tested-seven : (n : ℕ) (a b c d e : Bool) → replyNumber (tested n a b c d e) ≡ 7 → (a ≡ true) × (e ≡ true)
+tested-seven n false b c d e p = let z : ⊥ = omega arith in absurd z
+tested-seven n true true c d e p = let z : ⊥ = omega arith in absurd z
+tested-seven n true false true d e p = let z : ⊥ = omega arith in absurd z
+tested-seven n true false false false e p = let z : ⊥ = omega arith in absurd z
+tested-seven n true false false true false p = let z : ⊥ = omega arith in absurd z
+tested-seven n true false false true true p = (refl, refl)
+
+-- so not where the script's rules name visible quantities alone
+pub checks-seven : (n set : ℕ) (sheet script : List ℤ) (w v : ℕ) (f : Refusal) → markChecks n set sheet script w v ≡ Refused f → refusalNumber f ≡ 7
+    → NamesVisible n (hiddenIn set) script → ⊥
+checks-seven n set sheet script w v f e d visible =
+    let p =
+    tested-seven n (serves n (length sheet) && serves n (length script)) (ltb w (workspaceSize n)) (ltb v n)
+    (within n set sheet script) (tableNamesHidden (hiddenIn set) n script)
+    (ap replyNumber (sym (checks-tested n set sheet script w v) ∙ e) ∙ d) in
+    let s = both-true (serves n (length sheet)) (serves n (length script)) (p .0) in
+    clash (p .1) (names-visible (hiddenIn set) n script (serves-tells n (length script) (s .1) .room) .1 visible)
+
+-- the checks pass where every length, limit and name is right
+pub checks-done : (n set : ℕ) (sheet script : List ℤ) (w v : ℕ) → 1 ≤ n → n ≤ maxQuantities → blockStart n ≤ length sheet → blockStart n ≤ length script
+    → workspaceSize n ≤ w → n ≤ v → setWithin n set ≡ true → inSheetLimit n sheet ≡ true → inSheetLimit n script ≡ true
+    → NamesVisible n (hiddenIn set) script → markChecks n set sheet script w v ≡ Done
+checks-done n set sheet script w v some most sheet-room script-room room values-room e f g visible =
+    checks-tested n set sheet script w v
+    ∙ rw (
+      long-serves n (length sheet) some most sheet-room,
+      long-serves n (length script) some most script-room,
+      le-ltb w (workspaceSize n) room,
+      le-ltb v n values-room,
+      e,
+      f,
+      g,
+      names-visible (hiddenIn set) n script script-room .1 visible,
+    )

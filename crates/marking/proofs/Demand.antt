@@ -1,0 +1,291 @@
+-- What the verdict means: demand 3 of tables that passed the checks, and the rule that is carried. Assumes nothing.
+use mathlib.Core.Path.{_≡_, refl, ap}
+use mathlib.Core.Bool.{Bool, true, false, cond}
+use mathlib.Core.List.{List}
+use mathlib.Core.Logic.{_↔_, _⊎_, inl, inr}
+use Prim.Native.Nat.{ℕ, zero, suc, _≤_, _<_}
+use native.Mathlib.Omega.{arith}
+use lib.Dec.{ltb}
+use lib.IntN.{ℤ}
+use lib.ListN.{length}
+use lib.Signed.{leZ}
+use borrow.Author.Tests.{ltb-true, ltb-false}
+use Rattle.integers.proofs.Parts.{linear, leZ-true, leZ-false}
+use Rattle.words.specs.Change.{wordAt}
+use Rattle.places.specs.Numbering.{blockStart}
+use Rattle.rules.specs.declared.rule.Rule.{Rule}
+use Rattle.rules.specs.declared.rule.Rule.the-variants.{One, Two, Nothing}
+use Rattle.rules.specs.Hidden.{hiddenIn}
+use Rattle.rules.specs.Meaning.{Assignment, Meets, termValue, boundOf}
+use Rattle.rules.specs.Steps.{trivialRule}
+use Rattle.tables.specs.Tables.{hasRule}
+use Rattle.tables.specs.Meaning.{HoldsRule, ruleIn, Satisfies, Satisfiable, Unsatisfiable, Paper, joined, SheetAllows, NamesVisible}
+use Rattle.tables.proofs.Tests.{clash}
+use Rattle.tables.proofs.Meanings.{script-visible}
+use Rattle.keys.specs.Keys.{keyOf, every, refuted}
+use Rattle.keys.specs.Reducing.{Fits}
+use Rattle.keys.proofs.Several.{hideUpTo-length, hide-all, allows-own, key-exact, refuted-false}
+use Rattle.keys.proofs.Fitting.{hide-ample}
+use Rattle.keys.proofs.Deciding.{refuted-exactly}
+use Rattle.marking.specs.declared.verdict.Verdict.{Verdict}
+use Rattle.marking.specs.declared.verdict.Verdict.the-variants.{Equal, Loose, Tight}
+use Rattle.marking.specs.Verdicts.{verdictNumber, hasTerm}
+use Rattle.marking.specs.Meaning.{AllowSame, IsLoose, IsNarrow, IsTight, ByDemand, FirstBroken, NoneBroken, LooseRule, TightRule}
+use Rattle.marking.specs.Marking.{firstBroken, orElse, verdictOf}
+use Rattle.marking.specs.Promises.{Markable}
+use Rattle.marking.proofs.Breakable.{Exactly, breakable-exactly, first-some, first-none}
+use Rattle.marking.proofs.Opposed.{sheet-fitting, script-fitting, tight-opposed, loose-opposed, tight-small, loose-small}
+
+-- ---- the three conditions exclude each other, so the one that holds gives the number
+
+-- equal papers are neither loose nor narrow
+same-demand : (hidden : ℕ → Bool) (sheet script : Paper) → AllowSame hidden sheet script → ByDemand hidden sheet script 100
+same-demand hidden sheet script s = record {
+  equal = (λ e. s, λ a. refl);
+  loose = (λ e. absurd (omega arith), λ l. absurd (l .incomplete (s (l .visibles) .0 (l .allowed))));
+  tight = (λ e. absurd (omega arith), λ t. absurd (t .1 .forbidden (s (t .1 .visibles) .1 (t .1 .completed))));
+}
+
+-- a loose script is not equal, and tight asks for one that is not loose
+loose-demand : (hidden : ℕ → Bool) (sheet script : Paper) → IsLoose hidden sheet script → ByDemand hidden sheet script 101
+loose-demand hidden sheet script l = record {
+  equal = (λ e. absurd (omega arith), λ s. absurd (l .incomplete (s (l .visibles) .0 (l .allowed))));
+  loose = (λ e. l, λ a. refl);
+  tight = (λ e. absurd (omega arith), λ t. absurd (t .0 l));
+}
+
+-- a tight script is not loose, and too narrow to be equal
+tight-demand : (hidden : ℕ → Bool) (sheet script : Paper) → IsTight hidden sheet script → ByDemand hidden sheet script 102
+tight-demand hidden sheet script t = record {
+  equal = (λ e. absurd (omega arith), λ s. absurd (t .1 .forbidden (s (t .1 .visibles) .1 (t .1 .completed))));
+  loose = (λ e. absurd (omega arith), λ l. absurd (t .0 l));
+  tight = (λ e. t, λ a. refl);
+}
+
+-- ---- a table that an assignment does not satisfy has a rule that it does not meet
+
+-- a place that holds a rule that an assignment does not meet
+record Unmet (n : ℕ) (t : List ℤ) (σ : Assignment) : Type 0 where
+  place : ℕ
+  holds : HoldsRule n t place
+  unmet : Meets σ (ruleIn t place) → ⊥
+
+-- whether an assignment meets a rule is one comparison
+meets-or-not : (σ : Assignment) (r : Rule) → Meets σ r ⊎ (Meets σ r → ⊥)
+meets-or-not σ r = go (leZ (termValue σ r) (boundOf r)) refl
+  where
+    go : (b : Bool) → leZ (termValue σ r) (boundOf r) ≡ b → Meets σ r ⊎ (Meets σ r → ⊥)
+    go true e = inl (record { met = omega (linear, leZ-true (termValue σ r) (boundOf r) e) })
+    go false e = inr (λ m. omega (linear, leZ-false (termValue σ r) (boundOf r) e, m .met))
+
+-- what holds of the numbers below m, and of m itself, holds below the next
+below-next : (P : ℕ → Type 0) (m : ℕ) → ((k : ℕ) → k < m → P k) → P m → (k : ℕ) → k < suc m → P k
+below-next P m below own k h = go (ltb k m) refl
+  where
+    go : (b : Bool) → ltb k m ≡ b → P k
+    go true e = below k (ltb-true k m e)
+    go false e = let d : k ≡ m = omega (arith, ltb-false k m e) in rw d own
+
+-- of the first m places every rule is met, or some place holds one that is not
+met-below : (n : ℕ) (t : List ℤ) (σ : Assignment) (m : ℕ) → m ≤ blockStart n → blockStart n ≤ length t
+    → ((k : ℕ) → k < m → HoldsRule n t k → Meets σ (ruleIn t k)) ⊎ Unmet n t σ
+met-below n t σ zero h l = inl (λ k g p. absurd (omega arith))
+met-below n t σ (suc m) h l = go (met-below n t σ m (omega arith) l) (hasRule (wordAt t m)) refl (meets-or-not σ (ruleIn t m))
+  where
+    go : ((k : ℕ) → k < m → HoldsRule n t k → Meets σ (ruleIn t k)) ⊎ Unmet n t σ → (b : Bool) → hasRule (wordAt t m) ≡ b
+        → Meets σ (ruleIn t m) ⊎ (Meets σ (ruleIn t m) → ⊥) → ((k : ℕ) → k < suc m → HoldsRule n t k → Meets σ (ruleIn t k)) ⊎ Unmet n t σ
+    go (inr u) b e c = inr u
+    go (inl all) false e c = inl (below-next (λ k. HoldsRule n t k → Meets σ (ruleIn t k)) m all (λ p. clash (p .rule) e))
+    go (inl all) true e (inl y) = inl (below-next (λ k. HoldsRule n t k → Meets σ (ruleIn t k)) m all (λ p. y))
+    go (inl all) true e (inr y) =
+        inr (record { place = m; holds = record { inside = omega arith; there = omega arith; rule = e }; unmet = y })
+
+-- a table is satisfied, or some place holds a rule that is not met
+unsatisfied-place : (n : ℕ) (t : List ℤ) (σ : Assignment) → blockStart n ≤ length t → Satisfies n t σ ⊎ Unmet n t σ
+unsatisfied-place n t σ l = go (met-below n t σ (blockStart n) (omega arith) l)
+  where
+    go : ((k : ℕ) → k < blockStart n → HoldsRule n t k → Meets σ (ruleIn t k)) ⊎ Unmet n t σ → Satisfies n t σ ⊎ Unmet n t σ
+    go (inl all) = inl (record { each = λ k p. all k (p .inside) p })
+    go (inr u) = inr u
+
+-- where none of a table's rules is broken by a paper, what satisfies the paper satisfies the table
+unbroken-satisfied : (n : ℕ) (rules : List ℤ) (paper : Paper) (σ : Assignment) → blockStart n ≤ length rules → NoneBroken n rules paper → paper σ
+    → Satisfies n rules σ
+unbroken-satisfied n rules paper σ l none s = go (unsatisfied-place n rules σ l)
+  where
+    go : Satisfies n rules σ ⊎ Unmet n rules σ → Satisfies n rules σ
+    go (inl y) = y
+    go (inr u) = absurd (none (u .place) (u .holds) (record { assignment = σ; satisfies = s; broken = u .unmet }))
+
+-- ---- of a sheet that no integers satisfy
+
+-- where no contradiction is met, some integers satisfy the table
+some-satisfy : (n : ℕ) (t : List ℤ) → Fits n t → refuted n t ≡ false → Satisfiable n t
+some-satisfy n t f e = refuted-false n t (f .grows .room) (hide-ample every n t f) e
+
+-- where none satisfy the script either, they allow the same
+nothing-same : (hidden : ℕ → Bool) (n : ℕ) (sheet script : List ℤ) → Unsatisfiable n sheet → Unsatisfiable n script
+    → AllowSame hidden (Satisfies n sheet) (Satisfies n script)
+nothing-same hidden n sheet script u v σ = (λ s. absurd (v σ s), λ a. absurd (u (joined hidden σ (a .hiddens)) (a .complete)))
+
+-- and else the script is loose
+nothing-loose : (hidden : ℕ → Bool) (n : ℕ) (sheet script : List ℤ) → Unsatisfiable n sheet → Satisfiable n script
+    → IsLoose hidden (Satisfies n sheet) (Satisfies n script)
+nothing-loose hidden n sheet script u s = record {
+  visibles = s .assignment;
+  allowed = s .satisfies;
+  incomplete = λ a. u (joined hidden (s .assignment) (a .hiddens)) (a .complete);
+}
+
+-- ---- of others
+
+-- the key is exact: it allows what the sheet does
+abbrev pub KeyExact : (ℕ → Bool) → ℕ → List ℤ → Type 0
+KeyExact hidden n sheet = (σ : Assignment) → Satisfies n (keyOf hidden n sheet) σ ↔ SheetAllows hidden (Satisfies n sheet) σ
+
+-- it is, of tables that passed the checks
+pub key-allows : (n set : ℕ) (sheet script workspace values : List ℤ) → Markable n set sheet script workspace values → Satisfiable n sheet
+    → KeyExact (hiddenIn set) n sheet
+key-allows n set sheet script workspace values m s =
+    key-exact (hiddenIn set) n sheet (s .assignment) (hide-ample (hiddenIn set) n sheet (sheet-fitting n set sheet script workspace values m)) (s .satisfies)
+
+-- a key rule that some assignment of the script breaks: the script is loose
+broken-loose : (hidden : ℕ → Bool) (n : ℕ) (sheet : List ℤ) (script : Paper) (r : Rule) → KeyExact hidden n sheet
+    → FirstBroken n (keyOf hidden n sheet) script r → IsLoose hidden (Satisfies n sheet) script
+broken-loose hidden n sheet script r exact f = record {
+  visibles = f .at .breaks .assignment;
+  allowed = f .at .breaks .satisfies;
+  incomplete = λ a. f .at .breaks .broken (exact (f .at .breaks .assignment) .1 a .each (f .place) (f .at .holds));
+}
+
+-- none: the script is not
+unbroken-not-loose : (hidden : ℕ → Bool) (n : ℕ) (sheet : List ℤ) (script : Paper) → blockStart n ≤ length (keyOf hidden n sheet) → KeyExact hidden n sheet
+    → NoneBroken n (keyOf hidden n sheet) script → IsLoose hidden (Satisfies n sheet) script → ⊥
+unbroken-not-loose hidden n sheet script l exact none a =
+    a .incomplete (exact (a .visibles) .0 (unbroken-satisfied n (keyOf hidden n sheet) script (a .visibles) l none (a .allowed)))
+
+-- a script rule that some assignment of the sheet breaks: the script is too narrow
+broken-narrow : (hidden : ℕ → Bool) (n : ℕ) (sheet script : List ℤ) (r : Rule) → FirstBroken n script (Satisfies n sheet) r
+    → IsNarrow hidden (Satisfies n sheet) (Satisfies n script)
+broken-narrow hidden n sheet script r f = record {
+  visibles = f .at .breaks .assignment;
+  completed = allows-own n hidden sheet (f .at .breaks .assignment) (f .at .breaks .satisfies);
+  forbidden = λ s. f .at .breaks .broken (s .each (f .place) (f .at .holds));
+}
+
+-- none of either: they allow the same, the script's rules naming visible quantities alone
+unbroken-same : (hidden : ℕ → Bool) (n : ℕ) (sheet script : List ℤ) → blockStart n ≤ length (keyOf hidden n sheet) → blockStart n ≤ length script
+    → NamesVisible n hidden script → KeyExact hidden n sheet → NoneBroken n (keyOf hidden n sheet) (Satisfies n script) → NoneBroken n script (Satisfies n sheet)
+    → AllowSame hidden (Satisfies n sheet) (Satisfies n script)
+unbroken-same hidden n sheet script l g visible exact keys none σ = (
+  λ s. exact σ .0 (unbroken-satisfied n (keyOf hidden n sheet) (Satisfies n script) σ l keys s),
+  λ a. script-visible n hidden script (joined hidden σ (a .hiddens)) σ visible (λ q h k e. rw e)
+      (unbroken-satisfied n script (Satisfies n sheet) (joined hidden σ (a .hiddens)) g none (a .complete)),
+)
+
+-- ---- the verdict
+
+-- what a verdict is to mean, with the rule that it carries
+abbrev Means : (ℕ → Bool) → ℕ → List ℤ → List ℤ → Verdict → Type 0
+Means hidden n sheet script Equal = AllowSame hidden (Satisfies n sheet) (Satisfies n script)
+Means hidden n sheet script (Loose r) = IsLoose hidden (Satisfies n sheet) (Satisfies n script) × LooseRule hidden n sheet (Satisfies n script) r
+Means hidden n sheet script (Tight r) = IsTight hidden (Satisfies n sheet) (Satisfies n script) × TightRule n (Satisfies n sheet) script r
+
+-- a rule of one or two quantities is carried, and of any other the next verdict stands
+carried-or-next : (P : Verdict → Type 0) (carry : Rule → Verdict) (r : Rule) (next : Verdict) → (hasTerm r ≡ true → P (carry r)) → (hasTerm r ≡ false → P next)
+    → P (orElse carry r next)
+carried-or-next P carry (One x c) next some none = some refl
+carried-or-next P carry (Two x y c) next some none = some refl
+carried-or-next P carry (Nothing c) next some none = none refl
+
+-- the verdict means what it is to mean
+verdict-means : (n set : ℕ) (sheet script workspace values : List ℤ) → Markable n set sheet script workspace values
+    → Means (hiddenIn set) n sheet script (verdictOf (hiddenIn set) n sheet script)
+unfolding verdictOf
+verdict-means n set sheet script workspace values m = go (refuted n sheet) refl
+  where
+    hidden : ℕ → Bool
+    hidden = hiddenIn set
+
+    key : List ℤ
+    key = keyOf hidden n sheet
+
+    key-room : blockStart n ≤ length key
+    key-room = omega (arith, m .sheet-room, ap length (hide-all hidden n sheet), hideUpTo-length hidden n n sheet)
+
+    key-exactly : Exactly n key script
+    key-exactly k p = breakable-exactly n script k (wordAt key k) (m .script-room) (p .inside) (loose-small n set sheet script workspace values m k p)
+        (loose-opposed n set sheet script workspace values m k p)
+
+    script-exactly : Exactly n script sheet
+    script-exactly k p = breakable-exactly n sheet k (wordAt script k) (m .sheet-room) (p .inside) (tight-small n set sheet script workspace values m k p)
+        (tight-opposed n set sheet script workspace values m k p)
+
+    without : Unsatisfiable n sheet → (b : Bool) → refuted n script ≡ b → Means hidden n sheet script (cond b Equal (Loose trivialRule))
+    without u true e = nothing-same hidden n sheet script u (refuted-exactly n script (script-fitting n set sheet script workspace values m) .0 e)
+    without u false e = (
+      nothing-loose hidden n sheet script u (some-satisfy n script (script-fitting n set sheet script workspace values m) e),
+      inl (u, refl),
+    )
+
+    exact : Satisfiable n sheet → KeyExact hidden n sheet
+    exact = key-allows n set sheet script workspace values m
+
+    not-loose : Satisfiable n sheet → NoneBroken n key (Satisfies n script) → Means hidden n sheet script (orElse Tight (firstBroken n script sheet) Equal)
+    not-loose s keys = carried-or-next (Means hidden n sheet script) Tight (firstBroken n script sheet) Equal tight equal
+      where
+        tight : hasTerm (firstBroken n script sheet) ≡ true → Means hidden n sheet script (Tight (firstBroken n script sheet))
+        tight e =
+            let f = first-some n script sheet (m .script-room) script-exactly e in (
+              (
+                unbroken-not-loose hidden n sheet (Satisfies n script) key-room (exact s) keys,
+                broken-narrow hidden n sheet script (firstBroken n script sheet) f,
+              ),
+              f,
+            )
+
+        equal : hasTerm (firstBroken n script sheet) ≡ false → Means hidden n sheet script Equal
+        equal e =
+            let none = first-none n script sheet (m .script-room) script-exactly e .1 in
+            unbroken-same hidden n sheet script key-room (m .script-room) (m .visible) (exact s) keys none
+
+    with-some : Satisfiable n sheet → Means hidden n sheet script (orElse Loose (firstBroken n key script) (orElse Tight (firstBroken n script sheet) Equal))
+    with-some s = carried-or-next (Means hidden n sheet script) Loose (firstBroken n key script) (orElse Tight (firstBroken n script sheet) Equal) loose next
+      where
+        loose : hasTerm (firstBroken n key script) ≡ true → Means hidden n sheet script (Loose (firstBroken n key script))
+        loose e =
+            let f = first-some n key script key-room key-exactly e in
+            (broken-loose hidden n sheet (Satisfies n script) (firstBroken n key script) (exact s) f, inr (s, f))
+
+        next : hasTerm (firstBroken n key script) ≡ false → Means hidden n sheet script (orElse Tight (firstBroken n script sheet) Equal)
+        next e = not-loose s (first-none n key script key-room key-exactly e .1)
+
+    go : (b : Bool) → refuted n sheet ≡ b → Means hidden n sheet script (cond b (cond (refuted n script) Equal (Loose trivialRule))
+        (orElse Loose (firstBroken n key script) (orElse Tight (firstBroken n script sheet) Equal)))
+    go true e = without (refuted-exactly n sheet (sheet-fitting n set sheet script workspace values m) .0 e) (refuted n script) refl
+    go false e = with-some (some-satisfy n sheet (sheet-fitting n set sheet script workspace values m) e)
+
+-- a verdict that means this has demand 3's number
+means-demand : (hidden : ℕ → Bool) (n : ℕ) (sheet script : List ℤ) (v : Verdict) → Means hidden n sheet script v
+    → ByDemand hidden (Satisfies n sheet) (Satisfies n script) (verdictNumber v)
+means-demand hidden n sheet script Equal s = same-demand hidden (Satisfies n sheet) (Satisfies n script) s
+means-demand hidden n sheet script (Loose r) s = loose-demand hidden (Satisfies n sheet) (Satisfies n script) (s .0)
+means-demand hidden n sheet script (Tight r) s = tight-demand hidden (Satisfies n sheet) (Satisfies n script) (s .0)
+
+-- the verdict is demand 3's
+pub verdict-demand : (n set : ℕ) (sheet script workspace values : List ℤ) → Markable n set sheet script workspace values
+    → ByDemand (hiddenIn set) (Satisfies n sheet) (Satisfies n script) (verdictNumber (verdictOf (hiddenIn set) n sheet script))
+verdict-demand n set sheet script workspace values m =
+    means-demand (hiddenIn set) n sheet script (verdictOf (hiddenIn set) n sheet script) (verdict-means n set sheet script workspace values m)
+
+-- a loose one carries the rule that it is to carry
+pub verdict-loose : (n set : ℕ) (sheet script workspace values : List ℤ) → Markable n set sheet script workspace values
+    → (rule : Rule) → verdictOf (hiddenIn set) n sheet script ≡ Loose rule → LooseRule (hiddenIn set) n sheet (Satisfies n script) rule
+verdict-loose n set sheet script workspace values m rule e =
+    let s = verdict-means n set sheet script workspace values m in let t : Means (hiddenIn set) n sheet script (Loose rule) = rw e at s in t .1
+
+-- and so does a tight one
+pub verdict-tight : (n set : ℕ) (sheet script workspace values : List ℤ) → Markable n set sheet script workspace values
+    → (rule : Rule) → verdictOf (hiddenIn set) n sheet script ≡ Tight rule → TightRule n (Satisfies n sheet) script rule
+verdict-tight n set sheet script workspace values m rule e =
+    let s = verdict-means n set sheet script workspace values m in let t : Means (hiddenIn set) n sheet script (Tight rule) = rw e at s in t .1

@@ -1,0 +1,348 @@
+-- The records of marking's contracts, from plain facts. Assumes nothing.
+use mathlib.Core.Path.{_≡_, refl, sym, _∙_}
+use mathlib.Core.Bool.{Bool, true, false}
+use mathlib.Core.List.{List, [], _∷_}
+use mathlib.Core.Logic.{inl, inr}
+use Prim.Native.Nat.{ℕ, suc, _≤_}
+use native.Mathlib.Omega.{arith}
+use lib.IntN.{ℤ, pos}
+use lib.ListN.{length}
+use types.Run.{OneOf}
+use denote.Enum.Declared.{tagOf}
+use Rattle.words.specs.Change.{wordAt, change, copying}
+use Rattle.places.specs.Numbering.{blockStart}
+use Rattle.rules.specs.declared.refusal.Refusal.{Refusal}
+use Rattle.rules.specs.declared.rule.Rule.{Rule}
+use Rattle.rules.specs.declared.rule.Rule.the-variants.{One, Two, Nothing}
+use Rattle.rules.specs.Hidden.{hiddenIn}
+use Rattle.rules.specs.Steps.{trivialRule}
+use Rattle.rules.proofs.rule.Rule.{the-type}
+use Rattle.tables.specs.declared.reply.Reply.{Reply}
+use Rattle.tables.specs.declared.reply.Reply.the-variants.{Done}
+use Rattle.tables.specs.declared.reply.Reply.the-variants.{Refused as NotDone}
+use Rattle.tables.specs.Tables.{tableSize}
+use Rattle.tables.specs.Meaning.{Satisfies}
+use Rattle.tables.proofs.Sizes.{size-whole, long-serves}
+use Rattle.tables.proofs.Tests.{clash}
+use Rattle.keys.specs.Keys.{keyOf, refuted, assignmentChecks}
+use Rattle.keys.specs.Reducing.{reduceUpTo, fillDown}
+use Rattle.keys.specs.Promises.{Lent, Decided}
+use Rattle.keys.proofs.Copying.{copied, holds-same, same-unnamed}
+use Rattle.keys.proofs.Deciding.{refuted-exactly}
+use Rattle.keys.proofs.Checking.{lent-done, values-passed}
+use Rattle.keys.proofs.Promised.{untouched, assignment-done}
+use Rattle.marking.specs.declared.verdict.Verdict.{Verdict}
+use Rattle.marking.specs.declared.verdict.Verdict.the-variants.{Equal, Loose, Tight}
+use Rattle.marking.specs.declared.verdict.Marking.the-variants.{Marked, Refused}
+use Rattle.marking.specs.Verdicts.{verdictNumber, hasTerm}
+use Rattle.marking.specs.Marking.{firstBroken, orElse, verdictOf, workspaceSize, markChecks, markReply}
+use Rattle.marking.specs.Meaning.{LooseShown, TightShown}
+use Rattle.marking.specs.Promises.{Markable, VerdictGiven, TablesMarked, FrontBreakable, FrontBroken}
+use Rattle.marking.proofs.Checking.{checks-tell, checks-seven}
+use Rattle.marking.proofs.Zeros.{unnamed-zero}
+use Rattle.marking.proofs.Opposed.{visible-unnamed, sheet-fitting, script-fitting, tight-opposed, loose-opposed, tight-small, loose-small}
+use Rattle.marking.proofs.Demand.{verdict-demand, verdict-loose, verdict-tight}
+use Rattle.marking.proofs.Lending.{lent-again, decided-lent, Fronted, copy-fronted, same-broken}
+use Rattle.marking.proofs.Showing.{zero-words, loose-shows, tight-shows}
+
+-- ---- which verdict it is
+
+-- equal is not loose
+equal-loose : (r : Rule) → Equal ≡ Loose r → ⊥
+equal-loose r e = let z : _≡_ {A = ℕ} 0 1 = cc in omega arith
+
+-- equal is not tight
+equal-tight : (r : Rule) → Equal ≡ Tight r → ⊥
+equal-tight r e = let z : _≡_ {A = ℕ} 0 1 = cc in omega arith
+
+-- loose is not tight
+loose-tight : (r s : Rule) → Loose r ≡ Tight s → ⊥
+loose-tight r s e = let z : _≡_ {A = ℕ} 0 1 = cc in omega arith
+
+-- two loose verdicts that are the same carry the same rule
+loose-inj : (r s : Rule) → Loose r ≡ Loose s → r ≡ s
+loose-inj r s e = cc
+
+-- so do two tight ones
+tight-inj : (r s : Rule) → Tight r ≡ Tight s → r ≡ s
+tight-inj r s e = cc
+
+-- a refusal is no verdict
+refused-marked : (f : Refusal) (r : Verdict) → Refused f ≡ Marked r → ⊥
+refused-marked f r e = let z : _≡_ {A = ℕ} 0 1 = cc in omega arith
+
+-- two replies that are the same give the same verdict
+marked-inj : (r s : Verdict) → Marked r ≡ Marked s → r ≡ s
+marked-inj r s e = cc
+
+-- no verdict's number is 7
+number-seven : (r : Verdict) → verdictNumber r ≡ 7 → ⊥
+number-seven Equal e = omega arith
+number-seven (Loose r) e = omega arith
+number-seven (Tight r) e = omega arith
+
+-- equal: nothing is written
+given-equal : (n set : ℕ) (sheet script w v w' v' : List ℤ) → Equal ≡ verdictOf (hiddenIn set) n sheet script → Lent (workspaceSize n) true w w' → v' ≡ v
+    → VerdictGiven n set sheet script w v Equal w' v'
+given-equal n set sheet script w v w' v' e l k = record {
+  reply = e;
+  lent = l;
+  written = rw k (untouched n false v);
+  loose-shown = λ rule d. absurd (equal-loose rule d);
+  tight-shown = λ rule d. absurd (equal-tight rule d);
+}
+
+-- loose with a rule and the assignment that shows it
+given-loose : (n set : ℕ) (sheet script w v : List ℤ) (r : Rule) (w' v' : List ℤ) → Loose r ≡ verdictOf (hiddenIn set) n sheet script
+    → Lent (workspaceSize n) true w w' → Lent n true v v' → LooseShown n (hiddenIn set) (Satisfies n sheet) (Satisfies n script) r v'
+    → VerdictGiven n set sheet script w v (Loose r) w' v'
+given-loose n set sheet script w v r w' v' e l k s = record {
+  reply = e;
+  lent = l;
+  written = k;
+  loose-shown = λ rule d. rw (← loose-inj r rule d) s;
+  tight-shown = λ rule d. absurd (loose-tight r rule d);
+}
+
+-- tight with a rule and the assignment that shows it
+given-tight : (n set : ℕ) (sheet script w v : List ℤ) (r : Rule) (w' v' : List ℤ) → Tight r ≡ verdictOf (hiddenIn set) n sheet script
+    → Lent (workspaceSize n) true w w' → Lent n true v v' → TightShown n (hiddenIn set) (Satisfies n sheet) (Satisfies n script) r v'
+    → VerdictGiven n set sheet script w v (Tight r) w' v'
+given-tight n set sheet script w v r w' v' e l k s = record {
+  reply = e;
+  lent = l;
+  written = k;
+  loose-shown = λ rule d. absurd (loose-tight rule r (sym d));
+  tight-shown = λ rule d. rw (← tight-inj r rule d) s;
+}
+
+-- ---- what the checks leave
+
+-- the words of the workspace and of the assignment do not matter, their lengths do
+pub markable-again : (n set : ℕ) (sheet script w v w' v' : List ℤ) → Markable n set sheet script w v → length w' ≡ length w → length v' ≡ length v
+    → Markable n set sheet script w' v'
+markable-again n set sheet script w v w' v' m e d = record {
+  some = m .some;
+  most = m .most;
+  sheet-room = m .sheet-room;
+  script-room = m .script-room;
+  room = rw e (m .room);
+  values-room = rw d (m .values-room);
+  set-within = m .set-within;
+  sheet-limit = m .sheet-limit;
+  script-limit = m .script-limit;
+  visible = m .visible;
+}
+
+-- the workspace is long enough for one table
+pub one-table : (n set : ℕ) (sheet script w v : List ℤ) → Markable n set sheet script w v → blockStart n ≤ length w
+one-table n set sheet script w v m = omega (arith, m .room)
+
+-- the checks of finding an assignment of the script pass
+assignment-passes : (n set : ℕ) (sheet script w v : List ℤ) → Markable n set sheet script w v
+    → assignmentChecks n script (length w) (length v) ≡ Done
+assignment-passes n set sheet script w v m =
+    let served = long-serves n (length script) (m .some) (m .most) (m .script-room) in
+    let lent = lent-done n (length script) (length w) (blockStart n) served (sym (size-whole n (m .most))) (one-table n set sheet script w v m) in
+    sym (values-passed n (length w) (length v) script (sym lent) (m .values-room) (m .script-limit))
+
+-- ---- a sheet that no integers satisfy
+
+-- equal where none satisfy the script either
+pub without-equal : (n set : ℕ) (sheet script w v w' : List ℤ) → refuted n sheet ≡ true → Decided n script w true w'
+    → VerdictGiven n set sheet script w v Equal w' v
+unfolding verdictOf
+without-equal n set sheet script w v w' e d =
+    given-equal n set sheet script w v w' v (rw (e, ← d .reply))
+    (decided-lent n script w true w' d) refl
+
+-- loose with no rule where the values read back satisfy the script
+pub without-loose : (n set : ℕ) (sheet script w v : List ℤ) (r : Rule) (w' v' : List ℤ) → Markable n set sheet script w v → refuted n sheet ≡ true
+    → Decided n script w false w' → v' ≡ fillDown n w' n v → r ≡ trivialRule → VerdictGiven n set sheet script w v (Loose r) w' v'
+unfolding verdictOf
+without-loose n set sheet script w v r w' v' m e d k t =
+    let a = assignment-done n script w v w' v' (assignment-passes n set sheet script w v m) d k in
+    let none = refuted-exactly n sheet (sheet-fitting n set sheet script w v m) .0 e in
+    rw t (given-loose n set sheet script w v trivialRule w' v' (rw (e, ← d .reply))
+    (decided-lent n script w false w' d) (a .written) (record {
+      allowed = a .meaning refl;
+      incomplete = λ s. none _ (s .complete);
+      breaks = tt;
+      zero = zero-words n (hiddenIn set) v' (λ j h g. rw (k, d .words refl) (zeros j h g));
+      range = a .range refl;
+    }))
+  where
+    u : List ℤ
+    u = change (blockStart n) (copying script) w
+
+    zeros : (j : ℕ) → suc j ≤ n → hiddenIn set (suc j) ≡ true → wordAt (fillDown n (reduceUpTo n n u) n v) j ≡ pos 0
+    zeros j h g =
+        let same = copied n script w (m .script-room) (one-table n set sheet script w v m) in
+        unnamed-zero n u v j (same .theirs) h (m .values-room)
+        (same-unnamed n j script u same (visible-unnamed (hiddenIn set) n j script (m .visible) g))
+
+-- the verdict then is that of the whole, the workspace having been lent once more before
+pub verdict-without : (n set : ℕ) (sheet script w v u : List ℤ) (b : Bool) (r : Verdict) (w' v' : List ℤ) → Decided n sheet w b u
+    → VerdictGiven n set sheet script u v r w' v' → VerdictGiven n set sheet script w v r w' v'
+verdict-without n set sheet script w v u b r w' v' d g = record {
+  reply = g .reply;
+  lent = lent-again (workspaceSize n) true true w u w' (decided-lent n sheet w b u d) (g .lent);
+  written = g .written;
+  loose-shown = g .loose-shown;
+  tight-shown = g .tight-shown;
+}
+
+-- ---- a sheet that some integers satisfy
+
+-- a workspace that was lent, with a table copied to its front
+pub table-there : (n set : ℕ) (sheet script w v t : List ℤ) (a : ℕ) (u w' : List ℤ) → Markable n set sheet script w v → blockStart n ≤ length t
+    → Lent (workspaceSize n) true w u → a ≡ tableSize n → w' ≡ change a (copying t) u → Fronted n t w w'
+table-there n set sheet script w v t a u w' m l lent d e =
+    copy-fronted n t w u w' l (m .room) lent (let p : a ≡ blockStart n = d ∙ size-whole n (m .most) in rw p at e)
+
+-- the key at the front of the workspace: its rules may be broken by the script's assignments
+pub loose-breakable : (n set : ℕ) (sheet script w v w' : List ℤ) → Markable n set sheet script w v → Fronted n (keyOf (hiddenIn set) n sheet) w w'
+    → FrontBreakable n script w' v
+loose-breakable n set sheet script w v w' m f = record {
+  fits = script-fitting n set sheet script w v m;
+  some = m .some;
+  opposed = λ k p. rw (f .front .words k (p .inside)) (loose-opposed n set sheet script w v m k (holds-same n _ w' k (f .front) p));
+  small = λ k p. rw (f .front .words k (p .inside)) (loose-small n set sheet script w v m k (holds-same n _ w' k (f .front) p));
+  room = rw (f .lent .size) (m .room);
+  values-room = m .values-room;
+}
+
+-- the script at the front of the workspace: its rules may be broken by the sheet's assignments
+pub tight-breakable : (n set : ℕ) (sheet script w v w' v' : List ℤ) → Markable n set sheet script w v → Fronted n script w w' → v' ≡ v
+    → FrontBreakable n sheet w' v'
+tight-breakable n set sheet script w v w' v' m f e = record {
+  fits = sheet-fitting n set sheet script w v m;
+  some = m .some;
+  opposed = λ k p. rw (f .front .words k (p .inside)) (tight-opposed n set sheet script w v m k (holds-same n script w' k (f .front) p));
+  small = λ k p. rw (f .front .words k (p .inside)) (tight-small n set sheet script w v m k (holds-same n script w' k (f .front) p));
+  room = rw (f .lent .size) (m .room);
+  values-room = rw e (m .values-room);
+}
+
+-- a rule of one or two quantities is carried
+carry-term : (carry : Rule → Verdict) (r : Rule) (next : Verdict) → hasTerm r ≡ true → carry r ≡ orElse carry r next
+carry-term carry (One x c) next e = refl
+carry-term carry (Two x y c) next e = refl
+carry-term carry (Nothing c) next e = clash e refl
+
+-- any other is passed over
+pass-bare : (carry : Rule → Verdict) (r : Rule) (next : Verdict) → hasTerm r ≡ false → orElse carry r next ≡ next
+pass-bare carry (One x c) next e = clash refl e
+pass-bare carry (Two x y c) next e = clash refl e
+pass-bare carry (Nothing c) next e = refl
+
+-- a bare rule is of no quantity
+pub bare-term : (r : Rule) (c : ℤ) → r ≡ Nothing c → hasTerm r ≡ false
+bare-term r c e = rw e
+
+-- a rule of one of the other two cases is of one or two
+pub other-term : (r : Rule) → OneOf (0 ∷ 1 ∷ []) (tagOf the-type r) → hasTerm r ≡ true
+other-term (One x c) o = refl
+other-term (Two x y c) o = refl
+other-term (Nothing c) (inl o) = let z : ⊥ = omega arith in absurd z
+other-term (Nothing c) (inr o) = let z : ⊥ = omega arith in absurd z
+
+-- loose where a rule of the key is broken
+pub loose-given : (n set : ℕ) (sheet script w v u : List ℤ) (r : Rule) (w' v' : List ℤ) → Markable n set sheet script w v → refuted n sheet ≡ false
+    → Fronted n (keyOf (hiddenIn set) n sheet) w u → FrontBroken n script u v r w' v' → hasTerm r ≡ true
+    → VerdictGiven n set sheet script w v (Loose r) w' v'
+unfolding verdictOf
+loose-given n set sheet script w v u r w' v' m e f b h =
+    given-loose n set sheet script w v r w' v' (rw (e, ← same-broken n _ u script (f .front), ← b .reply) (carry-term Loose r _ h))
+    (lent-again (workspaceSize n) true true w u w' (f .lent) (b .lent))
+    (rw h at (b .written))
+    (loose-shows n (hiddenIn set) sheet script u r v' (sheet-fitting n set sheet script w v m) e (m .visible) (f .front) (b .some h) (b .shown h))
+
+-- no rule of the key is broken: the workspace is lent on, and the values stay
+pub record NoneLoose (n set : ℕ) (sheet script w v w' v' : List ℤ) : Type 0 where
+  pub none : hasTerm (firstBroken n (keyOf (hiddenIn set) n sheet) script) ≡ false
+  pub lent : Lent (workspaceSize n) true w w'
+  pub kept : v' ≡ v
+
+-- so where the first one found is none
+pub none-loose : (n set : ℕ) (sheet script w v u : List ℤ) (r : Rule) (w' v' : List ℤ) → Fronted n (keyOf (hiddenIn set) n sheet) w u
+    → FrontBroken n script u v r w' v' → hasTerm r ≡ false → NoneLoose n set sheet script w v w' v'
+none-loose n set sheet script w v u r w' v' f b h = record {
+  none = rw (← same-broken n _ u script (f .front), ← b .reply) h;
+  lent = lent-again (workspaceSize n) true true w u w' (f .lent) (b .lent);
+  kept = b .written .kept h;
+}
+
+-- then tight where a rule of the script is broken
+pub tight-given : (n set : ℕ) (sheet script w v y x u : List ℤ) (r : Rule) (w' v' : List ℤ) → refuted n sheet ≡ false
+    → NoneLoose n set sheet script w v y x → Fronted n script w u → FrontBroken n sheet u x r w' v' → hasTerm r ≡ true
+    → VerdictGiven n set sheet script w v (Tight r) w' v'
+unfolding verdictOf
+tight-given n set sheet script w v y x u r w' v' e p f b h =
+    given-tight n set sheet script w v r w' v'
+    (rw (e, pass-bare Loose _ (orElse Tight (firstBroken n script sheet) Equal) (p .none), ← same-broken n script u sheet (f .front), ← b .reply)
+    (carry-term Tight r _ h))
+    (lent-again (workspaceSize n) true true w u w' (f .lent) (b .lent))
+    (rw (p .kept, h) at (b .written))
+    (tight-shows n (hiddenIn set) sheet script u r v' (f .front) (b .some h) (b .shown h))
+
+-- and else equal
+pub equal-given : (n set : ℕ) (sheet script w v y x u : List ℤ) (r : Rule) (w' v' : List ℤ) → refuted n sheet ≡ false
+    → NoneLoose n set sheet script w v y x → Fronted n script w u → FrontBroken n sheet u x r w' v' → hasTerm r ≡ false
+    → VerdictGiven n set sheet script w v Equal w' v'
+unfolding verdictOf
+equal-given n set sheet script w v y x u r w' v' e p f b h =
+    given-equal n set sheet script w v w' v'
+    (rw (
+      e,
+      pass-bare Loose _ (orElse Tight (firstBroken n script sheet) Equal) (p .none),
+      ← same-broken n script u sheet (f .front),
+      ← b .reply,
+      pass-bare Tight r Equal h,
+    ))
+    (lent-again (workspaceSize n) true true w u w' (f .lent) (b .lent))
+    (b .written .kept h ∙ p .kept)
+
+-- ---- marking two tables
+
+-- checks that are done leave what a verdict asks
+pub checked-markable : (n set : ℕ) (sheet script w v : List ℤ) (a : Reply) → a ≡ markChecks n set sheet script (length w) (length v) → a ≡ Done
+    → Markable n set sheet script w v
+checked-markable n set sheet script w v a e d = checks-tell n set sheet script w v (sym e ∙ d)
+
+-- a refusal: no word is changed
+pub mark-refused : (n set : ℕ) (sheet script w v : List ℤ) (a : Reply) (f : Refusal) → a ≡ markChecks n set sheet script (length w) (length v) → a ≡ NotDone f
+    → TablesMarked n set sheet script w v (Refused f) w v
+unfolding markReply
+mark-refused n set sheet script w v a f e d = record {
+  reply = rw (← e, d);
+  lent = untouched (workspaceSize n) false w;
+  written = untouched n false v;
+  visible = λ c. clash c refl;
+  mismatch = λ c. checks-seven n set sheet script (length w) (length v) f (sym e ∙ d) c;
+  demand = λ c. clash c refl;
+  loose-rule = λ rule c. absurd (refused-marked f (Loose rule) c);
+  tight-rule = λ rule c. absurd (refused-marked f (Tight rule) c);
+  loose-shown = λ rule c. absurd (refused-marked f (Loose rule) c);
+  tight-shown = λ rule c. absurd (refused-marked f (Tight rule) c);
+}
+
+-- a verdict
+pub mark-given : (n set : ℕ) (sheet script w v : List ℤ) (a : Reply) (r : Verdict) (w' v' : List ℤ)
+    → a ≡ markChecks n set sheet script (length w) (length v) → a ≡ Done → VerdictGiven n set sheet script w v r w' v'
+    → TablesMarked n set sheet script w v (Marked r) w' v'
+unfolding markReply
+mark-given n set sheet script w v a r w' v' e d g =
+    let m = checked-markable n set sheet script w v a e d in
+    record {
+      reply = rw (← e, d, ← g .reply);
+      lent = g .lent;
+      written = g .written;
+      visible = λ c. m .visible;
+      mismatch = λ c. absurd (number-seven r c);
+      demand = λ c. rw (g .reply) (verdict-demand n set sheet script w v m);
+      loose-rule = λ rule c. verdict-loose n set sheet script w v m rule (sym (g .reply) ∙ marked-inj r (Loose rule) c);
+      tight-rule = λ rule c. verdict-tight n set sheet script w v m rule (sym (g .reply) ∙ marked-inj r (Tight rule) c);
+      loose-shown = λ rule c. g .loose-shown rule (marked-inj r (Loose rule) c);
+      tight-shown = λ rule c. g .tight-shown rule (marked-inj r (Tight rule) c);
+    }

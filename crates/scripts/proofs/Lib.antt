@@ -1,4 +1,11 @@
--- The laws of two texts marked: what a fine text's rules and hidden list come to.
+-- The laws of two texts marked: what a fine text's rules and hidden list come to, when a script fits a sheet, and what each way that marking ends promises.
 pub mod Rules
 pub mod Hiddens
 pub mod Sheets
+pub mod Matching
+pub mod Judging
+pub mod Alike
+pub mod Pairs
+pub mod Rooms
+pub mod Promised
+pub mod Endings

@@ -18,7 +18,8 @@ use Rattle.reading.specs.Meaning.{rulesOf}
 use Rattle.writing.specs.Writing.{writeReply, writingNumber, writingValue}
 use Rattle.writing.specs.Promises.{TextWritten}
 use Rattle.scripts.specs.Replies.{textNumber}
-use Rattle.scripts.specs.Meaning.{setIn, Accepted}
+use Rattle.scripts.specs.Meaning.{setIn}
+use Rattle.scripts.specs.Meaning.{Accepted as AcceptedPair}
 use Rattle.scripts.specs.Marking.{textsReply, lentTable, lentWorkspace}
 use Rattle.scripts.specs.Promises.{TextsJudged}
 
@@ -62,7 +63,7 @@ pub record MarkAnswer (sheet script : List ℕ) (r : ℕ) : Type 0 where
   pub number : r ≡ textNumber (textsReply sheet script lentTable lentTable lentWorkspace maxQuantities)
   -- refused exactly for these reasons, and a verdict by demand 3, of the rules as written
   pub judged : TextsJudged sheet script lentTable lentTable lentWorkspace maxQuantities (textsReply sheet script lentTable lentTable lentWorkspace maxQuantities)
-  pub demand : (t : Accepted sheet script lentTable lentTable lentWorkspace maxQuantities)
+  pub demand : (t : AcceptedPair sheet script lentTable lentTable lentWorkspace maxQuantities)
       → ByDemand (hiddenIn (setIn (t .of-sheet))) (rulesOf (t .of-sheet)) (rulesOf (t .of-script)) r
   -- there is room for every sheet, so 6 does not come, and 5 is no reply of marking
   pub never : ((r ≡ 5) → ⊥) × ((r ≡ 6) → ⊥)

@@ -1,2 +1,3 @@
 -- What the exported functions' proofs share.
 pub mod Promised
+pub mod Frauds

@@ -1,20 +1,20 @@
 -- The contract of hiding one quantity, from plain facts. Assumes nothing.
 use mathlib.Core.Path.{_≡_, sym, _∙_}
-use mathlib.Core.Bool.{Bool, true}
+use mathlib.Core.Bool.{Bool}
 use mathlib.Core.List.{List}
 use Prim.Native.Nat.{ℕ, suc, _+_, _≤_, _<_}
 use native.Mathlib.Numerals.{add-one}
 use native.Mathlib.Omega.{arith}
 use lib.IntN.{ℤ}
 use lib.ListN.{length}
-use borrow.Author.Tests.{lt-ltb, le-leb}
+use borrow.Author.Tests.{le-leb}
 use Rattle.places.specs.Numbering.{blockStart}
-use Rattle.places.proofs.Numbering.{blockStart-above}
 use Rattle.rules.specs.Limits.{maxQuantities}
 use Rattle.tables.specs.declared.reply.Reply.{Reply}
 use Rattle.tables.specs.declared.reply.Reply.the-variants.{Done}
-use Rattle.tables.specs.Tables.{tableSize, serves, clearReply}
+use Rattle.tables.specs.Tables.{clearReply}
 use Rattle.tables.specs.Promises.{Cleared}
+use Rattle.tables.proofs.Sizes.{long-serves}
 use Rattle.elimination.specs.Hiding.{eliminated}
 use Rattle.elimination.specs.Promises.{Ready, Paired, QuantityHidden}
 use Rattle.elimination.proofs.Step.{Adds, paired-length}
@@ -22,15 +22,9 @@ use Rattle.elimination.proofs.Exact.{eliminate-exact, eliminate-none}
 use Rattle.elimination.proofs.Growth.{eliminated-within}
 use Rattle.elimination.proofs.Document.{by-rules}
 
--- a table of a ready n is served
-served : (n words : ℕ) → 1 ≤ n → n ≤ maxQuantities → blockStart n ≤ words → serves n words ≡ true
-unfolding serves tableSize
-served n words h g l =
-    rw (le-leb 1 n h, le-leb n maxQuantities g, lt-ltb 0 (blockStart n) (omega (arith, blockStart-above n)), le-leb (blockStart n) words l)
-
 clear-done : (n j words : ℕ) → j < n → n ≤ maxQuantities → blockStart n ≤ words → clearReply n words (suc j) ≡ Done
 unfolding clearReply
-clear-done n j words h g l = rw (served n words (omega arith) g l, le-leb 1 (suc j) (omega arith), le-leb (suc j) n (omega arith))
+clear-done n j words h g l = rw (long-serves n words (omega arith) g l, le-leb 1 (suc j) (omega arith), le-leb (suc j) n (omega arith))
 
 -- the sums put in, then the quantity's places cleared
 pub hidden-done : (n j : ℕ) (t u v : List ℤ) (r : Bool) (reply : Reply) → Ready n j t → Paired 0 n j t r u → Cleared n (j + 1) u reply v → QuantityHidden n j t r v

@@ -13,6 +13,9 @@ fn read_file(path: &[u8], text: &mut [u8]) -> usize
     ensures { λ r. ⌜ Counts r (now (text .exit)) ⌝ }
 {
     let file = os::open_read(path);
+    if file < 0 {
+        return 0;
+    }
     let length = io::read_full(file, text);
     libc::close(file);
     length

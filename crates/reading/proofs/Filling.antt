@@ -4,21 +4,19 @@ use mathlib.Core.Bool.{true}
 use mathlib.Core.List.{List, [], _++_}
 use Prim.Native.Nat.{ℕ, _+_, _-_, _≤_, _<_}
 use native.Mathlib.Nat.{sub-zero}
-use native.Mathlib.Omega.{arith}
 use lib.IntN.{ℤ}
 use lib.ListN.{length, drop, length-replicate}
 use lib.Seq.{drop-at}
-use borrow.Author.Tests.{le-leb, lt-ltb}
 use Rattle.places.specs.Numbering.{blockStart}
-use Rattle.places.proofs.Numbering.{blockStart-above}
 use Rattle.rules.specs.declared.refusal.Refusal.{Refusal}
 use Rattle.rules.specs.declared.rule.Rule.{Rule}
-use Rattle.rules.specs.Limits.{maxQuantities, maxBound, noRule}
+use Rattle.rules.specs.Limits.{maxBound, noRule}
 use Rattle.rules.specs.Steps.{halvedOf}
 use Rattle.tables.specs.declared.reply.Reply.{Reply}
 use Rattle.tables.specs.declared.reply.Reply.the-variants.{Done}
-use Rattle.tables.specs.Tables.{tableSize, serves, emptyTable, ruleReply, putReply, putRule, putAll}
+use Rattle.tables.specs.Tables.{serves, emptyTable, ruleReply, putReply, putRule, putAll}
 use Rattle.tables.specs.Promises.{Emptied, Put}
+use Rattle.tables.proofs.Sizes.{long-serves}
 use Rattle.lines.specs.Spelling.{Written, lineWithin, writtenRule, writtenRules}
 use Rattle.lines.specs.Lines.{accepted, refused, ruleJudged}
 use Rattle.lines.proofs.Found.{RuleFound}
@@ -31,12 +29,6 @@ use Rattle.reading.proofs.Headers.{Opened, passed-opened}
 use Rattle.reading.proofs.Fronts.{filled-from}
 
 -- ---- what the calls on the table do
-
--- a table long enough for an n in its range serves it
-pub served : (n words : ℕ) → 1 ≤ n → n ≤ maxQuantities → blockStart n ≤ words → serves n words ≡ true
-unfolding serves tableSize
-served n words l h r =
-    rw (le-leb 1 n l, le-leb n maxQuantities h, lt-ltb 0 (blockStart n) (omega (arith, blockStart-above n)), le-leb (blockStart n) words r)
 
 -- it is emptied, and an accepted rule is put in
 emptied-table : (n : ℕ) (t : List ℤ) (r : Reply) (u : List ℤ) → serves n (length t) ≡ true → Emptied n t r u
@@ -69,7 +61,7 @@ module _ (s : List ℕ) (n count body : ℕ) (p : Passes s n count body) (t : Li
 
   -- the table is emptied
   emptied : u ≡ emptyTable n ++ drop (blockStart n) t
-  emptied = emptied-table n t r u (served n (length t) (opened .some) (opened .most) l) e
+  emptied = emptied-table n t r u (long-serves n (length t) (opened .some) (opened .most) l) e
 
   -- the words past the table stay
   stays : drop (blockStart n) u ≡ drop (blockStart n) t

@@ -52,7 +52,7 @@ pub allowed : SheetAllows hidden sheet (of-one-and-three (pos 3) (pos 0))
 allowed = record { hiddens = of-two (pos 1); complete = completes }
 
 -- nothing completes 0 and 6: quantity 2 would be at least 6 and at most 5
-nothing-between : (b : ℤ) → (pos 0 +ℤ b) ≤ℤ pos 5 → (pos 6 +ℤ negℤ b) ≤ℤ pos 0 → ⊥
+pub nothing-between : (b : ℤ) → (pos 0 +ℤ b) ≤ℤ pos 5 → (pos 6 +ℤ negℤ b) ≤ℤ pos 0 → ⊥
 unfolding positivePart negativePart
 nothing-between b h g = omega (linear, parts-add (pos 0) b, parts-add (pos 6) (negℤ b), parts-neg b)
 

@@ -12,7 +12,8 @@ use Rattle.lines.specs.Lines.{ruleJudged}
 use Rattle.lines.proofs.Found.{rule-found, rule-refused}
 use Rattle.reading.specs.Reading.{checkText, filled}
 use Rattle.reading.proofs.Headers.{Opened, passed-opened}
-use Rattle.reading.proofs.Filling.{Filling, served, filling-begins, filled-emptied, never-stuck, filling-again, filling-over}
+use Rattle.tables.proofs.Sizes.{long-serves}
+use Rattle.reading.proofs.Filling.{Filling, filling-begins, filled-emptied, never-stuck, filling-again, filling-over}
 use Rattle.reading.proofs.fill.fill.Statement.{statement}
 use Rattle.reading.proofs.fill.fill.Tie as tie
 
@@ -81,7 +82,7 @@ loop-again c = let k = c .before .before .before .before in let g = k .before .b
     let s = l .before .before .before .before .before in let a = s .args in let o = opened s in
     filling-again (now (a .s)) (a .n) (a .count) (l .before .before .empty .last .1 .0) (l .loop .table) (l .loop .at) (l .loop .i) (l .loop .inv)
     (k .got .given .0 .0) (k .got .given .0 .1 .0) (c .before .put .result) (c .before .put .last .1 .0) (g .before .loop-test .taken)
-    (served (a .n) (length (l .loop .table)) (o .some) (o .most) (omega (arith, long l, s .pre .1)))
+    (long-serves (a .n) (length (l .loop .table)) (o .some) (o .most) (omega (arith, long l, s .pre .1)))
     (rule-found (now (a .s)) (a .n) maxBound (l .loop .i + 4) (l .loop .at) (k .got .given .0 .0) (k .got .given .0 .1 .0)
     (sym (g .rule-line .ensures) ∙ k .got .given .1))
     (c .before .put .ensures) (c .before .put .kept .1 .0)

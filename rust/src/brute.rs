@@ -36,17 +36,29 @@ pub fn has_assignment(n: usize, rules: &[Rule]) -> bool {
 /// Visible integers on which the key is wrong: it allows them though no hidden integers complete them, or the other way
 /// round. The key names no hidden quantity.
 pub fn wrong_on(n: usize, hidden: u32, sheet: &[Rule], key: &[Rule]) -> Option<Vec<i64>> {
-    let (hidden_ones, visible): (Vec<usize>, Vec<usize>) = (1..=n).partition(|&q| is_in(hidden, q));
-    let reach = visible_radius(&hidden_ones, &visible, sheet, key);
+    choice(n, hidden, sheet, key, |allowed, completed| allowed != completed)
+}
+
+/// Visible integers that are as wanted, which is asked of whether the script allows them and whether hidden integers
+/// complete them. A script, as a key, names no hidden quantity.
+pub fn choice(
+    n: usize,
+    hidden: u32,
+    sheet: &[Rule],
+    script: &[Rule],
+    wanted: fn(bool, bool) -> bool,
+) -> Option<Vec<i64>> {
+    let (hidden_ones, visible) = parted(n, hidden);
+    let reach = visible_radius(&hidden_ones, &visible, sheet, script);
     let (among_visible, rest): (Vec<Rule>, Vec<Rule>) = sheet.iter().partition(|rule| !rule.term.names(hidden));
     let hidden_reach = hidden_radius(&hidden_ones, reach, sheet);
     let completion = Search::new(&hidden_ones, &rest, hidden_reach);
     let mut values = vec![0; n];
     visible.iter().for_each(|&q| values[q - 1] = -reach);
     loop {
-        let allowed = broken(key, &values).is_none();
+        let allowed = broken(script, &values).is_none();
         let completed = broken(&among_visible, &values).is_none() && completion.finds(&mut values.clone(), 0);
-        if allowed != completed {
+        if wanted(allowed, completed) {
             return Some(values);
         }
         if !advance(&visible, reach, &mut values) {
@@ -55,13 +67,27 @@ pub fn wrong_on(n: usize, hidden: u32, sheet: &[Rule], key: &[Rule]) -> Option<V
     }
 }
 
+/// How many integers `choice` has to try at most: all visible ones, with all hidden ones for each.
+pub fn tries(n: usize, hidden: u32, sheet: &[Rule], script: &[Rule]) -> u128 {
+    let (hidden_ones, visible) = parted(n, hidden);
+    let reach = visible_radius(&hidden_ones, &visible, sheet, script);
+    let hidden_reach = hidden_radius(&hidden_ones, reach, sheet);
+    let all = |reach: i64, quantities: &[usize]| (2 * reach as u128 + 1).saturating_pow(quantities.len() as u32);
+    all(reach, &visible).saturating_mul(all(hidden_reach, &hidden_ones))
+}
+
+/// The hidden quantities and the visible ones.
+fn parted(n: usize, hidden: u32) -> (Vec<usize>, Vec<usize>) {
+    (1..=n).partition(|&q| is_in(hidden, q))
+}
+
 /// How far visible integers have to be tried.
 ///
 /// Let k quantities be hidden and the visible magnitudes have a gap wider than (k + 1) M + 1. In it stand at most k
 /// hidden magnitudes, so a part of it is wider than M, and so it is when the visible integers above the gap have gone
 /// one step toward 0. By the fact above, the integers before the step are completed exactly when those after it are. If
 /// the gap is also wider than the key's largest magnitude plus 1, the key too allows both or none. So a wrong choice with
-/// such a gap leads to a wrong choice nearer to 0, and the last one has no such gap.
+/// such a gap leads to one nearer to 0 that is wrong in the same way, and the last one has no such gap.
 fn visible_radius(hidden: &[usize], visible: &[usize], sheet: &[Rule], key: &[Rule]) -> i64 {
     let parts = (hidden.len() as u64 + 1) * largest_bound(sheet);
     let gap = parts.max(largest_bound(key)) + 1;

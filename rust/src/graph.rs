@@ -2,7 +2,8 @@
 //! "An improved tight closure algorithm for integer octagonal constraints"). No quantity is eliminated here.
 //!
 //! Each literal is a node. A rule s + t <= c is two arcs: from -s to t and from -t to s, each saying that the second
-//! node exceeds the first by at most c. A lone rule s <= c is the arc from -s to s of length 2c.
+//! node exceeds the first by at most c. A lone rule s <= c is the arc from -s to s of length 2c; a doubled one, s + s <= c,
+//! is that arc of length c, as it is written.
 
 use crate::meaning::{terms, Literal, Rule, Term};
 

@@ -1,4 +1,4 @@
-//! Judges Acornsled's static library from Rust: every reply of its four calls, its number and its value, and every lent
+//! Judges Acornsled's static library from Rust: every reply of its five calls, its number and its value, and every lent
 //! word and byte, against document 01.
 //!
 //! What a sheet means is decided by enumeration on small sheets (`brute`) and by shortest paths on all (`graph`), and
@@ -7,6 +7,9 @@
 //! against, the library's design in ordinary Rust (`plain`).
 //!
 //! What a text says is decided by spelling (`text`), and held against a parser in ordinary Rust (`plain_text`).
+//!
+//! What a script is worth is decided by the same two ways as a sheet's meaning, and no key is made for it (`marking`); it
+//! is held against the tightest tables of both papers in ordinary Rust (`plain_mark`).
 
 pub mod brute;
 pub mod calls;
@@ -18,9 +21,11 @@ pub mod due;
 pub mod graph;
 pub mod lent;
 pub mod library;
+pub mod marking;
 pub mod meaning;
 pub mod naive;
 pub mod plain;
+pub mod plain_mark;
 pub mod plain_text;
 pub mod random;
 pub mod run;

@@ -1,5 +1,5 @@
-//! The four calls that are judged, and their replies. The judge knows the calls as traits, so that it can be tried on
-//! wrong answers too: one for the calls on tables, one for the calls on texts.
+//! The five calls that are judged, and their replies. The judge knows the calls as traits, so that it can be tried on
+//! wrong answers too: one for the calls on tables, one for the calls on texts, one for the verdict on two texts.
 
 use std::fmt;
 
@@ -65,6 +65,19 @@ pub trait Texts: Sync {
 
     /// Writes the table's text to the first bytes of `out`.
     fn write(&self, n: usize, hidden: u32, table: &[i64], out: &mut [u8]) -> Reply;
+}
+
+/// What marking answers where nothing is refused (document 01, 'Programs and host').
+pub const EQUAL: u32 = 100;
+pub const LOOSE: u32 = 101;
+pub const TIGHT: u32 = 102;
+/// The script's n or hidden list is another, or one of its rules names a hidden quantity.
+pub const MISMATCH: u32 = 7;
+
+/// Shared by threads, as above.
+pub trait Marker: Sync {
+    /// The number of the verdict on two texts, or of the refusal alone.
+    fn mark(&self, sheet: &[u8], script: &[u8]) -> u32;
 }
 
 impl fmt::Display for Reply {

@@ -17,7 +17,7 @@ pub struct Literal {
     pub quantity: usize,
 }
 
-/// One literal, or two of different quantities.
+/// One literal, or two. A table's terms have two of different quantities; a text may also write one twice.
 #[derive(Clone, Copy, PartialEq, Eq, Debug)]
 pub struct Term {
     pub first: Literal,
@@ -112,10 +112,14 @@ pub fn broken<'a>(rules: &'a [Rule], values: &[i64]) -> Option<&'a Rule> {
     rules.iter().find(|rule| !rule.met(values))
 }
 
-/// The largest magnitude of a bound, 0 where there is none.
+/// The largest magnitude of a bound, 0 where there is none. That of a doubled term counts halved, for to integers it
+/// says the same of the term once.
 pub fn largest_bound(rules: &[Rule]) -> u64 {
-    let magnitudes = rules.iter().map(|rule| rule.bound.unsigned_abs());
-    magnitudes.max().unwrap_or(0)
+    let once = |rule: &Rule| match rule.term.second == Some(rule.term.first) {
+        true => rule.bound.div_euclid(2),
+        false => rule.bound,
+    };
+    rules.iter().map(|rule| once(rule).unsigned_abs()).max().unwrap_or(0)
 }
 
 impl fmt::Display for Literal {

@@ -7,6 +7,7 @@
 
 mod choose;
 mod step;
+pub mod tight;
 
 use crate::library::{too_short, Reply, DONE, NO_ASSIGNMENT, PAST_LIMIT, SIZE};
 use crate::meaning::{LIMIT, MOST_QUANTITIES, NO_RULE};

@@ -42,6 +42,11 @@ impl Sheet {
     /// A sheet of any size.
     pub fn any(random: &mut Random) -> Sheet {
         let n = random.within(1, MOST_QUANTITIES as i64) as usize;
+        Sheet::of(n, random)
+    }
+
+    /// A sheet of n quantities.
+    pub fn of(n: usize, random: &mut Random) -> Sheet {
         let range = random.pick(&[1, 10, 100_000, LIMIT / 2, LIMIT]);
         let slack = random.pick(&[0, 1, 2, 10, 1000, LIMIT / 10, LIMIT]);
         let bounds = match random.below(8) {

@@ -1,8 +1,9 @@
-//! The static library's four functions over `plain` and `plain_text`, under the same names: with the feature `plain`
-//! the declarations in `sys` are tried where no archive is built (`tests/linked.rs`).
+//! The static library's five functions over `plain`, `plain_text` and `plain_mark`, under the same names: with the
+//! feature `plain` the declarations in `sys` are tried where no archive is built (`tests/linked.rs`).
 
 use crate::library::Header;
 use crate::plain;
+use crate::plain_mark;
 use crate::plain_text;
 use std::slice::{from_raw_parts, from_raw_parts_mut};
 
@@ -86,4 +87,11 @@ unsafe extern "C" fn acornsled_write(
     let reply = plain_text::write(n, hidden, table, out);
     *value = reply.value;
     reply.number
+}
+
+#[no_mangle]
+unsafe extern "C" fn acornsled_mark(sheet: *const u8, sheet_len: usize, script: *const u8, script_len: usize) -> u32 {
+    // SAFETY: as above.
+    let (sheet, script) = unsafe { (from_raw_parts(sheet, sheet_len), from_raw_parts(script, script_len)) };
+    plain_mark::mark(sheet, script)
 }

@@ -1,7 +1,7 @@
 //! The static library's exported functions, declared as C sees them, and a safe wrapper for each.
-//! Nothing compares these declarations with the library's source, so they are kept to the four that are judged.
+//! Nothing compares these declarations with the library's source, so they are kept to the five that are judged.
 
-use crate::library::{Header, Library, Reply, Texts};
+use crate::library::{Header, Library, Marker, Reply, Texts};
 
 extern "C" {
     fn acornsled_key(
@@ -44,6 +44,8 @@ extern "C" {
         out_len: usize,
         value: *mut usize,
     ) -> u32;
+
+    fn acornsled_mark(sheet: *const u8, sheet_len: usize, script: *const u8, script_len: usize) -> u32;
 }
 
 /// What the value is before a call. No reply has it, so that a call which leaves the value unwritten is seen.
@@ -106,5 +108,12 @@ impl Texts for Linked {
         // SAFETY: as above; the table is only read.
         let number = unsafe { acornsled_write(n, hidden, table.as_ptr(), table.len(), out, out_len, &mut value) };
         Reply { number, value }
+    }
+}
+
+impl Marker for Linked {
+    fn mark(&self, sheet: &[u8], script: &[u8]) -> u32 {
+        // SAFETY: as above; both texts are only read.
+        unsafe { acornsled_mark(sheet.as_ptr(), sheet.len(), script.as_ptr(), script.len()) }
     }
 }

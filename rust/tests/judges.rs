@@ -1,8 +1,10 @@
-//! The two judges against each other on small sheets: least bounds, and keys that are spoilt a little.
+//! The two judges against each other on small sheets: least bounds, keys that are spoilt a little, and scripts.
 
 use judge::brute;
 use judge::graph::{self, Closure};
 use judge::library::DONE;
+use judge::marking::due;
+use judge::marking::pairs::Pair;
 use judge::meaning::{largest_bound, rules, size, terms, Rule, Term};
 use judge::plain;
 use judge::random::Random;
@@ -68,4 +70,21 @@ fn spoilt_keys_are_judged_alike() {
         wrong_keys += usize::from(wrong);
     }
     assert!(wrong_keys > 500, "too few wrong keys: {wrong_keys}");
+}
+
+#[test]
+fn scripts_are_judged_alike() {
+    // neither, too narrow, too wide, both
+    let mut seen = [0; 4];
+    for number in 0..4000 {
+        let pair = Pair::small(&mut Random::new(9, number));
+        let rules = due::rules(&pair.sheet, &pair.script);
+        if !rules.small() {
+            continue;
+        }
+        let found = rules.by_paths();
+        assert_eq!(found, rules.by_trying(), "pair {number}: {:?}, {:?}", pair.sheet, pair.script);
+        seen[2 * usize::from(found.wide) + usize::from(found.narrow)] += 1;
+    }
+    assert!(seen.iter().all(|&count| count > 50), "too few of a kind: {seen:?}");
 }

@@ -18,13 +18,13 @@ use Rattle.tables.proofs.Sizes.{small-start}
 use Rattle.marking.specs.declared.verdict.Verdict.the-variants.{Equal, Loose, Tight}
 use Rattle.reading.specs.Texts.{Contents}
 use Rattle.reading.specs.Meaning.{FailsFor}
-use Rattle.scripts.specs.declared.reply.Papers.{Papers}
-use Rattle.scripts.specs.declared.reply.Papers.the-variants.{Sheet, Script, Both}
+use Rattle.scripts.specs.declared.reply.Subject.{Subject}
+use Rattle.scripts.specs.declared.reply.Subject.the-variants.{Sheet, Script, Both}
 use Rattle.scripts.specs.declared.reply.TextMarking.{TextMarking}
 use Rattle.scripts.specs.declared.reply.TextMarking.the-variants.{Marked}
 use Rattle.scripts.specs.declared.reply.TextMarking.the-variants.{Refused as NotMarked}
 use Rattle.scripts.specs.Replies.{textNumber}
-use Rattle.scripts.specs.Meaning.{Matches, Room, ShortIn, RefusedFor}
+use Rattle.scripts.specs.Meaning.{Matches, Room, ShortIn, RefusedPair}
 use Rattle.scripts.specs.Marking.{lentTable, lentWorkspace}
 use Rattle.scripts.specs.Promises.{TextsJudged, TextsMarked}
 use Rattle.scripts.proofs.Sheets.{fine-sheet}
@@ -94,7 +94,7 @@ never-short n f h (inr (inr (inl p))) = omega (arith, small-start n h, p .2)
 never-short n f h (inr (inr (inr p))) = omega (arith, p .3)
 
 -- so two texts are refused by themselves, or by 7
-never-refused : (sheet script : List ℕ) (p : Papers) (f : Refusal) → RefusedFor sheet script lentTable lentTable lentWorkspace maxQuantities p f
+never-refused : (sheet script : List ℕ) (p : Subject) (f : Refusal) → RefusedPair sheet script lentTable lentTable lentWorkspace maxQuantities p f
     → ((refusalNumber f ≡ 5) → ⊥) × ((refusalNumber f ≡ 6) → ⊥)
 never-refused sheet script Sheet f a = own-number sheet f a
 never-refused sheet script Script f a = own-number script f (a .1)
@@ -115,7 +115,7 @@ never-number : (sheet script : List ℕ) (r : TextMarking) → TextsJudged sheet
 never-number sheet script (Marked n Equal) j = (λ e. omega arith, λ e. omega arith)
 never-number sheet script (Marked n (Loose rule)) j = (λ e. omega arith, λ e. omega arith)
 never-number sheet script (Marked n (Tight rule)) j = (λ e. omega arith, λ e. omega arith)
-never-number sheet script (NotMarked p f) j = never-refused sheet script p f (j .refused p f .0 refl)
+never-number sheet script (NotMarked p f) j = never-refused sheet script p f (j .refused p f .0 (refl, refl, refl))
 
 -- the number of a reply that was given with so much lent
 pub mark-answer : (sheet script : List ℕ) (a b w v a' b' w' v' : List ℤ) (reply : TextMarking) (r : ℕ) → TextsMarked sheet script a b w v reply a' b' w' v'

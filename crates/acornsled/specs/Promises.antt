@@ -18,8 +18,7 @@ use Rattle.reading.specs.Meaning.{rulesOf}
 use Rattle.writing.specs.Writing.{writeReply, writingNumber, writingValue}
 use Rattle.writing.specs.Promises.{TextWritten}
 use Rattle.scripts.specs.Replies.{textNumber}
-use Rattle.scripts.specs.Meaning.{setIn}
-use Rattle.scripts.specs.Meaning.{Accepted as AcceptedPair}
+use Rattle.scripts.specs.Meaning.{setIn, AcceptedPair}
 use Rattle.scripts.specs.Marking.{textsReply, lentTable, lentWorkspace}
 use Rattle.scripts.specs.Promises.{TextsJudged}
 

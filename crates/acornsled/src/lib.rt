@@ -1,13 +1,11 @@
 // The calls for hosts in C and Rust. A call answers with document 01's number of its reply, 0 where it is not refused, and writes to `value` what document 01
-// returns beside it, a line or a length, 0 where there is nothing. C sees a slice as a pointer and its length in elements, words or bytes. The host passes
+// returns beside it, a line or a length, 0 where there is nothing. Marking answers a verdict's number, or the refusal's, alone. C sees a slice as a pointer and its length in elements, words or bytes. The host passes
 // true lengths, and no slice overlaps another.
 use reading::read::Reading;
 use rules::sheet::Sheet;
 use scripts::texts;
+use tables::table;
 ghost use Rattle.acornsled.specs.Promises.{ReadAnswer, WriteAnswer, KeyAnswer, AssignmentAnswer, MarkAnswer};
-
-// The words of the largest table.
-const WORDS: usize = 2 * Sheet::MAX_QUANTITIES * Sheet::MAX_QUANTITIES;
 
 // Reads a text: where it answers 0, the table's first 2n² words hold its rules, and n and the hidden set are written to `quantities` and `hidden`.
 #[no_mangle]
@@ -88,9 +86,9 @@ pub extern "C" fn acornsled_assignment(
 pub extern "C" fn acornsled_mark(sheet: &[u8], script: &[u8]) -> u32
     ensures { λ r. ⌜ MarkAnswer (now (sheet .entry)) (now (script .entry)) r ⌝ }
 {
-    let mut sheet_table = [0; WORDS];
-    let mut script_table = [0; WORDS];
-    let mut workspace = [0; 2 * WORDS];
+    let mut sheet_table = [0; table::LARGEST];
+    let mut script_table = [0; table::LARGEST];
+    let mut workspace = [0; 2 * table::LARGEST];
     let mut values = [0; Sheet::MAX_QUANTITIES];
     let marking = texts::mark_texts(
         sheet,

@@ -79,7 +79,7 @@ copy-decides n m t w u w' r f l d e g p = record {
   reply = same;
   meaning = rw same (refuted-exactly n t f);
   words = λ h. p .table h ∙ rw whole;
-  lent = record { size = g; rest = p .rest ∙ rw whole (change-drop (blockStart n) (copying t) w); kept = λ h. clash refl h };
+  lent = record { size = g; rest = p .lent .rest ∙ rw whole (change-drop (blockStart n) (copying t) w); kept = λ h. clash refl h };
 }
   where
     whole : u ≡ change (blockStart n) (copying t) w

@@ -90,11 +90,19 @@ pub reduced-contradiction : (n j : ℕ) (t u v : List ℤ) (r : Bool) → j < n 
 reduced-contradiction n j t u v r h e c p d = record {
   reply = sym (rw rest at (contradicts-stays n (suc j) (n - suc j) t (contradicts-more n j t c ∙ rw (← e, ← p .reply) d)));
   table = λ f. clash refl f;
-  rest = rw (p .table, e, reduce-more n j t) (reduce-rest n (suc j) t);
+  lent = record {
+    size = rw (p .table, e, reduce-more n j t) (reduceUpTo-length n (suc j) t);
+    rest = rw (p .table, e, reduce-more n j t) (reduce-rest n (suc j) t);
+    kept = λ f. clash refl f;
+  };
 }
   where
     rest : (n - suc j) + suc j ≡ n
     rest = omega arith
 
 pub reduced-clear : (n : ℕ) (t u : List ℤ) → u ≡ reduceUpTo n n t → contradictsUpTo n n t ≡ false → Reduced n t false u
-reduced-clear n t u e c = record { reply = sym c; table = λ f. e; rest = rw e (reduce-rest n n t) }
+reduced-clear n t u e c = record {
+  reply = sym c;
+  table = λ f. e;
+  lent = record { size = rw e (reduceUpTo-length n n t); rest = rw e (reduce-rest n n t); kept = λ f. clash refl f };
+}

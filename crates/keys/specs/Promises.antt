@@ -52,11 +52,11 @@ pub record Assigned (n : ℕ) (table workspace values : List ℤ) (r : Reply) (w
   pub range : replyNumber r ≡ 0 → (k : ℕ) → k < n → Within valueLimit (wordAt values' k)
   pub none : assignmentChecks n table (length workspace) (length values) ≡ Done → (replyNumber r ≡ 5) ↔ Unsatisfiable n table
 
--- a table reduced: whether a contradiction is met, and where not, every word
+-- a table reduced: whether a contradiction is met, and where not, every word; where one is, the table's words are free
 pub record Reduced (n : ℕ) (before : List ℤ) (r : Bool) (after : List ℤ) : Type 0 where
   pub reply : r ≡ contradictsUpTo n n before
   pub table : r ≡ false → after ≡ reduceUpTo n n before
-  pub rest : drop (blockStart n) after ≡ drop (blockStart n) before
+  pub lent : Lent (blockStart n) true before after
 
 -- 'no assignment' decided of a table: true exactly when no integers satisfy it. Where some do, the workspace has its copy of the table reduced
 pub record Decided (n : ℕ) (table workspace : List ℤ) (r : Bool) (workspace' : List ℤ) : Type 0 where

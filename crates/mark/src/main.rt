@@ -8,7 +8,7 @@ const OUT: i32 = 1;
 // One byte more than a text may have, so that a longer one is seen to be longer; the rest of it is not read.
 const BYTES: usize = Sheet::MAX_TEXT + 1;
 
-// Reads the file to the start of `text` and answers how many bytes it has; none where it cannot be read.
+// Reads the file to the start of `text`, as much of it as there is room for, and answers how many bytes that is; none where it cannot be read.
 fn read_file(path: &[u8], text: &mut [u8]) -> usize
     ensures { λ r. ⌜ Counts r (now (text .exit)) ⌝ }
 {

@@ -1,6 +1,6 @@
 -- A rule is breakable exactly when some assignment of the table breaks it, and the first broken rule by place is the first such. Assumes nothing.
 use mathlib.Core.Path.{_≡_, refl, _∙_, ap}
-use mathlib.Core.Bool.{Bool, true, false, cond, not, _&&_}
+use mathlib.Core.Bool.{Bool, true, false, not, _&&_}
 use mathlib.Core.List.{List, [], _∷_}
 use mathlib.Core.Logic.{_↔_, _⊎_, inl, inr}
 use Prim.Native.Nat.{ℕ, zero, suc, _+_, _≤_, _<_}
@@ -11,9 +11,8 @@ use lib.ListN.{length, take}
 use lib.Seq.{length-take-le, getD-take}
 use Rattle.integers.specs.Bound.{oppositeBound}
 use Rattle.words.specs.Change.{wordAt}
-use Rattle.places.specs.Numbering.{blockStart, isOne, higherAt, lowerAt}
+use Rattle.places.specs.Numbering.{blockStart}
 use Rattle.rules.specs.declared.rule.Rule.{Rule}
-use Rattle.rules.specs.declared.rule.Rule.the-variants.{One, Two}
 use Rattle.rules.specs.Meaning.{Assignment, Meets, boundOf}
 use Rattle.rules.specs.Steps.{trivialRule, oppositeOf}
 use Rattle.rules.proofs.Meanings.{opposite-bound, opposite-meaning}
@@ -30,6 +29,7 @@ use Rattle.keys.proofs.Fitting.{hide-ample}
 use Rattle.marking.specs.Verdicts.{hasTerm}
 use Rattle.marking.specs.Meaning.{FirstAt, FirstBroken, NoneBroken}
 use Rattle.marking.specs.Marking.{breakable, firstRule, firstBroken}
+use Rattle.marking.proofs.Carried.{ruleAt-term}
 use Rattle.marking.proofs.Puts.{put-lowers, opposite-hasPlace}
 
 -- ---- the opposite of a rule, put in
@@ -141,15 +141,6 @@ some-or-none broken k (w ∷ ws) = go (test broken k w) refl (some-or-none broke
     go false e (inr f) = inr (one-more broken k (length ws) w ws e f)
 
 -- ---- the first rule that is broken
-
--- a place's rule has a term
-ruleAt-term : (k : ℕ) (c : ℤ) → hasTerm (ruleAt k c) ≡ true
-unfolding ruleAt
-ruleAt-term k c = go (isOne k)
-  where
-    go : (b : Bool) → hasTerm (cond b (One (higherAt k) c) (Two (lowerAt k) (higherAt k) c)) ≡ true
-    go true = refl
-    go false = refl
 
 -- whether a rule of one table is breakable in another is decided rightly
 abbrev pub Exactly : ℕ → List ℤ → List ℤ → Type 0

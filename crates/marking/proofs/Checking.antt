@@ -1,15 +1,15 @@
--- What the checks of marking answer, and what it tells that they pass. Assumes nothing.
-use mathlib.Core.Path.{_≡_, refl, sym, _∙_, ap}
+-- What the checks of marking answer, and what it tells: done exactly where the tables are accepted, and refused exactly where there is this reason. Assumes nothing.
+use mathlib.Core.Path.{_≡_, refl, sym, _∙_, subst}
 use mathlib.Core.Bool.{Bool, true, false, cond, _&&_, _||_, and-false, or-true}
 use mathlib.Core.List.{List, [], _∷_}
-use mathlib.Core.Logic.{_↔_, _⊎_, ⊎-elim}
+use mathlib.Core.Logic.{_↔_, _⊎_, inl, inr, ⊎-elim}
 use Prim.Native.Nat.{ℕ, zero, suc, _+_, _*_, _≤_, _<_}
 use native.Mathlib.Omega.{arith}
 use lib.Dec.{ltb, eqb}
 use lib.IntN.{ℤ, pos}
 use lib.ListN.{length, take, drop, length-take, drop-of-length-le}
 use lib.Seq.{length-take-le, getD-take, drop-cons}
-use borrow.Author.Tests.{ltb-false, lt-ltb, le-ltb, eq-eqb, eqb-true}
+use borrow.Author.Tests.{ltb-true, ltb-false, lt-ltb, le-ltb, eq-eqb, eqb-true}
 use Rattle.words.specs.Change.{wordAt}
 use Rattle.places.specs.Numbering.{blockStart}
 use Rattle.rules.specs.declared.rule.Rule.{Rule}
@@ -20,19 +20,19 @@ use Rattle.rules.specs.Hidden.{hiddenIn, setWithin}
 use Rattle.rules.specs.Limits.{maxQuantities, maxBound}
 use Rattle.rules.specs.Literal.{quantityOf}
 use Rattle.rules.specs.Meaning.{names}
-use Rattle.rules.specs.Refusal.{refusalNumber}
 use Rattle.tables.specs.declared.reply.Reply.{Reply}
 use Rattle.tables.specs.declared.reply.Reply.the-variants.{Done, Refused}
 use Rattle.tables.specs.Places.{ruleAt}
-use Rattle.tables.specs.Tables.{hasRule, tableSize, serves, replyNumber}
-use Rattle.tables.specs.Meaning.{HoldsRule, ruleIn, NamesVisible}
+use Rattle.tables.specs.Tables.{hasRule, tableSize, serves}
+use Rattle.tables.specs.Meaning.{HoldsRule, ruleIn, NamesVisible, WordsWithin}
 use Rattle.tables.specs.Promises.{InLimit}
-use Rattle.tables.proofs.Tests.{refused-done, clash, both-true}
+use Rattle.tables.proofs.Tests.{clash, both-true}
 use Rattle.tables.proofs.Sizes.{small-start, serves-tells, long-serves}
+use Rattle.tables.proofs.Limits.{wordsInLimit-within}
 use Rattle.elimination.proofs.Step.{neither}
 use Rattle.keys.specs.Keys.{andThen, lengthReply, limitReply, inSheetLimit}
-use Rattle.marking.specs.Marking.{namesHidden, anyNamesHidden, tableNamesHidden, visibleReply, workspaceSize, markChecks}
-use Rattle.marking.specs.Promises.{Markable}
+use Rattle.marking.specs.Meaning.{workspaceSize, Sized, InLimits, TablesAccepted, TablesRefused}
+use Rattle.marking.specs.Marking.{namesHidden, anyNamesHidden, tableNamesHidden, visibleReply, markChecks}
 
 -- ---- the names of a script's rules
 
@@ -89,7 +89,7 @@ none-named hidden k (w ∷ ws) =
     later f i h d = rw (next i) at (f (suc i) (omega arith) d)
 
 -- no rule of a table names a hidden quantity exactly where all name visible quantities alone
-pub names-visible : (hidden : ℕ → Bool) (n : ℕ) (t : List ℤ) → blockStart n ≤ length t → (tableNamesHidden hidden n t ≡ false) ↔ NamesVisible n hidden t
+names-visible : (hidden : ℕ → Bool) (n : ℕ) (t : List ℤ) → blockStart n ≤ length t → (tableNamesHidden hidden n t ≡ false) ↔ NamesVisible n hidden t
 names-visible hidden n t l = (λ e. record { each = to (none-named hidden 0 front .0 e) }, λ v. none-named hidden 0 front .1 (of v))
   where
     front : List ℤ
@@ -267,75 +267,127 @@ names-answered n set m sheet script w v named a e f g h =
     let p = both-size n m sheet script (a .both) in
     rw (all-tested n set m sheet script w v a, e, f, g, h, p)
 
--- ---- what it tells that they pass
+-- ---- what the answer tells
 
--- each test of a done answer
-tested-done : (n : ℕ) (a b c d e : Bool) → tested n a b c d e ≡ Done → (a ≡ true) × (b ≡ false) × (c ≡ false) × (d ≡ true) × (e ≡ false)
-tested-done n false b c d e p = absurd (refused-done p)
-tested-done n true true c d e p = absurd (refused-done p)
-tested-done n true false true d e p = absurd (refused-done p)
-tested-done n true false false false e p = absurd (refused-done p)
-tested-done n true false false true true p = absurd (refused-done p)
-tested-done n true false false true false p = (refl, refl, refl, refl, refl)
+-- a test that cannot pass fails
+fails : (b : Bool) → (b ≡ true → ⊥) → b ≡ false
+fails true f = absurd (f refl)
+fails false f = refl
 
--- what passes can be marked
-pub checks-tell : (n set : ℕ) (sheet script workspace values : List ℤ) → markChecks n set sheet script (length workspace) (length values) ≡ Done
-    → Markable n set sheet script workspace values
-checks-tell n set sheet script workspace values e =
-    let p =
-    tested-done n (serves n (length sheet) && serves n (length script)) (ltb (length workspace) (workspaceSize n)) (ltb (length values) n)
-    (within n set sheet script) (tableNamesHidden (hiddenIn set) n script) (sym (checks-tested n set sheet script (length workspace) (length values)) ∙ e) in
-    let s = both-true (serves n (length sheet)) (serves n (length script)) (p .0) in
-    let a = serves-tells n (length sheet) (s .0) in
-    let b = serves-tells n (length script) (s .1) in
-    let d = both-true (setWithin n set) (inSheetLimit n sheet && inSheetLimit n script) (p .3) in
-    let l = both-true (inSheetLimit n sheet) (inSheetLimit n script) (d .1) in
-    record {
-      some = a .some;
-      most = a .most;
-      sheet-room = a .room;
-      script-room = b .room;
-      room = ltb-false (length workspace) (workspaceSize n) (p .1);
-      values-room = ltb-false (length values) n (p .2);
-      set-within = d .0;
-      sheet-limit = l .0;
-      script-limit = l .1;
-      visible = names-visible (hiddenIn set) n script (b .room) .0 (p .4);
-    }
+-- one that cannot fail passes
+passes : (b : Bool) → (b ≡ false → ⊥) → b ≡ true
+passes true f = refl
+passes false f = absurd (f refl)
 
--- 7 comes where the tables serve and a script rule names a hidden quantity
-tested-seven : (n : ℕ) (a b c d e : Bool) → replyNumber (tested n a b c d e) ≡ 7 → (a ≡ true) × (e ≡ true)
-tested-seven n false b c d e p = let z : ⊥ = omega arith in absurd z
-tested-seven n true true c d e p = let z : ⊥ = omega arith in absurd z
-tested-seven n true false true d e p = let z : ⊥ = omega arith in absurd z
-tested-seven n true false false false e p = let z : ⊥ = omega arith in absurd z
-tested-seven n true false false true false p = let z : ⊥ = omega arith in absurd z
-tested-seven n true false false true true p = (refl, refl)
+-- done: the tables are accepted; refused: they are refused so
+abbrev Told : ℕ → ℕ → List ℤ → List ℤ → ℕ → ℕ → Reply → Type 0
+Told n set sheet script w v Done = TablesAccepted n set sheet script w v
+Told n set sheet script w v (Refused f) = TablesRefused n set sheet script w v f
 
--- so not where the script's rules name visible quantities alone
-pub checks-seven : (n set : ℕ) (sheet script : List ℤ) (w v : ℕ) (f : Refusal) → markChecks n set sheet script w v ≡ Refused f → refusalNumber f ≡ 7
-    → NamesVisible n (hiddenIn set) script → ⊥
-checks-seven n set sheet script w v f e d visible =
-    let p =
-    tested-seven n (serves n (length sheet) && serves n (length script)) (ltb w (workspaceSize n)) (ltb v n)
-    (within n set sheet script) (tableNamesHidden (hiddenIn set) n script)
-    (ap replyNumber (sym (checks-tested n set sheet script w v) ∙ e) ∙ d) in
-    let s = both-true (serves n (length sheet)) (serves n (length script)) (p .0) in
-    clash (p .1) (names-visible (hiddenIn set) n script (serves-tells n (length script) (s .1) .room) .1 visible)
+module _ (n set : ℕ) (sheet script : List ℤ) (w v : ℕ) where
+  -- do both tables serve?
+  abbrev serving : Bool
+  serving = serves n (length sheet) && serves n (length script)
 
--- the checks pass where every length, limit and name is right
-pub checks-done : (n set : ℕ) (sheet script : List ℤ) (w v : ℕ) → 1 ≤ n → n ≤ maxQuantities → blockStart n ≤ length sheet → blockStart n ≤ length script
-    → workspaceSize n ≤ w → n ≤ v → setWithin n set ≡ true → inSheetLimit n sheet ≡ true → inSheetLimit n script ≡ true
-    → NamesVisible n (hiddenIn set) script → markChecks n set sheet script w v ≡ Done
-checks-done n set sheet script w v some most sheet-room script-room room values-room e f g visible =
-    checks-tested n set sheet script w v
-    ∙ rw (
-      long-serves n (length sheet) some most sheet-room,
-      long-serves n (length script) some most script-room,
-      le-ltb w (workspaceSize n) room,
-      le-ltb v n values-room,
-      e,
-      f,
-      g,
-      names-visible (hiddenIn set) n script script-room .1 visible,
-    )
+  -- both tables serve exactly where n is in its range and they have words enough
+  serve-sized : (serving ≡ true) ↔ Sized n (length sheet) (length script)
+  serve-sized = (to, λ s. rw (long-serves n (length sheet) (s .some) (s .most) (s .sheet-room), long-serves n (length script) (s .some) (s .most) (s .script-room)))
+    where
+      to : serving ≡ true → Sized n (length sheet) (length script)
+      to e =
+          let p = both-true (serves n (length sheet)) (serves n (length script)) e in
+          let a = serves-tells n (length sheet) (p .0) in
+          record { some = a .some; most = a .most; sheet-room = a .room; script-room = serves-tells n (length script) (p .1) .room }
+
+  -- the test of the limits passes exactly where all are kept
+  within-limits : (within n set sheet script ≡ true) ↔ InLimits n set sheet script
+  within-limits = (to, λ l. rw (l .set-within, table sheet .1 (l .sheet-within), table script .1 (l .script-within)))
+    where
+      table : (t : List ℤ) → (inSheetLimit n t ≡ true) ↔ WordsWithin (blockStart n) (pos maxBound) t
+      table t = wordsInLimit-within (blockStart n) (pos maxBound) t
+
+      to : within n set sheet script ≡ true → InLimits n set sheet script
+      to e =
+          let p = both-true (setWithin n set) (inSheetLimit n sheet && inSheetLimit n script) e in
+          let q = both-true (inSheetLimit n sheet) (inSheetLimit n script) (p .1) in
+          record { set-within = p .0; sheet-within = table sheet .0 (q .0); script-within = table script .0 (q .1) }
+
+  -- the answer tells whether the tables are accepted, and why they are refused
+  checks-told : Told n set sheet script w v (markChecks n set sheet script w v)
+  checks-told =
+      rw (checks-tested n set sheet script w v)
+      (go serving refl (ltb w (workspaceSize n)) refl (ltb v n) refl (within n set sheet script) refl (tableNamesHidden (hiddenIn set) n script) refl)
+    where
+      go : (a : Bool) → serving ≡ a → (b : Bool) → ltb w (workspaceSize n) ≡ b → (c : Bool) → ltb v n ≡ c
+          → (d : Bool) → within n set sheet script ≡ d → (e : Bool) → tableNamesHidden (hiddenIn set) n script ≡ e
+          → Told n set sheet script w v (tested n a b c d e)
+      go false p b q c r d s e t = inl (λ y. clash (serve-sized .1 y) p, refl)
+      go true p true q c r d s e t = inr (inl (serve-sized .0 p, ltb-true w (workspaceSize n) q, refl))
+      go true p false q true r d s e t = inr (inr (inl (serve-sized .0 p, ltb-false w (workspaceSize n) q, ltb-true v n r, refl)))
+      go true p false q false r false s e t =
+          inr (inr (inr (inl (serve-sized .0 p, ltb-false w (workspaceSize n) q, ltb-false v n r, λ y. clash (within-limits .1 y) s, refl))))
+      go true p false q false r true s true t =
+          let z = serve-sized .0 p in
+          inr (inr (inr (inr (
+            z,
+            ltb-false w (workspaceSize n) q,
+            ltb-false v n r,
+            within-limits .0 s,
+            λ y. clash t (names-visible (hiddenIn set) n script (z .script-room) .1 y),
+            refl,
+          ))))
+      go true p false q false r true s false t =
+          let z = serve-sized .0 p in
+          record {
+            sized = z;
+            workspace-room = ltb-false w (workspaceSize n) q;
+            values-room = ltb-false v n r;
+            limits = within-limits .0 s;
+            visible = names-visible (hiddenIn set) n script (z .script-room) .0 t;
+          }
+
+  -- done, the tables are accepted
+  pub done-accepted : markChecks n set sheet script w v ≡ Done → TablesAccepted n set sheet script w v
+  done-accepted e = subst (Told n set sheet script w v) e checks-told
+
+  -- and where they are accepted, the checks are done
+  pub accepted-done : TablesAccepted n set sheet script w v → markChecks n set sheet script w v ≡ Done
+  accepted-done t =
+      rw (
+        checks-tested n set sheet script w v,
+        serve-sized .1 (t .sized),
+        le-ltb w (workspaceSize n) (t .workspace-room),
+        le-ltb v n (t .values-room),
+        within-limits .1 (t .limits),
+        names-visible (hiddenIn set) n script (t .sized .script-room) .1 (t .visible),
+      )
+
+  -- refused, they are refused so
+  pub refused-reason : (f : Refusal) → markChecks n set sheet script w v ≡ Refused f → TablesRefused n set sheet script w v f
+  refused-reason f e = subst (Told n set sheet script w v) e checks-told
+
+  -- and where there is a reason to refuse them, the checks answer so
+  pub reason-refused : (f : Refusal) → TablesRefused n set sheet script w v f → markChecks n set sheet script w v ≡ Refused f
+  reason-refused f (inl h) = rw (checks-tested n set sheet script w v, fails serving (λ e. h .0 (serve-sized .0 e)), h .1)
+  reason-refused f (inr (inl h)) = rw (checks-tested n set sheet script w v, serve-sized .1 (h .0), lt-ltb w (workspaceSize n) (h .1), h .2)
+  reason-refused f (inr (inr (inl h))) =
+      rw (checks-tested n set sheet script w v, serve-sized .1 (h .0), le-ltb w (workspaceSize n) (h .1), lt-ltb v n (h .2), h .3)
+  reason-refused f (inr (inr (inr (inl h)))) =
+      rw (
+        checks-tested n set sheet script w v,
+        serve-sized .1 (h .0),
+        le-ltb w (workspaceSize n) (h .1),
+        le-ltb v n (h .2),
+        fails (within n set sheet script) (λ e. h .3 (within-limits .0 e)),
+        h .4,
+      )
+  reason-refused f (inr (inr (inr (inr h)))) =
+      rw (
+        checks-tested n set sheet script w v,
+        serve-sized .1 (h .0),
+        le-ltb w (workspaceSize n) (h .1),
+        le-ltb v n (h .2),
+        within-limits .1 (h .3),
+        passes (tableNamesHidden (hiddenIn set) n script) (λ e. h .4 (names-visible (hiddenIn set) n script (h .0 .script-room) .0 e)),
+        h .5,
+      )

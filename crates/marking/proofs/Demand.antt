@@ -30,9 +30,8 @@ use Rattle.keys.proofs.Deciding.{refuted-exactly}
 use Rattle.marking.specs.declared.verdict.Verdict.{Verdict}
 use Rattle.marking.specs.declared.verdict.Verdict.the-variants.{Equal, Loose, Tight}
 use Rattle.marking.specs.Verdicts.{verdictNumber, hasTerm}
-use Rattle.marking.specs.Meaning.{AllowSame, IsLoose, IsNarrow, IsTight, ByDemand, FirstBroken, NoneBroken, LooseRule, TightRule}
+use Rattle.marking.specs.Meaning.{AllowSame, IsLoose, IsNarrow, IsTight, ByDemand, FirstBroken, NoneBroken, LooseRule, TightRule, TablesAccepted}
 use Rattle.marking.specs.Marking.{firstBroken, orElse, verdictOf}
-use Rattle.marking.specs.Promises.{Markable}
 use Rattle.marking.proofs.Breakable.{Exactly, breakable-exactly, first-some, first-none}
 use Rattle.marking.proofs.Opposed.{sheet-fitting, script-fitting, tight-opposed, loose-opposed, tight-small, loose-small}
 
@@ -140,14 +139,14 @@ nothing-loose hidden n sheet script u s = record {
 -- ---- of others
 
 -- the key is exact: it allows what the sheet does
-abbrev pub KeyExact : (ℕ → Bool) → ℕ → List ℤ → Type 0
+abbrev KeyExact : (ℕ → Bool) → ℕ → List ℤ → Type 0
 KeyExact hidden n sheet = (σ : Assignment) → Satisfies n (keyOf hidden n sheet) σ ↔ SheetAllows hidden (Satisfies n sheet) σ
 
 -- it is, of tables that passed the checks
-pub key-allows : (n set : ℕ) (sheet script workspace values : List ℤ) → Markable n set sheet script workspace values → Satisfiable n sheet
+key-allows : (n set : ℕ) (sheet script : List ℤ) (w v : ℕ) → TablesAccepted n set sheet script w v → Satisfiable n sheet
     → KeyExact (hiddenIn set) n sheet
-key-allows n set sheet script workspace values m s =
-    key-exact (hiddenIn set) n sheet (s .assignment) (hide-ample (hiddenIn set) n sheet (sheet-fitting n set sheet script workspace values m)) (s .satisfies)
+key-allows n set sheet script w v m s =
+    key-exact (hiddenIn set) n sheet (s .assignment) (hide-ample (hiddenIn set) n sheet (sheet-fitting n set sheet script w v m)) (s .satisfies)
 
 -- a key rule that some assignment of the script breaks: the script is loose
 broken-loose : (hidden : ℕ → Bool) (n : ℕ) (sheet : List ℤ) (script : Paper) (r : Rule) → KeyExact hidden n sheet
@@ -199,10 +198,10 @@ carried-or-next P carry (Two x y c) next some none = some refl
 carried-or-next P carry (Nothing c) next some none = none refl
 
 -- the verdict means what it is to mean
-verdict-means : (n set : ℕ) (sheet script workspace values : List ℤ) → Markable n set sheet script workspace values
+verdict-means : (n set : ℕ) (sheet script : List ℤ) (w v : ℕ) → TablesAccepted n set sheet script w v
     → Means (hiddenIn set) n sheet script (verdictOf (hiddenIn set) n sheet script)
 unfolding verdictOf
-verdict-means n set sheet script workspace values m = go (refuted n sheet) refl
+verdict-means n set sheet script w v m = go (refuted n sheet) refl
   where
     hidden : ℕ → Bool
     hidden = hiddenIn set
@@ -211,32 +210,32 @@ verdict-means n set sheet script workspace values m = go (refuted n sheet) refl
     key = keyOf hidden n sheet
 
     key-room : blockStart n ≤ length key
-    key-room = omega (arith, m .sheet-room, ap length (hide-all hidden n sheet), hideUpTo-length hidden n n sheet)
+    key-room = omega (arith, m .sized .sheet-room, ap length (hide-all hidden n sheet), hideUpTo-length hidden n n sheet)
 
     key-exactly : Exactly n key script
-    key-exactly k p = breakable-exactly n script k (wordAt key k) (m .script-room) (p .inside) (loose-small n set sheet script workspace values m k p)
-        (loose-opposed n set sheet script workspace values m k p)
+    key-exactly k p = breakable-exactly n script k (wordAt key k) (m .sized .script-room) (p .inside) (loose-small n set sheet script w v m k p)
+        (loose-opposed n set sheet script w v m k p)
 
     script-exactly : Exactly n script sheet
-    script-exactly k p = breakable-exactly n sheet k (wordAt script k) (m .sheet-room) (p .inside) (tight-small n set sheet script workspace values m k p)
-        (tight-opposed n set sheet script workspace values m k p)
+    script-exactly k p = breakable-exactly n sheet k (wordAt script k) (m .sized .sheet-room) (p .inside) (tight-small n set sheet script w v m k p)
+        (tight-opposed n set sheet script w v m k p)
 
     without : Unsatisfiable n sheet → (b : Bool) → refuted n script ≡ b → Means hidden n sheet script (cond b Equal (Loose trivialRule))
-    without u true e = nothing-same hidden n sheet script u (refuted-exactly n script (script-fitting n set sheet script workspace values m) .0 e)
+    without u true e = nothing-same hidden n sheet script u (refuted-exactly n script (script-fitting n set sheet script w v m) .0 e)
     without u false e = (
-      nothing-loose hidden n sheet script u (some-satisfy n script (script-fitting n set sheet script workspace values m) e),
+      nothing-loose hidden n sheet script u (some-satisfy n script (script-fitting n set sheet script w v m) e),
       inl (u, refl),
     )
 
     exact : Satisfiable n sheet → KeyExact hidden n sheet
-    exact = key-allows n set sheet script workspace values m
+    exact = key-allows n set sheet script w v m
 
     not-loose : Satisfiable n sheet → NoneBroken n key (Satisfies n script) → Means hidden n sheet script (orElse Tight (firstBroken n script sheet) Equal)
     not-loose s keys = carried-or-next (Means hidden n sheet script) Tight (firstBroken n script sheet) Equal tight equal
       where
         tight : hasTerm (firstBroken n script sheet) ≡ true → Means hidden n sheet script (Tight (firstBroken n script sheet))
         tight e =
-            let f = first-some n script sheet (m .script-room) script-exactly e in (
+            let f = first-some n script sheet (m .sized .script-room) script-exactly e in (
               (
                 unbroken-not-loose hidden n sheet (Satisfies n script) key-room (exact s) keys,
                 broken-narrow hidden n sheet script (firstBroken n script sheet) f,
@@ -246,8 +245,8 @@ verdict-means n set sheet script workspace values m = go (refuted n sheet) refl
 
         equal : hasTerm (firstBroken n script sheet) ≡ false → Means hidden n sheet script Equal
         equal e =
-            let none = first-none n script sheet (m .script-room) script-exactly e .1 in
-            unbroken-same hidden n sheet script key-room (m .script-room) (m .visible) (exact s) keys none
+            let none = first-none n script sheet (m .sized .script-room) script-exactly e .1 in
+            unbroken-same hidden n sheet script key-room (m .sized .script-room) (m .visible) (exact s) keys none
 
     with-some : Satisfiable n sheet → Means hidden n sheet script (orElse Loose (firstBroken n key script) (orElse Tight (firstBroken n script sheet) Equal))
     with-some s = carried-or-next (Means hidden n sheet script) Loose (firstBroken n key script) (orElse Tight (firstBroken n script sheet) Equal) loose next
@@ -262,8 +261,8 @@ verdict-means n set sheet script workspace values m = go (refuted n sheet) refl
 
     go : (b : Bool) → refuted n sheet ≡ b → Means hidden n sheet script (cond b (cond (refuted n script) Equal (Loose trivialRule))
         (orElse Loose (firstBroken n key script) (orElse Tight (firstBroken n script sheet) Equal)))
-    go true e = without (refuted-exactly n sheet (sheet-fitting n set sheet script workspace values m) .0 e) (refuted n script) refl
-    go false e = with-some (some-satisfy n sheet (sheet-fitting n set sheet script workspace values m) e)
+    go true e = without (refuted-exactly n sheet (sheet-fitting n set sheet script w v m) .0 e) (refuted n script) refl
+    go false e = with-some (some-satisfy n sheet (sheet-fitting n set sheet script w v m) e)
 
 -- a verdict that means this has demand 3's number
 means-demand : (hidden : ℕ → Bool) (n : ℕ) (sheet script : List ℤ) (v : Verdict) → Means hidden n sheet script v
@@ -273,19 +272,19 @@ means-demand hidden n sheet script (Loose r) s = loose-demand hidden (Satisfies 
 means-demand hidden n sheet script (Tight r) s = tight-demand hidden (Satisfies n sheet) (Satisfies n script) (s .0)
 
 -- the verdict is demand 3's
-pub verdict-demand : (n set : ℕ) (sheet script workspace values : List ℤ) → Markable n set sheet script workspace values
+pub verdict-demand : (n set : ℕ) (sheet script : List ℤ) (w v : ℕ) → TablesAccepted n set sheet script w v
     → ByDemand (hiddenIn set) (Satisfies n sheet) (Satisfies n script) (verdictNumber (verdictOf (hiddenIn set) n sheet script))
-verdict-demand n set sheet script workspace values m =
-    means-demand (hiddenIn set) n sheet script (verdictOf (hiddenIn set) n sheet script) (verdict-means n set sheet script workspace values m)
+verdict-demand n set sheet script w v m =
+    means-demand (hiddenIn set) n sheet script (verdictOf (hiddenIn set) n sheet script) (verdict-means n set sheet script w v m)
 
 -- a loose one carries the rule that it is to carry
-pub verdict-loose : (n set : ℕ) (sheet script workspace values : List ℤ) → Markable n set sheet script workspace values
+pub verdict-loose : (n set : ℕ) (sheet script : List ℤ) (w v : ℕ) → TablesAccepted n set sheet script w v
     → (rule : Rule) → verdictOf (hiddenIn set) n sheet script ≡ Loose rule → LooseRule (hiddenIn set) n sheet (Satisfies n script) rule
-verdict-loose n set sheet script workspace values m rule e =
-    let s = verdict-means n set sheet script workspace values m in let t : Means (hiddenIn set) n sheet script (Loose rule) = rw e at s in t .1
+verdict-loose n set sheet script w v m rule e =
+    let s = verdict-means n set sheet script w v m in let t : Means (hiddenIn set) n sheet script (Loose rule) = rw e at s in t .1
 
 -- and so does a tight one
-pub verdict-tight : (n set : ℕ) (sheet script workspace values : List ℤ) → Markable n set sheet script workspace values
+pub verdict-tight : (n set : ℕ) (sheet script : List ℤ) (w v : ℕ) → TablesAccepted n set sheet script w v
     → (rule : Rule) → verdictOf (hiddenIn set) n sheet script ≡ Tight rule → TightRule n (Satisfies n sheet) script rule
-verdict-tight n set sheet script workspace values m rule e =
-    let s = verdict-means n set sheet script workspace values m in let t : Means (hiddenIn set) n sheet script (Tight rule) = rw e at s in t .1
+verdict-tight n set sheet script w v m rule e =
+    let s = verdict-means n set sheet script w v m in let t : Means (hiddenIn set) n sheet script (Tight rule) = rw e at s in t .1

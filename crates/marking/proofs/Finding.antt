@@ -29,21 +29,21 @@ use Rattle.keys.specs.Reducing.{Fits}
 use Rattle.keys.proofs.Copying.{SameTable, copied, same-back, same-satisfies}
 use Rattle.tightening.specs.Promises.{Tightened}
 use Rattle.marking.specs.Verdicts.{hasTerm}
-use Rattle.marking.specs.Meaning.{FirstAt}
-use Rattle.marking.specs.Marking.{firstAboveFrom, firstAbove, firstBroken, workspaceSize}
+use Rattle.marking.specs.Meaning.{FirstAt, workspaceSize}
+use Rattle.marking.specs.Marking.{firstBelowFrom, firstBelow, firstBroken}
 use Rattle.marking.specs.Promises.{LeastBounds, Found, BrokenFound, RuleBreakable, RuleBroken, FrontBreakable, FrontBroken}
 use Rattle.marking.proofs.Breakable.{Exactly, breakable-exactly, first-none, first-at, first-nowhere}
 
 -- ---- the first place whose word is a rule and smaller than the word m places further on
 
 -- is a place's word a rule, and smaller than the word m places further on?
-abbrev pub isAbove : ℕ → List ℤ → ℕ → Bool
-isAbove m ws k = hasRule (wordAt ws k) && ltZ (wordAt ws k) (wordAt ws (m + k))
+abbrev pub isBelow : ℕ → List ℤ → ℕ → Bool
+isBelow m ws k = hasRule (wordAt ws k) && ltZ (wordAt ws k) (wordAt ws (m + k))
 
 -- the first of the places from k on is k where its word is such a one, and else the first of those after it
-above-more : (m k : ℕ) (ws : List ℤ) → k < m → firstAboveFrom (m - k) k m ws ≡ cond (isAbove m ws k) (At k) (firstAboveFrom (m - (k + 1)) (k + 1) m ws)
-unfolding firstAboveFrom
-above-more m k ws h = rw (rest, next)
+below-more : (m k : ℕ) (ws : List ℤ) → k < m → firstBelowFrom (m - k) k m ws ≡ cond (isBelow m ws k) (At k) (firstBelowFrom (m - (k + 1)) (k + 1) m ws)
+unfolding firstBelowFrom
+below-more m k ws h = rw (rest, next)
   where
     rest : m - k ≡ suc (m - (k + 1))
     rest = omega arith
@@ -52,37 +52,37 @@ above-more m k ws h = rw (rest, next)
     next = omega arith
 
 -- a place whose word is such a one is the first from there on
-pub above-here : (m k : ℕ) (ws : List ℤ) → k < m → isAbove m ws k ≡ true → At k ≡ firstAboveFrom (m - k) k m ws
-above-here m k ws h e = sym (above-more m k ws h ∙ rw e)
+pub below-here : (m k : ℕ) (ws : List ℤ) → k < m → isBelow m ws k ≡ true → At k ≡ firstBelowFrom (m - k) k m ws
+below-here m k ws h e = sym (below-more m k ws h ∙ rw e)
 
 -- any other place is passed over
-pub above-on : (m k : ℕ) (ws : List ℤ) → k < m → isAbove m ws k ≡ false → firstAboveFrom (m - (k + 1)) (k + 1) m ws ≡ firstAboveFrom (m - k) k m ws
-above-on m k ws h e = sym (above-more m k ws h ∙ rw e)
+pub below-on : (m k : ℕ) (ws : List ℤ) → k < m → isBelow m ws k ≡ false → firstBelowFrom (m - (k + 1)) (k + 1) m ws ≡ firstBelowFrom (m - k) k m ws
+below-on m k ws h e = sym (below-more m k ws h ∙ rw e)
 
 -- of no places there is none
-pub above-end : (m k : ℕ) (ws : List ℤ) → m ≤ k → Nowhere ≡ firstAboveFrom (m - k) k m ws
-unfolding firstAboveFrom
-above-end m k ws h = rw none
+pub below-end : (m k : ℕ) (ws : List ℤ) → m ≤ k → Nowhere ≡ firstBelowFrom (m - k) k m ws
+unfolding firstBelowFrom
+below-end m k ws h = rw none
   where
     none : m - k ≡ 0
     none = omega arith
 
 -- what a place found among count places from k on tells: its word is such a one and no earlier one is; and if none is found, no word is
 abbrev FirstOf : ℕ → ℕ → ℕ → List ℤ → Place → Type 0
-FirstOf count k m ws (At j) = (j < k + count) × (isAbove m ws j ≡ true) × ((i : ℕ) → k ≤ i → i < j → isAbove m ws i ≡ true → ⊥)
-FirstOf count k m ws Nowhere = (i : ℕ) → k ≤ i → i < k + count → isAbove m ws i ≡ true → ⊥
+FirstOf count k m ws (At j) = (j < k + count) × (isBelow m ws j ≡ true) × ((i : ℕ) → k ≤ i → i < j → isBelow m ws i ≡ true → ⊥)
+FirstOf count k m ws Nowhere = (i : ℕ) → k ≤ i → i < k + count → isBelow m ws i ≡ true → ⊥
 
 -- the place found is that first one
-first-of : (count k m : ℕ) (ws : List ℤ) → FirstOf count k m ws (firstAboveFrom count k m ws)
-unfolding firstAboveFrom
+first-of : (count k m : ℕ) (ws : List ℤ) → FirstOf count k m ws (firstBelowFrom count k m ws)
+unfolding firstBelowFrom
 first-of zero k m ws = λ i h g e. let z : ⊥ = omega arith in absurd z
-first-of (suc count) k m ws = go (isAbove m ws k) refl (firstAboveFrom count (suc k) m ws) (first-of count (suc k) m ws)
+first-of (suc count) k m ws = go (isBelow m ws k) refl (firstBelowFrom count (suc k) m ws) (first-of count (suc k) m ws)
   where
-    past : isAbove m ws k ≡ false → (i : ℕ) → k ≤ i → isAbove m ws i ≡ true → (b : Bool) → ltb k i ≡ b → k < i
+    past : isBelow m ws k ≡ false → (i : ℕ) → k ≤ i → isBelow m ws i ≡ true → (b : Bool) → ltb k i ≡ b → k < i
     past e i h q true d = ltb-true k i d
     past e i h q false d = let x : i ≡ k = omega (arith, ltb-false k i d) in clash (rw x at q) e
 
-    go : (b : Bool) → isAbove m ws k ≡ b → (p : Place) → FirstOf count (suc k) m ws p → FirstOf (suc count) k m ws (cond b (At k) p)
+    go : (b : Bool) → isBelow m ws k ≡ b → (p : Place) → FirstOf count (suc k) m ws p → FirstOf (suc count) k m ws (cond b (At k) p)
     go true e p f = (omega arith, e, λ i h g q. let z : ⊥ = omega arith in absurd z)
     go false e (At j) f = (omega (arith, f .0), f .1, λ i h g q. f .2 i (past e i h q (ltb k i) refl) g q)
     go false e Nowhere f = λ i h g q. f i (past e i h q (ltb k i) refl) (omega arith) q
@@ -102,7 +102,7 @@ pub copy-least : (n m : ℕ) (t w u w' : List ℤ) (r : Bool) → Fits n t → b
     → length w' ≡ length w → Tightened n u r w' → LeastBounds n t w r w'
 copy-least n m t w u w' r f l d e g p = record {
   none = (λ q σ s. p .none .0 q σ (same-satisfies n t u σ same s), λ q. p .none .1 (λ σ s. q σ (same-satisfies n u t σ back s)));
-  lent = record { size = g; rest = p .rest ∙ rw whole (change-drop (blockStart n) (copying t) w); kept = λ h. clash refl h };
+  lent = record { size = g; rest = p .lent .rest ∙ rw whole (change-drop (blockStart n) (copying t) w); kept = λ h. clash refl h };
   least = λ q k h c j. (
     λ x. same-breaks n u t (ruleAt k c) back (p .least q k h c j .0 x),
     λ x. p .least q k h c j .1 (same-breaks n t u (ruleAt k c) same x),
@@ -177,28 +177,28 @@ module _ (n : ℕ) (t ws part part' ws' : List ℤ) (r : Bool) (l : workspaceSiz
   back-word k = sym (getD-drop (blockStart n) ws' k (pos 0)) ∙ ap (λ (u : List ℤ). wordAt u k) (sym (p .is))
 
   -- a rule smaller than the least bound of its term is broken
-  above-breaks : r ≡ false → (k : ℕ) → k < blockStart n → isAbove (blockStart n) ws' k ≡ true → HoldsRule n ws k × Breaks (Satisfies n t) (ruleIn ws k)
-  above-breaks e k h q =
+  below-breaks : r ≡ false → (k : ℕ) → k < blockStart n → isBelow (blockStart n) ws' k ≡ true → HoldsRule n ws k × Breaks (Satisfies n t) (ruleIn ws k)
+  below-breaks e k h q =
       let a = both-true (hasRule (wordAt ws' k)) (ltZ (wordAt ws' k) (wordAt ws' (blockStart n + k))) q in
       let g = rw (front k h) at (a .0) in
       let x = rw (front k h, back-word k) at (a .1) in
       (record { inside = h; there = omega arith; rule = g }, b .least e k h (wordAt ws k) g .0 (omega (linear, ltZ-true (wordAt ws k) (wordAt part' k) x)))
 
   -- and conversely
-  breaks-above : r ≡ false → (k : ℕ) → HoldsRule n ws k → Breaks (Satisfies n t) (ruleIn ws k) → isAbove (blockStart n) ws' k ≡ true
-  breaks-above e k h x =
+  breaks-below : r ≡ false → (k : ℕ) → HoldsRule n ws k → Breaks (Satisfies n t) (ruleIn ws k) → isBelow (blockStart n) ws' k ≡ true
+  breaks-below e k h x =
       let y = lt-ltZ (wordAt ws k) (wordAt part' k) (b .least e k (h .inside) (wordAt ws k) (h .rule) .1 x) in
       rw (front k (h .inside), back-word k, h .rule, y)
 
   -- so the first such place is that of the first broken rule
-  found-above : r ≡ false → Found n t ws (firstAbove (blockStart n) ws')
-  found-above e = go (firstAbove (blockStart n) ws') (first-of (blockStart n) 0 (blockStart n) ws')
+  found-below : r ≡ false → Found n t ws (firstBelow (blockStart n) ws')
+  found-below e = go (firstBelow (blockStart n) ws') (first-of (blockStart n) 0 (blockStart n) ws')
     where
       go : (q : Place) → FirstOf (blockStart n) 0 (blockStart n) ws' q → Found n t ws q
       go (At k) f =
-          let x = above-breaks e k (omega (arith, f .0)) (f .1) in
-          record { holds = x .0; breaks = x .1; first = λ i h g c. f .2 i (omega arith) h (breaks-above e i g c) }
-      go Nowhere f = λ k g c. f k (omega arith) (omega (arith, g .inside)) (breaks-above e k g c)
+          let x = below-breaks e k (omega (arith, f .0)) (f .1) in
+          record { holds = x .0; breaks = x .1; first = λ i h g c. f .2 i (omega arith) h (breaks-below e i g c) }
+      go Nowhere f = λ k g c. f k (omega arith) (omega (arith, g .inside)) (breaks-below e k g c)
 
   -- what is found, and the workspace
   broken-found : (q : Place) → Found n t ws q → BrokenFound n t ws q ws'
@@ -214,8 +214,8 @@ module _ (n : ℕ) (t ws part part' ws' : List ℤ) (r : Bool) (l : workspaceSiz
   none-found e = broken-found Nowhere (λ k g c. b .none .0 e (c .assignment) (c .satisfies))
 
   -- of others, the first place whose word is smaller than the least bound is the one
-  pub first-found : r ≡ false → (m : ℕ) → m ≡ tableSize n → n ≤ maxQuantities → (q : Place) → q ≡ firstAbove m ws' → BrokenFound n t ws q ws'
-  first-found e m d h q c = let s = size-known n m h d in rw c (rw s (broken-found (firstAbove (blockStart n) ws') (found-above e)))
+  pub first-found : r ≡ false → (m : ℕ) → m ≡ tableSize n → n ≤ maxQuantities → (q : Place) → q ≡ firstBelow m ws' → BrokenFound n t ws q ws'
+  first-found e m d h q c = let s = size-known n m h d in rw c (rw s (broken-found (firstBelow (blockStart n) ws') (found-below e)))
 
 -- ---- with an assignment that breaks it
 

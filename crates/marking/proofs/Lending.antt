@@ -16,7 +16,8 @@ use Rattle.keys.specs.Promises.{Lent, Decided}
 use Rattle.keys.proofs.Copying.{SameTable, copied}
 use Rattle.keys.proofs.Promised.{rest-key}
 use Rattle.keys.proofs.Several.{hideUpTo-length}
-use Rattle.marking.specs.Marking.{firstBroken, workspaceSize}
+use Rattle.marking.specs.Meaning.{workspaceSize}
+use Rattle.marking.specs.Marking.{firstBroken}
 use Rattle.marking.proofs.Opposed.{key-front}
 
 -- ---- lent slices

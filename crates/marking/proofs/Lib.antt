@@ -1,6 +1,7 @@
--- The laws of marking two tables: the checks; a rule's opposite put in, and that sums fit with it; the first rule that is broken; the verdict by demand 3 and the
--- assignment that shows it; what the functions' proofs share; and the frauds on named tables.
+-- The laws of marking two tables: the checks; a verdict by its number and values; a rule's opposite put in, and that sums fit with it; the first rule that
+-- is broken; the verdict by demand 3 and the assignment that shows it; what the functions' proofs share; and the frauds on named tables.
 pub mod Checking
+pub mod Carried
 pub mod Puts
 pub mod Zeros
 pub mod Breakable

@@ -33,12 +33,12 @@ use Rattle.elimination.specs.Hiding.{pairWord, loneWord, onOne, onTwo, pairing,
 use Rattle.elimination.specs.Magnitude.{Unnamed}
 use Rattle.elimination.proofs.TermWords.{quantity-cases, pair-same, pair-first, pair-second}
 use Rattle.elimination.proofs.Step.{paired-length, within-rule}
-use Rattle.keys.specs.Keys.{hideUpTo, keyOf, hiddenCount, inSheetLimit}
+use Rattle.keys.specs.Keys.{hideUpTo, keyOf, hiddenCount}
 use Rattle.keys.specs.Reducing.{Fits}
 use Rattle.keys.proofs.Copying.{SameTable}
 use Rattle.keys.proofs.Several.{key-visible}
 use Rattle.keys.proofs.Fitting.{words-mono, key-within, sheet-fits}
-use Rattle.marking.specs.Promises.{Markable}
+use Rattle.marking.specs.Meaning.{TablesAccepted}
 use Rattle.marking.proofs.Puts.{put-within, put-unnamed, opposite-hasPlace, opposite-names}
 
 -- ---- a table that names visible quantities alone
@@ -118,10 +118,8 @@ key-word : (hidden : ℕ → Bool) (n : ℕ) → n ≤ maxQuantities → keyLimi
 key-word hidden n h = omega (arith, pow-mono {i = hiddenCount hidden n} {j = maxQuantities} (omega (arith, count-both hidden n)))
 
 -- a sheet's own words are within it
-sheet-within : (hidden : ℕ → Bool) (n : ℕ) (t : List ℤ) → inSheetLimit n t ≡ true → WordsWithin (blockStart n) (pos (keyLimit hidden n)) t
-sheet-within hidden n t e =
-    words-mono (blockStart n) maxBound (keyLimit hidden n) t (omega (arith, pow-pos (hiddenCount hidden n)))
-    (wordsInLimit-within (blockStart n) (pos maxBound) t .0 e)
+sheet-within : (hidden : ℕ → Bool) (n : ℕ) (t : List ℤ) → WordsWithin (blockStart n) (pos maxBound) t → WordsWithin (blockStart n) (pos (keyLimit hidden n)) t
+sheet-within hidden n t w = words-mono (blockStart n) maxBound (keyLimit hidden n) t (omega (arith, pow-pos (hiddenCount hidden n))) w
 
 -- ---- the opposite of a rule put in
 
@@ -161,46 +159,48 @@ abbrev none : ℕ → Bool
 none q = false
 
 -- where none is hidden, a table in the sheet's limits is like a key
-sheet-like : (n : ℕ) (t : List ℤ) → inSheetLimit n t ≡ true → KeyLike none n t
-sheet-like n t e = record { within = sheet-within none n t e; visible = record { each = λ k p q d. refl } }
+sheet-like : (n : ℕ) (t : List ℤ) → WordsWithin (blockStart n) (pos maxBound) t → KeyLike none n t
+sheet-like n t w = record { within = sheet-within none n t w; visible = record { each = λ k p q d. refl } }
 
-module _ (n set : ℕ) (sheet script workspace values : List ℤ) (m : Markable n set sheet script workspace values) where
+module _ (n set : ℕ) (sheet script : List ℤ) (w v : ℕ) (m : TablesAccepted n set sheet script w v) where
   -- sums fit in the sheet
   pub sheet-fitting : Fits n sheet
-  sheet-fitting = sheet-fits n sheet (m .most) (m .sheet-room) (m .sheet-limit)
+  sheet-fitting = sheet-fits n sheet (m .sized .most) (m .sized .sheet-room) (wordsInLimit-within (blockStart n) (pos maxBound) sheet .1 (m .limits .sheet-within))
 
   -- and in the script
   pub script-fitting : Fits n script
-  script-fitting = sheet-fits n script (m .most) (m .script-room) (m .script-limit)
+  script-fitting =
+      sheet-fits n script (m .sized .most) (m .sized .script-room) (wordsInLimit-within (blockStart n) (pos maxBound) script .1 (m .limits .script-within))
 
   -- the key itself is like a key,
   key-like : KeyLike (hiddenIn set) n (keyOf (hiddenIn set) n sheet)
   key-like = record {
-    within = key-within (hiddenIn set) n maxBound sheet (m .sheet-room) (wordsInLimit-within (blockStart n) (pos maxBound) sheet .0 (m .sheet-limit));
-    visible = key-visible (hiddenIn set) n sheet (m .sheet-room);
+    within = key-within (hiddenIn set) n maxBound sheet (m .sized .sheet-room) (m .limits .sheet-within);
+    visible = key-visible (hiddenIn set) n sheet (m .sized .sheet-room);
   }
 
   -- and so is the script
   script-like : KeyLike (hiddenIn set) n script
-  script-like = record { within = sheet-within (hiddenIn set) n script (m .script-limit); visible = m .visible }
+  script-like = record { within = sheet-within (hiddenIn set) n script (m .limits .script-within); visible = m .visible }
 
   -- sums fit in the sheet with the opposite of a script rule put in,
   pub tight-opposed : (k : ℕ) → HoldsRule n script k → Fits n (putRule sheet (oppositeOf (ruleIn script k)))
   tight-opposed k p =
-      opposed-fits none n script k (m .most) (sheet-like n script (m .script-limit)) p sheet (m .sheet-room) (sheet-like n sheet (m .sheet-limit))
+      opposed-fits none n script k (m .sized .most) (sheet-like n script (m .limits .script-within)) p sheet (m .sized .sheet-room)
+      (sheet-like n sheet (m .limits .sheet-within))
 
   -- and in the script with the opposite of a key rule
   pub loose-opposed : (k : ℕ) → HoldsRule n (keyOf (hiddenIn set) n sheet) k
       → Fits n (putRule script (oppositeOf (ruleIn (keyOf (hiddenIn set) n sheet) k)))
-  loose-opposed k p = opposed-fits (hiddenIn set) n (keyOf (hiddenIn set) n sheet) k (m .most) key-like p script (m .script-room) script-like
+  loose-opposed k p = opposed-fits (hiddenIn set) n (keyOf (hiddenIn set) n sheet) k (m .sized .most) key-like p script (m .sized .script-room) script-like
 
   -- the opposite of a script rule has a bound,
   pub tight-small : (k : ℕ) → HoldsRule n script k → hasRule (oppositeBound (wordAt script k)) ≡ true
-  tight-small k p = opposed-small none n script k (m .most) (sheet-like n script (m .script-limit)) p
+  tight-small k p = opposed-small none n script k (m .sized .most) (sheet-like n script (m .limits .script-within)) p
 
   -- and so has that of a key rule
   pub loose-small : (k : ℕ) → HoldsRule n (keyOf (hiddenIn set) n sheet) k → hasRule (oppositeBound (wordAt (keyOf (hiddenIn set) n sheet) k)) ≡ true
-  loose-small k p = opposed-small (hiddenIn set) n (keyOf (hiddenIn set) n sheet) k (m .most) key-like p
+  loose-small k p = opposed-small (hiddenIn set) n (keyOf (hiddenIn set) n sheet) k (m .sized .most) key-like p
 
 -- ---- tables that hold the same words
 

@@ -1,5 +1,5 @@
 -- The records of marking's contracts, from plain facts. Assumes nothing.
-use mathlib.Core.Path.{_≡_, refl, sym, _∙_}
+use mathlib.Core.Path.{_≡_, refl, sym, _∙_, ap}
 use mathlib.Core.Bool.{Bool, true, false}
 use mathlib.Core.List.{List, [], _∷_}
 use mathlib.Core.Logic.{inl, inr}
@@ -15,6 +15,8 @@ use Rattle.rules.specs.declared.refusal.Refusal.{Refusal}
 use Rattle.rules.specs.declared.rule.Rule.{Rule}
 use Rattle.rules.specs.declared.rule.Rule.the-variants.{One, Two, Nothing}
 use Rattle.rules.specs.Hidden.{hiddenIn}
+use Rattle.rules.specs.Limits.{maxQuantities, maxBound}
+use Rattle.rules.specs.Refusal.{refusalNumber, refusalValues}
 use Rattle.rules.specs.Steps.{trivialRule}
 use Rattle.rules.proofs.rule.Rule.{the-type}
 use Rattle.tables.specs.declared.reply.Reply.{Reply}
@@ -23,7 +25,8 @@ use Rattle.tables.specs.declared.reply.Reply.the-variants.{Refused as NotDone}
 use Rattle.tables.specs.Tables.{tableSize}
 use Rattle.tables.specs.Meaning.{Satisfies}
 use Rattle.tables.proofs.Sizes.{size-whole, long-serves}
-use Rattle.tables.proofs.Tests.{clash}
+use Rattle.tables.proofs.Limits.{wordsInLimit-within}
+use Rattle.tables.proofs.Tests.{refused-done, clash}
 use Rattle.keys.specs.Keys.{keyOf, refuted, assignmentChecks}
 use Rattle.keys.specs.Reducing.{reduceUpTo, fillDown}
 use Rattle.keys.specs.Promises.{Lent, Decided}
@@ -34,11 +37,13 @@ use Rattle.keys.proofs.Promised.{untouched, assignment-done}
 use Rattle.marking.specs.declared.verdict.Verdict.{Verdict}
 use Rattle.marking.specs.declared.verdict.Verdict.the-variants.{Equal, Loose, Tight}
 use Rattle.marking.specs.declared.verdict.Marking.the-variants.{Marked, Refused}
-use Rattle.marking.specs.Verdicts.{verdictNumber, hasTerm}
-use Rattle.marking.specs.Marking.{firstBroken, orElse, verdictOf, workspaceSize, markChecks, markReply}
-use Rattle.marking.specs.Meaning.{LooseShown, TightShown}
-use Rattle.marking.specs.Promises.{Markable, VerdictGiven, TablesMarked, FrontBreakable, FrontBroken}
-use Rattle.marking.proofs.Checking.{checks-tell, checks-seven}
+use Rattle.marking.specs.Verdicts.{ruleValues, hasTerm, integersOf}
+use Rattle.marking.specs.Marking.{firstBroken, orElse, verdictOf, markChecks, markReply}
+use Rattle.marking.specs.Meaning.{LooseShown, TightShown, workspaceSize, TablesAccepted, TablesRefused}
+use Rattle.marking.specs.Promises.{VerdictGiven, TablesMarked, FrontBreakable, FrontBroken}
+use Rattle.marking.proofs.Checking.{done-accepted, accepted-done, refused-reason, reason-refused}
+use Rattle.marking.proofs.Carried.{verdict-refusal, refusal-same, loose-returned, tight-returned}
+use Rattle.marking.proofs.Carried.{first-alike, loose-alike, loose-shown-alike, tight-shown-alike}
 use Rattle.marking.proofs.Zeros.{unnamed-zero}
 use Rattle.marking.proofs.Opposed.{visible-unnamed, sheet-fitting, script-fitting, tight-opposed, loose-opposed, tight-small, loose-small}
 use Rattle.marking.proofs.Demand.{verdict-demand, verdict-loose, verdict-tight}
@@ -66,20 +71,6 @@ loose-inj r s e = cc
 -- so do two tight ones
 tight-inj : (r s : Rule) → Tight r ≡ Tight s → r ≡ s
 tight-inj r s e = cc
-
--- a refusal is no verdict
-refused-marked : (f : Refusal) (r : Verdict) → Refused f ≡ Marked r → ⊥
-refused-marked f r e = let z : _≡_ {A = ℕ} 0 1 = cc in omega arith
-
--- two replies that are the same give the same verdict
-marked-inj : (r s : Verdict) → Marked r ≡ Marked s → r ≡ s
-marked-inj r s e = cc
-
--- no verdict's number is 7
-number-seven : (r : Verdict) → verdictNumber r ≡ 7 → ⊥
-number-seven Equal e = omega arith
-number-seven (Loose r) e = omega arith
-number-seven (Tight r) e = omega arith
 
 -- equal: nothing is written
 given-equal : (n set : ℕ) (sheet script w v w' v' : List ℤ) → Equal ≡ verdictOf (hiddenIn set) n sheet script → Lent (workspaceSize n) true w w' → v' ≡ v
@@ -118,33 +109,17 @@ given-tight n set sheet script w v r w' v' e l k s = record {
 
 -- ---- what the checks leave
 
--- the words of the workspace and of the assignment do not matter, their lengths do
-pub markable-again : (n set : ℕ) (sheet script w v w' v' : List ℤ) → Markable n set sheet script w v → length w' ≡ length w → length v' ≡ length v
-    → Markable n set sheet script w' v'
-markable-again n set sheet script w v w' v' m e d = record {
-  some = m .some;
-  most = m .most;
-  sheet-room = m .sheet-room;
-  script-room = m .script-room;
-  room = rw e (m .room);
-  values-room = rw d (m .values-room);
-  set-within = m .set-within;
-  sheet-limit = m .sheet-limit;
-  script-limit = m .script-limit;
-  visible = m .visible;
-}
-
 -- the workspace is long enough for one table
-pub one-table : (n set : ℕ) (sheet script w v : List ℤ) → Markable n set sheet script w v → blockStart n ≤ length w
-one-table n set sheet script w v m = omega (arith, m .room)
+pub one-table : (n set : ℕ) (sheet script : List ℤ) (w v : ℕ) → TablesAccepted n set sheet script w v → blockStart n ≤ w
+one-table n set sheet script w v m = omega (arith, m .workspace-room)
 
 -- the checks of finding an assignment of the script pass
-assignment-passes : (n set : ℕ) (sheet script w v : List ℤ) → Markable n set sheet script w v
-    → assignmentChecks n script (length w) (length v) ≡ Done
+assignment-passes : (n set : ℕ) (sheet script : List ℤ) (w v : ℕ) → TablesAccepted n set sheet script w v
+    → assignmentChecks n script w v ≡ Done
 assignment-passes n set sheet script w v m =
-    let served = long-serves n (length script) (m .some) (m .most) (m .script-room) in
-    let lent = lent-done n (length script) (length w) (blockStart n) served (sym (size-whole n (m .most))) (one-table n set sheet script w v m) in
-    sym (values-passed n (length w) (length v) script (sym lent) (m .values-room) (m .script-limit))
+    let served = long-serves n (length script) (m .sized .some) (m .sized .most) (m .sized .script-room) in
+    let lent = lent-done n (length script) w (blockStart n) served (sym (size-whole n (m .sized .most))) (one-table n set sheet script w v m) in
+    sym (values-passed n w v script (sym lent) (m .values-room) (wordsInLimit-within (blockStart n) (pos maxBound) script .1 (m .limits .script-within)))
 
 -- ---- a sheet that no integers satisfy
 
@@ -157,18 +132,19 @@ without-equal n set sheet script w v w' e d =
     (decided-lent n script w true w' d) refl
 
 -- loose with no rule where the values read back satisfy the script
-pub without-loose : (n set : ℕ) (sheet script w v : List ℤ) (r : Rule) (w' v' : List ℤ) → Markable n set sheet script w v → refuted n sheet ≡ true
-    → Decided n script w false w' → v' ≡ fillDown n w' n v → r ≡ trivialRule → VerdictGiven n set sheet script w v (Loose r) w' v'
+pub without-loose : (n set : ℕ) (sheet script w v : List ℤ) (r : Rule) (w' v' : List ℤ) → TablesAccepted n set sheet script (length w) (length v)
+    → refuted n sheet ≡ true → Decided n script w false w' → v' ≡ fillDown n w' n v → r ≡ trivialRule → VerdictGiven n set sheet script w v (Loose r) w' v'
 unfolding verdictOf
 without-loose n set sheet script w v r w' v' m e d k t =
-    let a = assignment-done n script w v w' v' (assignment-passes n set sheet script w v m) d k in
-    let none = refuted-exactly n sheet (sheet-fitting n set sheet script w v m) .0 e in
+    let a = assignment-done n script w v w' v' (assignment-passes n set sheet script (length w) (length v) m) d k in
+    let none = refuted-exactly n sheet (sheet-fitting n set sheet script (length w) (length v) m) .0 e in
     rw t (given-loose n set sheet script w v trivialRule w' v' (rw (e, ← d .reply))
     (decided-lent n script w false w' d) (a .written) (record {
       allowed = a .meaning refl;
       incomplete = λ s. none _ (s .complete);
       breaks = tt;
       zero = zero-words n (hiddenIn set) v' (λ j h g. rw (k, d .words refl) (zeros j h g));
+      there = rw (a .written .size) (m .values-room);
       range = a .range refl;
     }))
   where
@@ -177,7 +153,7 @@ without-loose n set sheet script w v r w' v' m e d k t =
 
     zeros : (j : ℕ) → suc j ≤ n → hiddenIn set (suc j) ≡ true → wordAt (fillDown n (reduceUpTo n n u) n v) j ≡ pos 0
     zeros j h g =
-        let same = copied n script w (m .script-room) (one-table n set sheet script w v m) in
+        let same = copied n script w (m .sized .script-room) (one-table n set sheet script (length w) (length v) m) in
         unnamed-zero n u v j (same .theirs) h (m .values-room)
         (same-unnamed n j script u same (visible-unnamed (hiddenIn set) n j script (m .visible) g))
 
@@ -195,32 +171,31 @@ verdict-without n set sheet script w v u b r w' v' d g = record {
 -- ---- a sheet that some integers satisfy
 
 -- a workspace that was lent, with a table copied to its front
-pub table-there : (n set : ℕ) (sheet script w v t : List ℤ) (a : ℕ) (u w' : List ℤ) → Markable n set sheet script w v → blockStart n ≤ length t
+pub table-there : (n : ℕ) (w t : List ℤ) (a : ℕ) (u w' : List ℤ) → n ≤ maxQuantities → workspaceSize n ≤ length w → blockStart n ≤ length t
     → Lent (workspaceSize n) true w u → a ≡ tableSize n → w' ≡ change a (copying t) u → Fronted n t w w'
-table-there n set sheet script w v t a u w' m l lent d e =
-    copy-fronted n t w u w' l (m .room) lent (let p : a ≡ blockStart n = d ∙ size-whole n (m .most) in rw p at e)
+table-there n w t a u w' h g l lent d e = copy-fronted n t w u w' l g lent (let p : a ≡ blockStart n = d ∙ size-whole n h in rw p at e)
 
 -- the key at the front of the workspace: its rules may be broken by the script's assignments
-pub loose-breakable : (n set : ℕ) (sheet script w v w' : List ℤ) → Markable n set sheet script w v → Fronted n (keyOf (hiddenIn set) n sheet) w w'
-    → FrontBreakable n script w' v
+pub loose-breakable : (n set : ℕ) (sheet script w v w' : List ℤ) → TablesAccepted n set sheet script (length w) (length v)
+    → Fronted n (keyOf (hiddenIn set) n sheet) w w' → FrontBreakable n script w' v
 loose-breakable n set sheet script w v w' m f = record {
-  fits = script-fitting n set sheet script w v m;
-  some = m .some;
-  opposed = λ k p. rw (f .front .words k (p .inside)) (loose-opposed n set sheet script w v m k (holds-same n _ w' k (f .front) p));
-  small = λ k p. rw (f .front .words k (p .inside)) (loose-small n set sheet script w v m k (holds-same n _ w' k (f .front) p));
-  room = rw (f .lent .size) (m .room);
+  fits = script-fitting n set sheet script (length w) (length v) m;
+  some = m .sized .some;
+  opposed = λ k p. rw (f .front .words k (p .inside)) (loose-opposed n set sheet script (length w) (length v) m k (holds-same n _ w' k (f .front) p));
+  small = λ k p. rw (f .front .words k (p .inside)) (loose-small n set sheet script (length w) (length v) m k (holds-same n _ w' k (f .front) p));
+  room = rw (f .lent .size) (m .workspace-room);
   values-room = m .values-room;
 }
 
 -- the script at the front of the workspace: its rules may be broken by the sheet's assignments
-pub tight-breakable : (n set : ℕ) (sheet script w v w' v' : List ℤ) → Markable n set sheet script w v → Fronted n script w w' → v' ≡ v
+pub tight-breakable : (n set : ℕ) (sheet script w v w' v' : List ℤ) → TablesAccepted n set sheet script (length w) (length v) → Fronted n script w w' → v' ≡ v
     → FrontBreakable n sheet w' v'
 tight-breakable n set sheet script w v w' v' m f e = record {
-  fits = sheet-fitting n set sheet script w v m;
-  some = m .some;
-  opposed = λ k p. rw (f .front .words k (p .inside)) (tight-opposed n set sheet script w v m k (holds-same n script w' k (f .front) p));
-  small = λ k p. rw (f .front .words k (p .inside)) (tight-small n set sheet script w v m k (holds-same n script w' k (f .front) p));
-  room = rw (f .lent .size) (m .room);
+  fits = sheet-fitting n set sheet script (length w) (length v) m;
+  some = m .sized .some;
+  opposed = λ k p. rw (f .front .words k (p .inside)) (tight-opposed n set sheet script (length w) (length v) m k (holds-same n script w' k (f .front) p));
+  small = λ k p. rw (f .front .words k (p .inside)) (tight-small n set sheet script (length w) (length v) m k (holds-same n script w' k (f .front) p));
+  room = rw (f .lent .size) (m .workspace-room);
   values-room = rw e (m .values-room);
 }
 
@@ -248,15 +223,16 @@ other-term (Nothing c) (inl o) = let z : ⊥ = omega arith in absurd z
 other-term (Nothing c) (inr o) = let z : ⊥ = omega arith in absurd z
 
 -- loose where a rule of the key is broken
-pub loose-given : (n set : ℕ) (sheet script w v u : List ℤ) (r : Rule) (w' v' : List ℤ) → Markable n set sheet script w v → refuted n sheet ≡ false
-    → Fronted n (keyOf (hiddenIn set) n sheet) w u → FrontBroken n script u v r w' v' → hasTerm r ≡ true
+pub loose-given : (n set : ℕ) (sheet script w v u : List ℤ) (r : Rule) (w' v' : List ℤ) → TablesAccepted n set sheet script (length w) (length v)
+    → refuted n sheet ≡ false → Fronted n (keyOf (hiddenIn set) n sheet) w u → FrontBroken n script u v r w' v' → hasTerm r ≡ true
     → VerdictGiven n set sheet script w v (Loose r) w' v'
 unfolding verdictOf
 loose-given n set sheet script w v u r w' v' m e f b h =
     given-loose n set sheet script w v r w' v' (rw (e, ← same-broken n _ u script (f .front), ← b .reply) (carry-term Loose r _ h))
     (lent-again (workspaceSize n) true true w u w' (f .lent) (b .lent))
     (rw h at (b .written))
-    (loose-shows n (hiddenIn set) sheet script u r v' (sheet-fitting n set sheet script w v m) e (m .visible) (f .front) (b .some h) (b .shown h))
+    (loose-shows n (hiddenIn set) sheet script u r v' (sheet-fitting n set sheet script (length w) (length v) m) e (m .visible) (f .front) (b .some h) (b .shown h)
+    (rw (b .written .size) (m .values-room)))
 
 -- no rule of the key is broken: the workspace is lent on, and the values stay
 pub record NoneLoose (n set : ℕ) (sheet script w v w' v' : List ℤ) : Type 0 where
@@ -274,17 +250,17 @@ none-loose n set sheet script w v u r w' v' f b h = record {
 }
 
 -- then tight where a rule of the script is broken
-pub tight-given : (n set : ℕ) (sheet script w v y x u : List ℤ) (r : Rule) (w' v' : List ℤ) → refuted n sheet ≡ false
+pub tight-given : (n set : ℕ) (sheet script w v y x u : List ℤ) (r : Rule) (w' v' : List ℤ) → n ≤ length v → refuted n sheet ≡ false
     → NoneLoose n set sheet script w v y x → Fronted n script w u → FrontBroken n sheet u x r w' v' → hasTerm r ≡ true
     → VerdictGiven n set sheet script w v (Tight r) w' v'
 unfolding verdictOf
-tight-given n set sheet script w v y x u r w' v' e p f b h =
+tight-given n set sheet script w v y x u r w' v' l e p f b h =
     given-tight n set sheet script w v r w' v'
     (rw (e, pass-bare Loose _ (orElse Tight (firstBroken n script sheet) Equal) (p .none), ← same-broken n script u sheet (f .front), ← b .reply)
     (carry-term Tight r _ h))
     (lent-again (workspaceSize n) true true w u w' (f .lent) (b .lent))
     (rw (p .kept, h) at (b .written))
-    (tight-shows n (hiddenIn set) sheet script u r v' (f .front) (b .some h) (b .shown h))
+    (tight-shows n (hiddenIn set) sheet script u r v' (f .front) (b .some h) (b .shown h) (rw (b .written .size, p .kept) l))
 
 -- and else equal
 pub equal-given : (n set : ℕ) (sheet script w v y x u : List ℤ) (r : Rule) (w' v' : List ℤ) → refuted n sheet ≡ false
@@ -306,9 +282,9 @@ equal-given n set sheet script w v y x u r w' v' e p f b h =
 -- ---- marking two tables
 
 -- checks that are done leave what a verdict asks
-pub checked-markable : (n set : ℕ) (sheet script w v : List ℤ) (a : Reply) → a ≡ markChecks n set sheet script (length w) (length v) → a ≡ Done
-    → Markable n set sheet script w v
-checked-markable n set sheet script w v a e d = checks-tell n set sheet script w v (sym e ∙ d)
+pub checked-accepted : (n set : ℕ) (sheet script : List ℤ) (w v : ℕ) (a : Reply) → a ≡ markChecks n set sheet script w v → a ≡ Done
+    → TablesAccepted n set sheet script w v
+checked-accepted n set sheet script w v a e d = done-accepted n set sheet script w v (sym e ∙ d)
 
 -- a refusal: no word is changed
 pub mark-refused : (n set : ℕ) (sheet script w v : List ℤ) (a : Reply) (f : Refusal) → a ≡ markChecks n set sheet script (length w) (length v) → a ≡ NotDone f
@@ -318,31 +294,53 @@ mark-refused n set sheet script w v a f e d = record {
   reply = rw (← e, d);
   lent = untouched (workspaceSize n) false w;
   written = untouched n false v;
-  visible = λ c. clash c refl;
-  mismatch = λ c. checks-seven n set sheet script (length w) (length v) f (sym e ∙ d) c;
-  demand = λ c. clash c refl;
-  loose-rule = λ rule c. absurd (refused-marked f (Loose rule) c);
-  tight-rule = λ rule c. absurd (refused-marked f (Tight rule) c);
-  loose-shown = λ rule c. absurd (refused-marked f (Loose rule) c);
-  tight-shown = λ rule c. absurd (refused-marked f (Tight rule) c);
+  refused = λ g. (
+    λ c. rw (refusal-same f g (c .0) (c .1)) at why,
+    λ h. (ap refusalNumber (same g h), ap (λ (x : Refusal). integersOf (refusalValues x)) (same g h)),
+  );
+  accepted = (λ c. clash {b = false} c refl, λ t. absurd (not-accepted t));
+  demand = λ t. absurd (not-accepted t);
+  loose-rule = λ rule c. absurd (verdict-refusal (Loose rule) f (sym (c .0)));
+  tight-rule = λ rule c. absurd (verdict-refusal (Tight rule) f (sym (c .0)));
+  loose-shown = λ rule c. absurd (verdict-refusal (Loose rule) f (sym (c .0)));
+  tight-shown = λ rule c. absurd (verdict-refusal (Tight rule) f (sym (c .0)));
 }
+  where
+    why : TablesRefused n set sheet script (length w) (length v) f
+    why = refused-reason n set sheet script (length w) (length v) f (sym e ∙ d)
+
+    same : (g : Refusal) → TablesRefused n set sheet script (length w) (length v) g → f ≡ g
+    same g h = let y : NotDone f ≡ NotDone g = sym d ∙ e ∙ reason-refused n set sheet script (length w) (length v) g h in cc
+
+    not-accepted : TablesAccepted n set sheet script (length w) (length v) → ⊥
+    not-accepted t = refused-done (sym d ∙ e ∙ accepted-done n set sheet script (length w) (length v) t)
 
 -- a verdict
 pub mark-given : (n set : ℕ) (sheet script w v : List ℤ) (a : Reply) (r : Verdict) (w' v' : List ℤ)
     → a ≡ markChecks n set sheet script (length w) (length v) → a ≡ Done → VerdictGiven n set sheet script w v r w' v'
     → TablesMarked n set sheet script w v (Marked r) w' v'
 unfolding markReply
-mark-given n set sheet script w v a r w' v' e d g =
-    let m = checked-markable n set sheet script w v a e d in
-    record {
-      reply = rw (← e, d, ← g .reply);
-      lent = g .lent;
-      written = g .written;
-      visible = λ c. m .visible;
-      mismatch = λ c. absurd (number-seven r c);
-      demand = λ c. rw (g .reply) (verdict-demand n set sheet script w v m);
-      loose-rule = λ rule c. verdict-loose n set sheet script w v m rule (sym (g .reply) ∙ marked-inj r (Loose rule) c);
-      tight-rule = λ rule c. verdict-tight n set sheet script w v m rule (sym (g .reply) ∙ marked-inj r (Tight rule) c);
-      loose-shown = λ rule c. g .loose-shown rule (marked-inj r (Loose rule) c);
-      tight-shown = λ rule c. g .tight-shown rule (marked-inj r (Tight rule) c);
-    }
+mark-given n set sheet script w v a r w' v' e d g = record {
+  reply = rw (← e, d, ← g .reply);
+  lent = g .lent;
+  written = g .written;
+  refused = λ f. (
+    λ c. absurd (verdict-refusal r f (c .0)),
+    λ h. absurd (refused-done (sym (reason-refused n set sheet script (length w) (length v) f h) ∙ sym e ∙ d)),
+  );
+  accepted = (λ c. m, λ t. refl);
+  demand = λ t. rw (g .reply) (verdict-demand n set sheet script (length w) (length v) m);
+  loose-rule = λ rule c. let p = loose-returned r (ruleValues rule) (c .0) (c .1) in
+      loose-alike (p .0) rule (p .2) (hiddenIn set) n sheet (Satisfies n script)
+      (verdict-loose n set sheet script (length w) (length v) m (p .0) (sym (g .reply) ∙ p .1));
+  tight-rule = λ rule c. let p = tight-returned r (ruleValues rule) (c .0) (c .1) in
+      first-alike (p .0) rule (p .2) n script (Satisfies n sheet)
+      (verdict-tight n set sheet script (length w) (length v) m (p .0) (sym (g .reply) ∙ p .1));
+  loose-shown = λ rule c. let p = loose-returned r (ruleValues rule) (c .0) (c .1) in
+      loose-shown-alike (p .0) rule (p .2) n (hiddenIn set) (Satisfies n sheet) (Satisfies n script) v' (g .loose-shown (p .0) (p .1));
+  tight-shown = λ rule c. let p = tight-returned r (ruleValues rule) (c .0) (c .1) in
+      tight-shown-alike (p .0) rule (p .2) n (hiddenIn set) (Satisfies n sheet) (Satisfies n script) v' (g .tight-shown (p .0) (p .1));
+}
+  where
+    m : TablesAccepted n set sheet script (length w) (length v)
+    m = checked-accepted n set sheet script (length w) (length v) a e d

@@ -163,7 +163,7 @@ module _ (n : ℕ) (t : List ℤ) (r : Rule) (w v : List ℤ) (p : RuleBreakable
       record {
         lent = record {
           size = rw (reduced x w' b e q) (reduceUpTo-length n n opposed ∙ put-length copy (oppositeOf r) ∙ change-length (blockStart n) (copying t) w);
-          rest = q .rest ∙ rw e (put-rest n copy (oppositeOf r) placed ∙ change-drop (blockStart n) (copying t) w);
+          rest = q .lent .rest ∙ rw e (put-rest n copy (oppositeOf r) placed ∙ change-drop (blockStart n) (copying t) w);
           kept = λ c. clash refl c;
         };
         written = record {

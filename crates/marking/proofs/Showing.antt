@@ -5,6 +5,7 @@ use mathlib.Core.List.{List}
 use Prim.Native.Nat.{ℕ, zero, suc, _≤_}
 use native.Mathlib.Omega.{arith}
 use lib.IntN.{ℤ, pos}
+use lib.ListN.{length}
 use Rattle.rules.specs.declared.rule.Rule.{Rule}
 use Rattle.rules.specs.declared.rule.Rule.the-variants.{One, Two, Nothing}
 use Rattle.rules.specs.Meaning.{Assignment, Meets, names}
@@ -34,12 +35,13 @@ zero-words n hidden values z (suc j) a b h = z j b h
 -- an assignment of the script that breaks a rule of the key shows that the script is loose
 pub loose-shows : (n : ℕ) (hidden : ℕ → Bool) (sheet script front : List ℤ) (r : Rule) (values : List ℤ) → Fits n sheet → refuted n sheet ≡ false
     → NamesVisible n hidden script → SameTable n (keyOf hidden n sheet) front → FirstBroken n front (Satisfies n script) r → BreakShown n script r values
-    → LooseShown n hidden (Satisfies n sheet) (Satisfies n script) r values
-loose-shows n hidden sheet script front r values f e v same b s = record {
+    → n ≤ length values → LooseShown n hidden (Satisfies n sheet) (Satisfies n script) r values
+loose-shows n hidden sheet script front r values f e v same b s l = record {
   allowed = s .satisfies;
   incomplete = λ a. s .broken (meets a);
   breaks = carried (assignmentOf values) r (s .broken);
   zero = zero-words n hidden values (λ j h g. s .zero j h (visible-unnamed hidden n j script v g) (unnamed j g));
+  there = l;
   range = s .range;
 }
   where
@@ -63,12 +65,14 @@ loose-shows n hidden sheet script front r values f e v same b s = record {
 
 -- an assignment of the sheet that breaks a rule of the script shows that the script is tight
 pub tight-shows : (n : ℕ) (hidden : ℕ → Bool) (sheet script front : List ℤ) (r : Rule) (values : List ℤ) → SameTable n script front
-    → FirstBroken n front (Satisfies n sheet) r → BreakShown n sheet r values → TightShown n hidden (Satisfies n sheet) (Satisfies n script) r values
-tight-shows n hidden sheet script front r values same b s = record {
+    → FirstBroken n front (Satisfies n sheet) r → BreakShown n sheet r values → n ≤ length values
+    → TightShown n hidden (Satisfies n sheet) (Satisfies n script) r values
+tight-shows n hidden sheet script front r values same b s l = record {
   complete = satisfies-agree n sheet (assignmentOf values) (joined hidden (assignmentOf values) (assignmentOf values))
       (λ q l u. sym (cond-same (hidden q) (assignmentOf values q))) (s .satisfies);
   forbidden = λ a. s .broken (rw is (a .each (b .place) holds));
   breaks = carried (assignmentOf values) r (s .broken);
+  there = l;
   range = s .range;
 }
   where

@@ -1,7 +1,7 @@
 -- Marking two tables (document 01, 'Marking', 'Returned to the caller'): the verdict and the reply, which compute.
 use mathlib.Core.Bool.{Bool, false, cond, not, _&&_, _||_}
 use mathlib.Core.List.{List, [], _∷_}
-use Prim.Native.Nat.{ℕ, zero, suc, _+_, _*_}
+use Prim.Native.Nat.{ℕ, zero, suc, _+_}
 use lib.IntN.{ℤ}
 use lib.ListN.{length, take}
 use lib.Signed.{ltZ}
@@ -25,6 +25,7 @@ use Rattle.marking.specs.declared.verdict.Verdict.{Verdict}
 use Rattle.marking.specs.declared.verdict.Verdict.the-variants.{Equal, Loose, Tight}
 use Rattle.marking.specs.declared.verdict.Marking.{Marking}
 use Rattle.marking.specs.declared.verdict.Marking.the-variants.{Marked, Refused}
+use Rattle.marking.specs.Meaning.{workspaceSize}
 
 -- ---- the verdict
 
@@ -76,10 +77,6 @@ tableNamesHidden hidden n t = anyNamesHidden hidden 0 (take (blockStart n) t)
 unfoldable pub visibleReply : (ℕ → Bool) → ℕ → List ℤ → Reply
 visibleReply hidden n script = cond (tableNamesHidden hidden n script) (NotDone Mismatch) Done
 
--- the words of a workspace for marking over n quantities, 4n²
-abbrev pub workspaceSize : ℕ → ℕ
-workspaceSize n = 2 * blockStart n
-
 -- the checks of marking two tables: 1 for n and the tables, 6 for the workspace, 6 for the assignment, 3 for the hidden set and the tables' words, 7
 unfoldable pub markChecks : ℕ → ℕ → List ℤ → List ℤ → ℕ → ℕ → Reply
 markChecks n set sheet script workspace values =
@@ -103,11 +100,11 @@ markReply n set sheet script workspace values =
 -- ---- how the program finds a rule that is broken
 
 -- the first of count places from k on whose word of a list is a rule, and smaller than the word m places further on
-unfoldable pub firstAboveFrom : ℕ → ℕ → ℕ → List ℤ → Place
-firstAboveFrom zero k m ws = Nowhere
-firstAboveFrom (suc count) k m ws =
-    cond (hasRule (wordAt ws k) && ltZ (wordAt ws k) (wordAt ws (m + k))) (At k) (firstAboveFrom count (suc k) m ws)
+unfoldable pub firstBelowFrom : ℕ → ℕ → ℕ → List ℤ → Place
+firstBelowFrom zero k m ws = Nowhere
+firstBelowFrom (suc count) k m ws =
+    cond (hasRule (wordAt ws k) && ltZ (wordAt ws k) (wordAt ws (m + k))) (At k) (firstBelowFrom count (suc k) m ws)
 
 -- of the first m places
-abbrev pub firstAbove : ℕ → List ℤ → Place
-firstAbove m ws = firstAboveFrom m 0 m ws
+abbrev pub firstBelow : ℕ → List ℤ → Place
+firstBelow m ws = firstBelowFrom m 0 m ws

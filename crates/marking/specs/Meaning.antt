@@ -1,24 +1,31 @@
 -- What a verdict means (demand 3), over unbounded integers and apart from any algorithm. Sheet and script are papers: what satisfies the rules that a table holds, or
 -- those that a text writes, a doubled term taken as written.
-use mathlib.Core.Bool.{Bool, true}
+use mathlib.Core.Bool.{Bool, true, false}
 use mathlib.Core.Path.{_≡_}
 use mathlib.Core.Logic.{_↔_, _⊎_}
 use mathlib.Core.List.{List}
-use Prim.Native.Nat.{ℕ, _≤_, _<_}
+use Prim.Native.Nat.{ℕ, _*_, _≤_, _<_}
 use lib.IntN.{ℤ, pos}
+use lib.ListN.{length}
 use Rattle.integers.specs.Bound.{Within}
 use Rattle.words.specs.Change.{wordAt}
+use Rattle.places.specs.Numbering.{blockStart}
 use Rattle.rules.specs.declared.rule.Rule.{Rule}
 use Rattle.rules.specs.declared.rule.Rule.the-variants.{One, Two, Nothing}
+use Rattle.rules.specs.declared.refusal.Refusal.{Refusal}
+use Rattle.rules.specs.declared.refusal.Refusal.the-variants.{Size, OutOfLimit, TooShort, Mismatch}
+use Rattle.rules.specs.Hidden.{hiddenIn, setWithin}
+use Rattle.rules.specs.Limits.{maxQuantities, maxBound}
 use Rattle.rules.specs.Meaning.{Assignment, Meets}
-use Rattle.rules.specs.Steps.{trivialRule}
-use Rattle.tables.specs.Meaning.{HoldsRule, ruleIn, Satisfiable, Unsatisfiable, Paper, Completes, SheetAllows, ScriptAllows, ScriptForbids, Breaks, assignmentOf}
+use Rattle.tables.specs.Meaning.{HoldsRule, ruleIn, Satisfiable, Unsatisfiable, Paper, Completes, SheetAllows, ScriptAllows, ScriptForbids, Breaks, NamesVisible, WordsWithin, assignmentOf}
 use Rattle.elimination.specs.Magnitude.{valueLimit}
 use Rattle.keys.specs.Keys.{keyOf}
+use Rattle.marking.specs.Verdicts.{hasTerm}
 
 -- ---- demand 3
 
--- equal: script and sheet allow the same visible integers
+-- equal: script and sheet allow the same visible integers. Here and below an assignment stands for its visible integers: the rules of an accepted script name visible
+-- quantities alone, and what a sheet allows does not depend on the integers at hidden ones. Where no quantity is visible, all assignments are the one empty choice
 abbrev pub AllowSame : (ℕ → Bool) → Paper → Paper → Type 0
 AllowSame hidden sheet script = (σ : Assignment) → ScriptAllows script σ ↔ SheetAllows hidden sheet σ
 
@@ -62,11 +69,10 @@ pub record FirstBroken (n : ℕ) (rules : List ℤ) (paper : Paper) (r : Rule) :
 abbrev pub NoneBroken : ℕ → List ℤ → Paper → Type 0
 NoneBroken n rules paper = (k : ℕ) → HoldsRule n rules k → Breaks paper (ruleIn rules k) → ⊥
 
--- a loose verdict carries the first key rule by place that some assignment allowed by the script breaks, and none, which is the trivial rule, where the sheet
--- itself allows nothing
+-- a loose verdict carries the first key rule by place that some assignment allowed by the script breaks, and none where the sheet itself allows nothing
 abbrev pub LooseRule : (ℕ → Bool) → ℕ → List ℤ → Paper → Rule → Type 0
 LooseRule hidden n sheet script r =
-    (Unsatisfiable n sheet × (r ≡ trivialRule)) ⊎ (Satisfiable n sheet × FirstBroken n (keyOf hidden n sheet) script r)
+    (Unsatisfiable n sheet × (hasTerm r ≡ false)) ⊎ (Satisfiable n sheet × FirstBroken n (keyOf hidden n sheet) script r)
 
 -- a tight one the first script rule by place that some assignment of the sheet breaks
 abbrev pub TightRule : ℕ → Paper → List ℤ → Rule → Type 0
@@ -90,6 +96,7 @@ pub record LooseShown (n : ℕ) (hidden : ℕ → Bool) (sheet script : Paper) (
   pub incomplete : SheetAllows hidden sheet (assignmentOf values) → ⊥
   pub breaks : BreaksCarried (assignmentOf values) r
   pub zero : (q : ℕ) → 1 ≤ q → q ≤ n → hidden q ≡ true → assignmentOf values q ≡ pos 0
+  pub there : n ≤ length values
   pub range : ValuesWithin n values
 
 -- for tight: its hidden words complete its visible integers, which the script forbids
@@ -97,4 +104,42 @@ pub record TightShown (n : ℕ) (hidden : ℕ → Bool) (sheet script : Paper) (
   pub complete : Completes hidden sheet (assignmentOf values) (assignmentOf values)
   pub forbidden : ScriptForbids script (assignmentOf values)
   pub breaks : BreaksCarried (assignmentOf values) r
+  pub there : n ≤ length values
   pub range : ValuesWithin n values
+
+-- ---- when two tables are accepted, and when and why they are refused
+
+-- the words of a workspace for marking over n quantities, 4n²
+abbrev pub workspaceSize : ℕ → ℕ
+workspaceSize n = 2 * blockStart n
+
+-- n is in its range, and both tables have words enough for it
+pub record Sized (n sheet script : ℕ) : Type 0 where
+  pub some : 1 ≤ n
+  pub most : n ≤ maxQuantities
+  pub sheet-room : blockStart n ≤ sheet
+  pub script-room : blockStart n ≤ script
+
+-- the hidden set names no quantity past n, and the bounds of both tables are in the sheet's limit
+pub record InLimits (n set : ℕ) (sheet script : List ℤ) : Type 0 where
+  pub set-within : setWithin n set ≡ true
+  pub sheet-within : WordsWithin (blockStart n) (pos maxBound) sheet
+  pub script-within : WordsWithin (blockStart n) (pos maxBound) script
+
+-- accepted, with a workspace of w words and v words for an assignment
+pub record TablesAccepted (n set : ℕ) (sheet script : List ℤ) (w v : ℕ) : Type 0 where
+  pub sized : Sized n (length sheet) (length script)
+  pub workspace-room : workspaceSize n ≤ w
+  pub values-room : n ≤ v
+  pub limits : InLimits n set sheet script
+  pub visible : NamesVisible n (hiddenIn set) script
+
+-- refused by the first check that fails: 1, 6 for the workspace, 6 for the assignment, 3, 7
+abbrev pub TablesRefused : ℕ → ℕ → List ℤ → List ℤ → ℕ → ℕ → Refusal → Type 0
+TablesRefused n set sheet script w v f =
+    ((Sized n (length sheet) (length script) → ⊥) × (f ≡ Size))
+    ⊎ ((Sized n (length sheet) (length script) × (w < workspaceSize n) × (f ≡ TooShort (workspaceSize n)))
+    ⊎ ((Sized n (length sheet) (length script) × (workspaceSize n ≤ w) × (v < n) × (f ≡ TooShort n))
+    ⊎ ((Sized n (length sheet) (length script) × (workspaceSize n ≤ w) × (n ≤ v) × (InLimits n set sheet script → ⊥) × (f ≡ OutOfLimit 0))
+    ⊎ (Sized n (length sheet) (length script) × (workspaceSize n ≤ w) × (n ≤ v) × InLimits n set sheet script
+    × (NamesVisible n (hiddenIn set) script → ⊥) × (f ≡ Mismatch)))))

@@ -3,9 +3,9 @@ use mathlib.Core.Bool.{Bool, true, false}
 use mathlib.Core.Path.{_≡_}
 use mathlib.Core.Logic.{_↔_}
 use mathlib.Core.List.{List}
-use Prim.Native.Nat.{ℕ, suc, _*_, _≤_, _<_}
+use Prim.Native.Nat.{ℕ, suc, _≤_, _<_}
 use lib.IntN.{ℤ, pos}
-use lib.ListN.{length, take, drop}
+use lib.ListN.{length, take}
 use lib.Signed.{_<ℤ_}
 use Rattle.integers.specs.Bound.{oppositeBound}
 use Rattle.words.specs.Change.{wordAt}
@@ -13,63 +13,49 @@ use Rattle.places.specs.declared.Place.{Place}
 use Rattle.places.specs.declared.Place.the-variants.{At, Nowhere}
 use Rattle.places.specs.Numbering.{blockStart}
 use Rattle.rules.specs.declared.rule.Rule.{Rule}
-use Rattle.rules.specs.Hidden.{hiddenIn, setWithin}
-use Rattle.rules.specs.Limits.{maxQuantities}
+use Rattle.rules.specs.declared.refusal.Refusal.{Refusal}
+use Rattle.rules.specs.Refusal.{refusalNumber, refusalValues}
+use Rattle.rules.specs.Hidden.{hiddenIn}
 use Rattle.rules.specs.Meaning.{Meets, names}
 use Rattle.rules.specs.Steps.{oppositeOf}
-use Rattle.tables.specs.declared.reply.Reply.the-variants.{Done}
 use Rattle.tables.specs.Places.{ruleAt}
 use Rattle.tables.specs.Tables.{hasRule, putRule}
-use Rattle.tables.specs.Meaning.{HoldsRule, ruleIn, Satisfies, Unsatisfiable, Breaks, NamesVisible, assignmentOf}
+use Rattle.tables.specs.Meaning.{HoldsRule, ruleIn, Satisfies, Unsatisfiable, Breaks, assignmentOf}
 use Rattle.elimination.specs.Magnitude.{Unnamed}
-use Rattle.keys.specs.Keys.{refuted, inSheetLimit}
 use Rattle.keys.specs.Reducing.{Fits}
 use Rattle.keys.specs.Promises.{Lent}
 use Rattle.marking.specs.declared.verdict.Verdict.{Verdict}
 use Rattle.marking.specs.declared.verdict.Verdict.the-variants.{Loose, Tight}
 use Rattle.marking.specs.declared.verdict.Marking.{Marking}
-use Rattle.marking.specs.declared.verdict.Marking.the-variants.{Marked}
-use Rattle.marking.specs.Verdicts.{markingNumber, isMarked, isMarkingShown, isShown, hasTerm}
-use Rattle.marking.specs.Meaning.{ByDemand, FirstAt, FirstBroken, NoneBroken, LooseRule, TightRule, LooseShown, TightShown, ValuesWithin}
-use Rattle.marking.specs.Marking.{firstBroken, verdictOf, markChecks, markReply, workspaceSize}
+use Rattle.marking.specs.Verdicts.{ruleValues, integersOf, markingNumber, Returned, isMarked, isMarkingShown, isShown, hasTerm}
+use Rattle.marking.specs.Meaning.{ByDemand, FirstAt, FirstBroken, NoneBroken, LooseRule, TightRule, LooseShown, TightShown, ValuesWithin, workspaceSize, TablesAccepted, TablesRefused}
+use Rattle.marking.specs.Marking.{firstBroken, verdictOf, markReply}
 
 -- ---- marking two tables
 
--- marking two tables over n quantities with a hidden set, by document 01's numbers and values; neither table is changed, and a refusal changes no word. The tables are
--- accepted where the checks are done
+-- marking two tables over n quantities with a hidden set; neither table is changed, and a refusal changes no word
 pub record TablesMarked (n set : ℕ) (sheet script workspace values : List ℤ) (r : Marking) (workspace' values' : List ℤ) : Type 0 where
   pub reply : r ≡ markReply n set sheet script (length workspace) (length values)
   -- the workspace is free after a verdict; the assignment is written for loose and tight alone
   pub lent : Lent (workspaceSize n) (isMarked r) workspace workspace'
   pub written : Lent n (isMarkingShown r) values values'
-  -- 7 comes, past the earlier checks, exactly where a script rule names a hidden quantity
-  pub visible : isMarked r ≡ true → NamesVisible n (hiddenIn set) script
-  pub mismatch : markingNumber r ≡ 7 → NamesVisible n (hiddenIn set) script → ⊥
+  -- by document 01's numbers and values: refused exactly for these reasons, and a verdict exactly where the tables are accepted
+  pub refused : (f : Refusal) → Returned r (refusalNumber f) (integersOf (refusalValues f))
+      ↔ TablesRefused n set sheet script (length workspace) (length values) f
+  pub accepted : (isMarked r ≡ true) ↔ TablesAccepted n set sheet script (length workspace) (length values)
   -- demand 3
-  pub demand : isMarked r ≡ true → ByDemand (hiddenIn set) (Satisfies n sheet) (Satisfies n script) (markingNumber r)
+  pub demand : TablesAccepted n set sheet script (length workspace) (length values)
+      → ByDemand (hiddenIn set) (Satisfies n sheet) (Satisfies n script) (markingNumber r)
   -- the rule that is carried
-  pub loose-rule : (rule : Rule) → r ≡ Marked (Loose rule) → LooseRule (hiddenIn set) n sheet (Satisfies n script) rule
-  pub tight-rule : (rule : Rule) → r ≡ Marked (Tight rule) → TightRule n (Satisfies n sheet) script rule
+  pub loose-rule : (rule : Rule) → Returned r 101 (ruleValues rule) → LooseRule (hiddenIn set) n sheet (Satisfies n script) rule
+  pub tight-rule : (rule : Rule) → Returned r 102 (ruleValues rule) → TightRule n (Satisfies n sheet) script rule
   -- the assignment that shows it
-  pub loose-shown : (rule : Rule) → r ≡ Marked (Loose rule) → LooseShown n (hiddenIn set) (Satisfies n sheet) (Satisfies n script) rule values'
-  pub tight-shown : (rule : Rule) → r ≡ Marked (Tight rule) → TightShown n (hiddenIn set) (Satisfies n sheet) (Satisfies n script) rule values'
+  pub loose-shown : (rule : Rule) → Returned r 101 (ruleValues rule) → LooseShown n (hiddenIn set) (Satisfies n sheet) (Satisfies n script) rule values'
+  pub tight-shown : (rule : Rule) → Returned r 102 (ruleValues rule) → TightShown n (hiddenIn set) (Satisfies n sheet) (Satisfies n script) rule values'
 
 -- ---- the parts
 
--- what the checks leave: tables over n quantities in the sheet's limits, a script of visible quantities, and room enough
-pub record Markable (n set : ℕ) (sheet script workspace values : List ℤ) : Type 0 where
-  pub some : 1 ≤ n
-  pub most : n ≤ maxQuantities
-  pub sheet-room : blockStart n ≤ length sheet
-  pub script-room : blockStart n ≤ length script
-  pub room : workspaceSize n ≤ length workspace
-  pub values-room : n ≤ length values
-  pub set-within : setWithin n set ≡ true
-  pub sheet-limit : inSheetLimit n sheet ≡ true
-  pub script-limit : inSheetLimit n script ≡ true
-  pub visible : NamesVisible n (hiddenIn set) script
-
--- the verdict of such tables
+-- the verdict of tables that are accepted
 pub record VerdictGiven (n set : ℕ) (sheet script workspace values : List ℤ) (r : Verdict) (workspace' values' : List ℤ) : Type 0 where
   pub reply : r ≡ verdictOf (hiddenIn set) n sheet script
   pub lent : Lent (workspaceSize n) true workspace workspace'

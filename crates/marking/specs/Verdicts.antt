@@ -1,5 +1,6 @@
 -- Document 01's number and values of each verdict, and of each reply of marking two tables.
 use mathlib.Core.Bool.{Bool, true, false, cond}
+use mathlib.Core.Path.{_≡_}
 use mathlib.Core.List.{List, [], _∷_}
 use Prim.Native.Nat.{ℕ, _%_}
 use lib.Dec.{eqb}
@@ -7,7 +8,7 @@ use lib.IntN.{ℤ, pos, negℤ}
 use Rattle.rules.specs.declared.rule.Rule.{Rule}
 use Rattle.rules.specs.declared.rule.Rule.the-variants.{One, Two, Nothing}
 use Rattle.rules.specs.Literal.{quantityOf}
-use Rattle.rules.specs.Refusal.{refusalNumber, refusalValues}
+use Rattle.rules.specs.Refusal.{refusalNumber, refusalValues, refusalValue}
 use Rattle.marking.specs.declared.verdict.Verdict.{Verdict}
 use Rattle.marking.specs.declared.verdict.Verdict.the-variants.{Equal, Loose, Tight}
 use Rattle.marking.specs.declared.verdict.Marking.{Marking}
@@ -61,6 +62,15 @@ integersOf (v ∷ vs) = pos v ∷ integersOf vs
 abbrev pub markingValues : Marking → List ℤ
 markingValues (Marked v) = verdictValues v
 markingValues (Refused f) = integersOf (refusalValues f)
+
+-- a refusal's line or length as one number, 0 where there is none
+abbrev pub markingValue : Marking → ℕ
+markingValue (Marked v) = 0
+markingValue (Refused f) = refusalValue f
+
+-- the reply is returned by this number and these values
+abbrev pub Returned : Marking → ℕ → List ℤ → Type 0
+Returned r number values = (markingNumber r ≡ number) × (markingValues r ≡ values)
 
 -- is it a verdict?
 abbrev pub isMarked : Marking → Bool

@@ -13,7 +13,8 @@ ghost use Prim.Native.Nat.{_+_, _*_, _≤_};
 ghost use lib.ListN.{length};
 ghost use Rattle.places.specs.Numbering.{blockStart};
 ghost use Rattle.keys.specs.Reducing.{Fits};
-ghost use Rattle.marking.specs.Marking.{firstAbove, workspaceSize};
+ghost use Rattle.marking.specs.Marking.{firstBelow};
+ghost use Rattle.marking.specs.Meaning.{workspaceSize};
 ghost use Rattle.marking.specs.Promises.{LeastBounds, BrokenFound, RuleBreakable, RuleBroken, FrontBreakable, FrontBroken};
 
 // Writes the least bound of each term of the table to the front of `least`, and answers whether no integers satisfy the table.
@@ -26,9 +27,9 @@ fn least_bounds(n: usize, table: &[i64], least: &mut [i64]) -> bool
 }
 
 // The first of the first `m` places whose word is a rule, and smaller than the word `m` places further on.
-fn first_above(m: usize, words: &[i64]) -> Place
+fn first_below(m: usize, words: &[i64]) -> Place
     requires { ⌜ 2 * m ≤ length (now words) ⌝ }
-    ensures { λ r. ⌜ r ≡ firstAbove m (now (words .entry)) ⌝ }
+    ensures { λ r. ⌜ r ≡ firstBelow m (now (words .entry)) ⌝ }
 {
     let mut k = 0;
     while k < m {
@@ -52,7 +53,7 @@ fn first_broken(n: usize, table: &[i64], workspace: &mut [i64]) -> Place
     if least_bounds(n, table, &mut workspace[m..]) {
         return Place::Nowhere;
     }
-    first_above(m, workspace)
+    first_below(m, workspace)
 }
 
 // Writes an assignment of the table that breaks the rule: one of the table with the rule's opposite put in.

@@ -10,9 +10,10 @@ use rules::rule::Rule;
 use tables::reply::Reply;
 use tables::table;
 ghost use mathlib.Core.Path.{_≡_};
-ghost use Rattle.marking.specs.Promises.{Markable, VerdictGiven, TablesMarked};
-ghost use Rattle.keys.specs.Promises.{Decided};
+ghost use Rattle.marking.specs.Meaning.{TablesAccepted};
+ghost use Rattle.marking.specs.Promises.{VerdictGiven, TablesMarked};
 ghost use mathlib.Core.Bool.{true};
+ghost use lib.ListN.{length};
 ghost use Rattle.keys.specs.Keys.{refuted};
 
 // The verdict where no integers satisfy the sheet: the script is equal if none satisfy it either, and else loose with no rule.
@@ -24,7 +25,7 @@ fn without_sheet(
     workspace: &mut [i64],
     values: &mut [i64],
 ) -> Verdict
-    requires { ⌜ Markable n set (now sheet) (now script) (now workspace) (now values) ⌝ }
+    requires { ⌜ TablesAccepted n set (now sheet) (now script) (length (now workspace)) (length (now values)) ⌝ }
     requires { ⌜ refuted n (now sheet) ≡ true ⌝ }
     ensures { λ r. ⌜ VerdictGiven n set (now (sheet .entry)) (now (script .entry)) (now (workspace .entry)) (now (values .entry)) r (now (workspace .exit)) (now (values .exit)) ⌝ }
 {
@@ -44,7 +45,7 @@ fn verdict(
     workspace: &mut [i64],
     values: &mut [i64],
 ) -> Verdict
-    requires { ⌜ Markable n set (now sheet) (now script) (now workspace) (now values) ⌝ }
+    requires { ⌜ TablesAccepted n set (now sheet) (now script) (length (now workspace)) (length (now values)) ⌝ }
     ensures { λ r. ⌜ VerdictGiven n set (now (sheet .entry)) (now (script .entry)) (now (workspace .entry)) (now (values .entry)) r (now (workspace .exit)) (now (values .exit)) ⌝ }
 {
     if decide::decide(n, sheet, workspace) {

@@ -2,14 +2,14 @@
 use rules::refusal::Refusal;
 use rules::rule::Rule;
 ghost use mathlib.Core.Path.{_≡_};
-ghost use Rattle.marking.specs.Verdicts.{verdictNumber, markingNumber};
+ghost use Rattle.marking.specs.Verdicts.{verdictNumber, markingNumber, markingValue};
 
 pub enum Verdict {
     // 100: script and sheet allow the same
     Equal,
     // 101: the script allows some that the sheet does not, with a rule of the key; a bare rule is none
     Loose(Rule),
-    // 102: the script forbids some that the sheet allows, with a rule of the script
+    // 102: the script allows none that the sheet does not, and forbids some that it allows, with a rule of the script
     Tight(Rule),
 }
 
@@ -39,6 +39,16 @@ impl Marking {
         match self {
             Marking::Marked(verdict) => verdict.number(),
             Marking::Refused(refusal) => rules::refusal::number(refusal),
+        }
+    }
+
+    // What is returned beside a refusal's number, a line or the length needed; 0 where there is nothing.
+    pub fn value(self) -> usize
+        ensures { λ r. ⌜ r ≡ markingValue self ⌝ }
+    {
+        match self {
+            Marking::Marked(_) => 0,
+            Marking::Refused(refusal) => rules::refusal::value(refusal),
         }
     }
 }

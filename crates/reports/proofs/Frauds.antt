@@ -1,16 +1,29 @@
--- Frauds of *key*: for a named sheet each breaks what is promised of the text printed, by its count and its bytes alone. Assumes nothing.
+-- Frauds of *key*: for a named sheet each breaks what is promised of the text printed, by its count and its bytes alone. And one of *mark*: a line of the
+-- assignment with fewer integers than the sheet has quantities. Assumes nothing.
 use mathlib.Core.Path.{_≡_, sym, _∙_, refl, ap}
 use mathlib.Core.Bool.{false}
 use mathlib.Core.List.{List, _++_}
-use Prim.Native.Nat.{ℕ}
+use Prim.Native.Nat.{ℕ, _≤_}
+use native.Mathlib.Omega.{arith}
 use lib.Dec.{eqb}
-use lib.ListN.{length, getD, take, drop}
+use lib.IntN.{ℤ}
+use lib.ListN.{length, getD, take, drop, length-append}
 use lib.Seq.{take-append-seam}
 use borrow.Author.Tests.{eqb-false}
+use Rattle.words.specs.Change.{wordAt}
 use Rattle.numerals.specs.Bytes.{bytes}
+use Rattle.numerals.proofs.Decimals.{signed-some}
+use Rattle.marking.specs.declared.verdict.Verdict.the-variants.{Loose}
+use Rattle.scripts.specs.declared.reply.TextMarking.{TextMarking}
+use Rattle.scripts.specs.declared.reply.TextMarking.the-variants.{Marked}
+use Rattle.scripts.specs.Replies.{isTextMarked}
 use Rattle.reports.specs.Reports.{keyReport}
-use Rattle.reports.specs.Promises.{KeyPrinted}
-use Rattle.reports.proofs.Starred.{KeyCase, KeyPasses, sheetA, halvedBelow, oneHalf, seenLate, unpaired, starred-pass}
+use Rattle.reports.specs.Marks.{integersText, valuesText, markText}
+use Rattle.reports.specs.Promises.{KeyPrinted, MarkPrinted}
+use Rattle.reports.proofs.Marks.{later-more-length, integers-length, values-length}
+use Rattle.reports.proofs.Markings.{verdict-returned}
+use Rattle.reports.proofs.Starred.{KeyCase, KeyPasses, shownLine, sheetA, wide, halvedBelow, oneHalf, seenLate, unpaired, starred-pass}
+use Rattle.reports.proofs.Shown.{sumRule, wide-loose}
 
 -- what is printed for a case that passes, so many bytes as are counted, is no list that differs from the case's at some byte
 unlike : (c : KeyCase) → KeyPasses c → {out : List ℕ} {end : ℕ} {out' s : List ℕ} (k : ℕ) → KeyPrinted (bytes (c .sheet)) out end out'
@@ -52,3 +65,49 @@ module _ (out : List ℕ) (end : ℕ) (out' : List ℕ) where
   -- a hidden quantity's lone rule kept
   pub lone-kept : KeyPrinted (bytes (unpaired .sheet)) out end out' → take end out' ≡ bytes (unpaired .sheet) → ⊥
   lone-kept p e = unlike unpaired (starred-pass .1 .1 .1 .1 .1 .1 .1 .1 .0) 28 p e refl
+
+-- ---- too few integers, for sheet A and the script +1:3
+
+-- what is printed for them
+abbrev WidePrinted : List ℕ → ℕ → List ℕ → Type 0
+WidePrinted out end out' = MarkPrinted (bytes (wide .sheet)) (bytes (wide .script)) out end out'
+
+-- the assignment has an integer for each of the three quantities
+pub three-integers : {out : List ℕ} {end : ℕ} {out' : List ℕ} (p : WidePrinted out end out') → 3 ≤ length (p .values)
+three-integers p =
+    let e : p .reply ≡ Marked 3 (Loose sumRule) = p .judged .reply ∙ wide-loose in
+    let t = p .judged .accepted .0 (ap isTextMarked e) in
+    let shown = p .shown .loose-shown t sumRule (verdict-returned e) in
+    omega (arith, shown .there, p .judged .counts t 3 (Loose sumRule) e)
+
+-- three integers joined by commas have at least five bytes
+three-long : (values : List ℤ) → 3 ≤ length values → 5 ≤ length (integersText (take 3 values))
+three-long values h =
+    omega (
+      arith,
+      integers-length 3 values (omega arith) (omega arith),
+      later-more-length 2 values (omega arith) (omega arith),
+      later-more-length 1 values (omega arith) (omega arith),
+      signed-some (wordAt values 0),
+      signed-some (wordAt values 1),
+      signed-some (wordAt values 2),
+    )
+
+-- a single 4 in the assignment's line
+pub four-alone : {out : List ℕ} {end : ℕ} {out' : List ℕ} → WidePrinted out end out' → take end out' ≡ bytes "verdict=loose\nrule=+1+3:5\nvalues=4\n" → ⊥
+four-alone {out} {end} {out'} p e =
+    let values = p .values in
+    let line = valuesText (take 3 values) in
+    let text : markText (p .reply) values ≡ bytes (wide .printed) ++ line =
+    ap (λ (r : TextMarking). markText r values) (p .judged .reply) ∙ starred-pass .1 .1 .0 values
+    ∙ ap (λ (r : TextMarking). bytes (wide .printed) ++ shownLine r values) wide-loose in
+    omega (
+      arith,
+      p .front,
+      p .count,
+      ap length e,
+      ap length text,
+      length-append (bytes (wide .printed)) line,
+      values-length (take 3 values),
+      three-long values (three-integers p),
+    )

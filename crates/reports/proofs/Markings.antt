@@ -1,6 +1,7 @@
 -- What marking two texts with what *mark* lends tells of the bytes printed: there is room for them, and they are the contract's. Assumes nothing.
 use mathlib.Core.Path.{_≡_, refl, sym, _∙_, ap, subst}
-use mathlib.Core.List.{List, _++_}
+use mathlib.Core.Bool.{false}
+use mathlib.Core.List.{List, [], _∷_, _++_}
 use mathlib.Core.Logic.{⊎-elim}
 use Prim.Native.Nat.{ℕ, _+_, _*_, _^_, _≤_}
 use native.Mathlib.Omega.{arith}
@@ -9,60 +10,40 @@ use lib.ListN.{length, take, drop, length-append}
 use lib.Seq.{length-take-le}
 use Rattle.places.specs.Numbering.{blockStart}
 use Rattle.rules.specs.declared.rule.Rule.{Rule}
+use Rattle.rules.specs.declared.rule.Rule.the-variants.{One, Two, Nothing}
 use Rattle.rules.specs.declared.refusal.Refusal.{Refusal}
 use Rattle.rules.specs.Limits.{maxQuantities, maxBound, maxRules}
 use Rattle.rules.specs.Hidden.{hiddenIn}
-use Rattle.tables.specs.declared.reply.Reply.{Reply}
-use Rattle.tables.specs.declared.reply.Reply.the-variants.{Done}
-use Rattle.tables.specs.declared.reply.Reply.the-variants.{Refused as NotDone}
+use Rattle.rules.specs.Refusal.{refusalNumber, refusalValues}
 use Rattle.tables.specs.Meaning.{Paper, WordsWithin}
 use Rattle.tables.proofs.Limits.{wordsInLimit-within}
+use Rattle.tables.proofs.Tests.{clash}
 use Rattle.numerals.specs.Writing.{Spliced}
 use Rattle.numerals.proofs.Splices.{splice-start}
 use Rattle.marking.specs.declared.verdict.Verdict.{Verdict}
 use Rattle.marking.specs.declared.verdict.Verdict.the-variants.{Equal, Loose, Tight}
-use Rattle.marking.specs.Marking.{verdictOf}
+use Rattle.marking.specs.Verdicts.{verdictNumber, verdictValues, hasTerm, integersOf}
 use Rattle.marking.specs.Meaning.{LooseRule, TightRule, ValuesWithin}
 use Rattle.reading.specs.Texts.{Contents}
-use Rattle.reading.proofs.Means.{spelled-check}
 use Rattle.writing.specs.Writing.{ruleLineText}
-use Rattle.scripts.specs.declared.reply.Papers.{Papers}
-use Rattle.scripts.specs.declared.reply.Papers.the-variants.{Sheet as OfSheet, Script as OfScript, Both as OfBoth}
+use Rattle.scripts.specs.declared.reply.Subject.{Subject}
+use Rattle.scripts.specs.declared.reply.Subject.the-variants.{Sheet as OfSheet, Script as OfScript, Both as OfBoth}
 use Rattle.scripts.specs.declared.reply.TextMarking.{TextMarking}
 use Rattle.scripts.specs.declared.reply.TextMarking.the-variants.{Marked, Refused}
-use Rattle.scripts.specs.Replies.{isTextMarked}
-use Rattle.scripts.specs.Meaning.{setIn, tableIn, Accepted, ShortIn, RefusedFor}
-use Rattle.scripts.specs.Marking.{markedOr, pairChecks, pairReply, textsReply}
+use Rattle.scripts.specs.Replies.{textNumber, textValues, textSubjects, TextReturned, isTextMarked}
+use Rattle.scripts.specs.Meaning.{setIn, tableIn, AcceptedPair, ShortIn, RefusedPair}
+use Rattle.scripts.specs.Marking.{lentTable, lentWorkspace}
 use Rattle.scripts.specs.Promises.{TextsJudged, TextsShown, TextsMarked}
 use Rattle.scripts.proofs.Sheets.{Sheet, fine-sheet, key-bounds}
-use Rattle.scripts.specs.Marking.{lentTable, lentWorkspace}
 use Rattle.reports.specs.Refusals.{lineOf}
 use Rattle.reports.specs.Marks.{verdictKey, wordText, shownText, verdictName, carriedText, verdictText, refusedMarkText, markText}
-use Rattle.reports.specs.Promises.{maxMark, MarkPrinted}
+use Rattle.reports.specs.Promises.{MarkPrinted}
 use Rattle.reports.proofs.Refusals.{refused-line}
 use Rattle.reports.proofs.Marks.{word-length, values-short, shown-length, broken-short, key-words, verdict-length, refused-short}
 
--- ---- the sheet's n
-
--- a verdict and a refusal are two replies
-marked-refused : {n : ℕ} {v : Verdict} {p : Papers} {f : Refusal} → Marked n v ≡ Refused p f → ⊥
-marked-refused e = let z : _≡_ {A = ℕ} 0 1 = cc in omega arith
-
--- the n of a verdict is the one that the reply is made of
-given-count : {n : ℕ} {v : Verdict} (x : Reply) (count : ℕ) (w : Verdict) → Marked n v ≡ markedOr x count w → n ≡ count
-given-count Done count w e = cc
-given-count (NotDone f) count w e = absurd (marked-refused e)
-
--- the n of two texts' verdict is the sheet's
-reply-count : {sheet script : List ℕ} {a b w l n : ℕ} {v : Verdict} → (t : Accepted sheet script a b w l) → Marked n v ≡ textsReply sheet script a b w l
-    → n ≡ t .of-sheet .count
-unfolding textsReply pairReply
-reply-count {sheet} {script} {a} {b} {w} {l} {n} {v} t e =
-    let c = t .of-sheet in
-    let d = t .of-script in
-    let s = spelled-check sheet c (t .sheet-reads .small) (t .sheet-reads .spelled) in
-    let u = spelled-check script d (t .script-reads .small) (t .script-reads .spelled) in
-    given-count (pairChecks c d a b w l) (c .count) (verdictOf (hiddenIn (setIn c)) (c .count) (tableIn c) (tableIn d)) (rw (s, u) at e)
+-- the bytes of the output that *mark* lends, `ROOM`: the proof of `print_mark` finds no room where that is less
+abbrev markRoom : ℕ
+markRoom = 1024
 
 -- ---- two texts marked with what *mark* lends
 
@@ -83,11 +64,17 @@ lent-marked m e f g h = record {
 
 -- ---- how long a verdict is at most
 
+-- the line of a rule without a term is its key alone
+bare-line : (r : Rule) → hasTerm r ≡ false → length (ruleLineText r) ≤ 33
+bare-line (One x c) e = clash refl e
+bare-line (Two x y c) e = clash refl e
+bare-line (Nothing c) e = omega arith
+
 -- the line of a loose verdict's rule
 loose-line : (c : Contents) → Sheet c → {paper : Paper} {r : Rule} → LooseRule (hiddenIn (setIn c)) (c .count) (tableIn c) paper r
     → length (ruleLineText r) ≤ 33
-loose-line c s =
-    ⊎-elim (λ a. rw (a .1) (omega arith))
+loose-line c s {paper} {r} =
+    ⊎-elim (λ a. bare-line r (a .1))
     (λ b. broken-short (maxBound * 2 ^ length (c .hiddens)) (b .1) (s .most) (key-words c s) (key-bounds c s))
 
 -- the line of a tight verdict's rule
@@ -116,18 +103,29 @@ short-line n a b w v f =
     ⊎-elim (λ x. ap lineOf (x .1)) (⊎-elim (λ x. ap lineOf (x .2)) (⊎-elim (λ x. ap lineOf (x .3)) (λ x. ap lineOf (x .4))))
 
 -- a refusal names a line of a text, which has at most this number, or none
-refusal-line : (sheet script : List ℕ) (a b w v : ℕ) (p : Papers) (f : Refusal) → RefusedFor sheet script a b w v p f → lineOf f ≤ maxRules + 4
+refusal-line : (sheet script : List ℕ) (a b w v : ℕ) (p : Subject) (f : Refusal) → RefusedPair sheet script a b w v p f → lineOf f ≤ maxRules + 4
 refusal-line sheet script a b w v OfSheet f h = refused-line sheet f h
 refusal-line sheet script a b w v OfScript f h = refused-line script f (h .1)
 refusal-line sheet script a b w v OfBoth f h =
     let none : lineOf f ≡ 0 = ⊎-elim (short-line (h .of-sheet .count) a b w v f) (λ x. ap lineOf (x .2)) (h .fails) in
     omega arith
 
+-- ---- the number, the values and the paper by which a reply is returned
+
+-- those of a verdict
+pub verdict-returned : {n : ℕ} {v : Verdict} {r : TextMarking} → r ≡ Marked n v → TextReturned r (verdictNumber v) (verdictValues v) []
+verdict-returned e = (ap textNumber e, ap textValues e, ap textSubjects e)
+
+-- those of a refusal
+refusal-returned : {p : Subject} {f : Refusal} {r : TextMarking} → r ≡ Refused p f
+    → TextReturned r (refusalNumber f) (integersOf (refusalValues f)) (p ∷ [])
+refusal-returned e = (ap textNumber e, ap textValues e, ap textSubjects e)
+
 -- ---- room for what is printed, and the contract
 
 module _ {sheet script : List ℕ} {r : TextMarking} {values : List ℤ} (m : LentMarked sheet script r values) where
   -- both texts are accepted
-  both-accepted : (n : ℕ) (v : Verdict) → r ≡ Marked n v → Accepted sheet script lentTable lentTable lentWorkspace maxQuantities
+  both-accepted : (n : ℕ) (v : Verdict) → r ≡ Marked n v → AcceptedPair sheet script lentTable lentTable lentWorkspace maxQuantities
   both-accepted n v e = m .judged .accepted .0 (ap isTextMarked e)
 
   -- what follows the first line of a verdict has at most 713 bytes
@@ -136,28 +134,28 @@ module _ {sheet script : List ℕ} {r : TextMarking} {values : List ℤ} (m : Le
   carried-short n (Loose rule) e =
       let t = both-accepted n (Loose rule) e in
       let s = fine-sheet (t .of-sheet) (t .sheet-reads .spelled .fine) in
-      let q : n ≡ t .of-sheet .count = reply-count t (sym e ∙ m .judged .reply) in
-      let line = loose-line (t .of-sheet) s (m .judged .loose-rule t n rule e) in
-      rw q (shown-short (t .of-sheet .count) rule values (s .most) line (m .shown .loose-shown t n rule e .range))
+      let q = m .judged .counts t n (Loose rule) e in
+      let line = loose-line (t .of-sheet) s (m .judged .loose-rule t rule (verdict-returned e)) in
+      rw q (shown-short (t .of-sheet .count) rule values (s .most) line (m .shown .loose-shown t rule (verdict-returned e) .range))
   carried-short n (Tight rule) e =
       let t = both-accepted n (Tight rule) e in
       let s = fine-sheet (t .of-sheet) (t .sheet-reads .spelled .fine) in
       let u = fine-sheet (t .of-script) (t .script-reads .spelled .fine) in
-      let q : n ≡ t .of-sheet .count = reply-count t (sym e ∙ m .judged .reply) in
-      let line = tight-line (t .of-sheet) (t .of-script) s u (t .matches .count) (m .judged .tight-rule t n rule e) in
-      rw q (shown-short (t .of-sheet .count) rule values (s .most) line (m .shown .tight-shown t n rule e .range))
+      let q = m .judged .counts t n (Tight rule) e in
+      let line = tight-line (t .of-sheet) (t .of-script) s u (t .matches .count) (m .judged .tight-rule t rule (verdict-returned e)) in
+      rw q (shown-short (t .of-sheet .count) rule values (s .most) line (m .shown .tight-shown t rule (verdict-returned e) .range))
 
   -- a verdict's n is no more than the words of the assignment, and there is room for its text
-  pub verdict-room : (n : ℕ) (v : Verdict) → r ≡ Marked n v → (n ≤ length values) × (length (verdictText v (take n values)) ≤ maxMark)
+  pub verdict-room : (n : ℕ) (v : Verdict) → r ≡ Marked n v → (n ≤ length values) × (length (verdictText v (take n values)) ≤ markRoom)
   verdict-room n v e =
       let t = both-accepted n v e in
-      let q : n ≡ t .of-sheet .count = reply-count t (sym e ∙ m .judged .reply) in
+      let q = m .judged .counts t n v e in
       (omega (arith, m .size, t .room .values-room), omega (arith, verdict-length {v = v} (take n values) refl, first-line v, carried-short n v e))
 
   -- there is room for a refusal's text
-  pub refusal-room : (p : Papers) (f : Refusal) → r ≡ Refused p f → length (refusedMarkText p f) ≤ maxMark
+  pub refusal-room : (p : Subject) (f : Refusal) → r ≡ Refused p f → length (refusedMarkText p f) ≤ markRoom
   refusal-room p f e =
-      let line = refusal-line sheet script lentTable lentTable lentWorkspace maxQuantities p f (m .judged .refused p f .0 e) in
+      let line = refusal-line sheet script lentTable lentTable lentWorkspace maxQuantities p f (m .judged .refused p f .0 (refusal-returned e)) in
       omega (arith, refused-short p f (omega (arith, line)))
 
   -- the record of the contract, where the text printed is that of the reply
@@ -187,6 +185,6 @@ unfolding markText
 reply-marked values e = rw e
 
 -- of a refusal
-pub reply-refused : {p : Papers} {f : Refusal} {r : TextMarking} (values : List ℤ) → r ≡ Refused p f → markText r values ≡ refusedMarkText p f
+pub reply-refused : {p : Subject} {f : Refusal} {r : TextMarking} (values : List ℤ) → r ≡ Refused p f → markText r values ≡ refusedMarkText p f
 unfolding markText
 reply-refused values e = rw e

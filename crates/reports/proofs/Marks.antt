@@ -28,8 +28,8 @@ use Rattle.marking.specs.Meaning.{FirstBroken, ValuesWithin}
 use Rattle.reading.specs.Texts.{Contents}
 use Rattle.writing.specs.Writing.{ruleLineText, countText}
 use Rattle.writing.proofs.Lines.{word-short, line-short}
-use Rattle.scripts.specs.declared.reply.Papers.{Papers}
-use Rattle.scripts.specs.declared.reply.Papers.the-variants.{Sheet as OfSheet, Script as OfScript, Both as OfBoth}
+use Rattle.scripts.specs.declared.reply.Subject.{Subject}
+use Rattle.scripts.specs.declared.reply.Subject.the-variants.{Sheet as OfSheet, Script as OfScript, Both as OfBoth}
 use Rattle.scripts.specs.Meaning.{setIn}
 use Rattle.scripts.proofs.Hiddens.{list-count, count-most}
 use Rattle.scripts.proofs.Sheets.{Sheet}
@@ -156,13 +156,13 @@ pub verdict-length : {v w : Verdict} (s : List ℤ) → v ≡ w
 verdict-length {v} {w} s e = rw (verdict-text s e) (length-append (wordText verdictKey (verdictName w)) (carriedText w s))
 
 -- the lines of a refusal one after the other
-pub refused-text : (p : Papers) (f : Refusal)
+pub refused-text : (p : Subject) (f : Refusal)
     → refusedMarkText p f ≡ countText refusedKey (refusalNumber f) ++ wordText paperKey (paperName p) ++ countText lineKey (lineOf f)
 unfolding refusedMarkText
 refused-text p f = sym (append-assoc (countText refusedKey (refusalNumber f)) (wordText paperKey (paperName p)) (countText lineKey (lineOf f)))
 
 -- the length of them
-pub refused-length : (p : Papers) (f : Refusal)
+pub refused-length : (p : Subject) (f : Refusal)
     → length (refusedMarkText p f)
     ≡ length (countText refusedKey (refusalNumber f)) + length (wordText paperKey (paperName p)) + length (countText lineKey (lineOf f))
 refused-length p f = rw (refused-text p f) (simp length-append)
@@ -214,12 +214,12 @@ key-words c s =
     omega arith
 
 -- the name of a paper has at most 6 bytes
-name-short : (p : Papers) → length (paperName p) ≤ 6
+name-short : (p : Subject) → length (paperName p) ≤ 6
 name-short OfSheet = omega arith
 name-short OfScript = omega arith
 name-short OfBoth = omega arith
 
 -- the text of a refusal whose line has at most four digits has at most 33 bytes
-pub refused-short : (p : Papers) (f : Refusal) → lineOf f < 10 ^ 4 → length (refusedMarkText p f) ≤ 33
+pub refused-short : (p : Subject) (f : Refusal) → lineOf f < 10 ^ 4 → length (refusedMarkText p f) ≤ 33
 refused-short p f h =
     omega (arith, refused-length p f, refusal-parts f, refusal-width 3 f h, word-length paperKey (paperName p), name-short p)

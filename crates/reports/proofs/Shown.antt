@@ -13,13 +13,14 @@ use Rattle.rules.specs.declared.rule.Rule.{Rule}
 use Rattle.rules.specs.Hidden.{hiddenIn, setOf}
 use Rattle.rules.specs.Limits.{maxQuantities}
 use Rattle.rules.specs.Meaning.{literalValue}
-use Rattle.rules.specs.Steps.{ruleOf, trivialRule}
+use Rattle.rules.specs.Steps.{ruleOf}
 use Rattle.tables.specs.Meaning.{assignmentOf}
 use Rattle.tables.proofs.SheetA.{nothing-between}
 use Rattle.tables.proofs.Tests.{clash}
 use Rattle.elimination.specs.Magnitude.{valueLimit}
-use Rattle.marking.specs.declared.verdict.Verdict.the-variants.{Equal, Loose, Tight}
+use Rattle.marking.specs.declared.verdict.Verdict.the-variants.{Loose, Tight}
 use Rattle.marking.specs.Meaning.{ValuesWithin, LooseShown, TightShown}
+use Rattle.marking.proofs.Carried.{loose-shown-alike, tight-shown-alike}
 use Rattle.numerals.specs.Bytes.{bytes}
 use Rattle.lines.specs.Spelling.{Term, one, two, writtenRule}
 use Rattle.lines.specs.Lines.{Judged, accepted, refused}
@@ -28,9 +29,8 @@ use Rattle.reading.specs.Meaning.{rulesOf}
 use Rattle.reading.specs.Reading.{checkText}
 use Rattle.reading.proofs.Means.{spelled-check}
 use Rattle.reading.proofs.Frauds.{contentsA}
-use Rattle.scripts.specs.declared.reply.TextMarking.{TextMarking}
-use Rattle.scripts.specs.declared.reply.TextMarking.the-variants.{Marked, Refused}
-use Rattle.scripts.specs.Replies.{textNumber}
+use Rattle.scripts.specs.declared.reply.TextMarking.the-variants.{Marked}
+use Rattle.scripts.specs.Replies.{textNumber, textValues}
 use Rattle.scripts.specs.Meaning.{Reads}
 use Rattle.scripts.specs.Marking.{lentTable, lentWorkspace}
 use Rattle.scripts.specs.Promises.{TextsShown}
@@ -109,6 +109,7 @@ wide-shown = record {
   incomplete = λ a. nothing-between (a .hiddens 2) (a .complete .0 .met) (a .complete .1 .1 .0 .met);
   breaks = λ m. m .met .le;
   zero = zero-hidden;
+  there = omega arith;
   range = three-within (in-range tt tt) (in-range tt tt) (in-range tt tt);
 }
 
@@ -133,6 +134,7 @@ narrow-shown = record {
   complete = (record { met = leZ-yes tt }, (record { met = leZ-yes tt }, (record { met = leZ-yes tt }, tt)));
   forbidden = λ m. m .0 .met .le;
   breaks = λ m. m .met .le;
+  there = omega arith;
   range = three-within (in-range tt tt) (in-range tt tt) (in-range tt tt);
 }
 
@@ -142,16 +144,10 @@ narrow-shown = record {
 abbrev pub MayShow : MarkCase → List ℤ → Type 0
 MayShow c values = TextsShown (bytes (c .sheet)) (bytes (c .script)) lentTable lentTable lentWorkspace maxQuantities (replyFor c) values
 
--- the contents that an answer has, sheet A's where it has none; and the rule that a reply carries, the trivial one where it carries none
+-- the contents that an answer has, sheet A's where it has none
 abbrev contentsIn : Judged Contents → Contents
 contentsIn (accepted c u) = c
 contentsIn (refused f) = contentsA
-
-abbrev carriedRule : TextMarking → Rule
-carriedRule (Marked n Equal) = trivialRule
-carriedRule (Marked n (Loose r)) = r
-carriedRule (Marked n (Tight r)) = r
-carriedRule (Refused p f) = trivialRule
 
 -- a text is read in one way
 one-reading : {s : List ℕ} {c d : Contents} → checkText s ≡ accepted c [] → Reads s d → d ≡ c
@@ -161,16 +157,18 @@ one-reading {s} {c} {d} e r = ap contentsIn (sym (spelled-check s d (r .small) (
 pub wide-may-show : MayShow wide zero-zero-six
 unfolding setOf
 wide-may-show = record {
-  loose-shown = λ t n r e.
-      rw (one-reading sheet-writes (t .sheet-reads), one-reading wide-writes (t .script-reads), ap carriedRule (sym e ∙ wide-loose)) wide-shown;
-  tight-shown = λ t n r e. absurd (omega (arith, ap textNumber (sym e ∙ wide-loose)));
+  loose-shown = λ t rule e.
+      rw (one-reading sheet-writes (t .sheet-reads), one-reading wide-writes (t .script-reads))
+      (loose-shown-alike sumRule rule (sym (ap textValues wide-loose) ∙ e .1) 3 (hiddenIn 2) _ _ _ wide-shown);
+  tight-shown = λ t rule e. absurd (omega (arith, sym (e .0) ∙ ap textNumber wide-loose));
 }
 
 -- (3, 1, 0) for the one that is too narrow
 pub narrow-may-show : MayShow narrow three-one-zero
 unfolding setOf
 narrow-may-show = record {
-  loose-shown = λ t n r e. absurd (omega (arith, ap textNumber (sym e ∙ narrow-tight)));
-  tight-shown = λ t n r e.
-      rw (one-reading sheet-writes (t .sheet-reads), one-reading narrow-writes (t .script-reads), ap carriedRule (sym e ∙ narrow-tight)) narrow-shown;
+  loose-shown = λ t rule e. absurd (omega (arith, sym (e .0) ∙ ap textNumber narrow-tight));
+  tight-shown = λ t rule e.
+      rw (one-reading sheet-writes (t .sheet-reads), one-reading narrow-writes (t .script-reads))
+      (tight-shown-alike lowRule rule (sym (ap textValues narrow-tight) ∙ e .1) 3 (hiddenIn 2) _ _ _ narrow-shown);
 }

@@ -32,7 +32,7 @@ use Rattle.rules.specs.Hidden.{setOf}
 use Rattle.reading.specs.Texts.{Contents, linesText, headerText, sheetText}
 use Rattle.reading.specs.Reading.{onward, rulesFrom, linesFrom, checkText}
 use Rattle.writing.specs.Writing.{writtenOf, rulesAt, hiddenFrom, writtenText, countText}
-use Rattle.scripts.specs.declared.reply.Papers.the-variants.{Script, Both}
+use Rattle.scripts.specs.declared.reply.Subject.the-variants.{Script, Both}
 use Rattle.scripts.specs.declared.reply.TextMarking.{TextMarking}
 use Rattle.scripts.specs.declared.reply.TextMarking.the-variants.{Marked, Refused}
 use Rattle.scripts.specs.Marking.{roomChecks, headersReply, pairChecks, pairReply, textsReply, lentTable, lentWorkspace}

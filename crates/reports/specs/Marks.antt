@@ -11,8 +11,8 @@ use Rattle.rules.specs.Refusal.{refusalNumber}
 use Rattle.marking.specs.declared.verdict.Verdict.{Verdict}
 use Rattle.marking.specs.declared.verdict.Verdict.the-variants.{Equal, Loose, Tight}
 use Rattle.writing.specs.Writing.{ruleLineText, countText}
-use Rattle.scripts.specs.declared.reply.Papers.{Papers}
-use Rattle.scripts.specs.declared.reply.Papers.the-variants.{Sheet, Script, Both}
+use Rattle.scripts.specs.declared.reply.Subject.{Subject}
+use Rattle.scripts.specs.declared.reply.Subject.the-variants.{Sheet, Script, Both}
 use Rattle.scripts.specs.declared.reply.TextMarking.{TextMarking}
 use Rattle.scripts.specs.declared.reply.TextMarking.the-variants.{Marked, Refused}
 use Rattle.reports.specs.Refusals.{refusedKey, lineKey, lineOf}
@@ -67,13 +67,13 @@ abbrev pub paperKey : List ℕ
 paperKey = bytes "paper="
 
 -- the names of the papers
-abbrev pub paperName : Papers → List ℕ
+abbrev pub paperName : Subject → List ℕ
 paperName Sheet = bytes "sheet"
 paperName Script = bytes "script"
 paperName Both = bytes "both"
 
 -- a refusal and its paper
-unfoldable pub refusedMarkText : Papers → Refusal → List ℕ
+unfoldable pub refusedMarkText : Subject → Refusal → List ℕ
 refusedMarkText p f = countText refusedKey (refusalNumber f) ++ (wordText paperKey (paperName p) ++ countText lineKey (lineOf f))
 
 -- ---- of a reply and the words of the assignment, of which the first n are printed

@@ -1,8 +1,8 @@
 -- What is meant by what *key* prints: the text of a sheet's key, and that no integers satisfy a sheet. No step of the program is in it.
 use mathlib.Core.Path.{_≡_}
-use mathlib.Core.Bool.{true, false}
+use mathlib.Core.Bool.{true}
 use mathlib.Core.Logic.{_↔_}
-use mathlib.Core.List.{List, [], _∷_}
+use mathlib.Core.List.{List}
 use Prim.Native.Nat.{ℕ, _*_, _^_, _≤_}
 use lib.ListN.{length}
 use Rattle.rules.specs.Hidden.{hiddenIn, setOf, isListed}

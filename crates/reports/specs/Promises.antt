@@ -44,10 +44,6 @@ pub record KeyPrinted (s : List ℕ) (out : List ℕ) (end : ℕ) (out' : List �
 
 -- ---- *mark*
 
--- no more bytes than these are printed
-abbrev pub maxMark : ℕ
-maxMark = 1024
-
 -- what is printed for two texts: the reply, and for loose and tight an assignment that shows it. Which one is the program's choice
 pub record MarkPrinted (sheet script out : List ℕ) (end : ℕ) (out' : List ℕ) : Type 0 where
   pub reply : TextMarking

@@ -20,9 +20,6 @@ ghost use Rattle.writing.specs.Promises.{maxWritten};
 ghost use Rattle.reports.specs.Reports.{tableReport};
 ghost use Rattle.reports.specs.Promises.{SheetTable, KeyPrinted};
 
-// The words of the largest table.
-const WORDS: usize = 2 * Sheet::MAX_QUANTITIES * Sheet::MAX_QUANTITIES;
-
 // Bytes enough for whatever is printed: 119 for a text's header, and 33 for each rule.
 pub const ROOM: usize = 119 + 33 * Sheet::MAX_RULES;
 
@@ -44,7 +41,7 @@ fn print_table(n: usize, hidden: u32, table: &mut [i64], out: &mut [u8]) -> usiz
     requires { ⌜ SheetTable n hidden (now table) × (maxWritten ≤ length (now out)) ⌝ }
     ensures { λ r. ⌜ Spliced (now (out .entry)) 0 (tableReport n hidden (now (table .entry))) r (now (out .exit)) ⌝ }
 {
-    let mut words = [0; WORDS];
+    let mut words = [0; table::LARGEST];
     let workspace: &mut [i64] = &mut words;
     let reply = key::key(n, hidden, table, workspace);
     match reply {
@@ -57,7 +54,7 @@ fn print_table(n: usize, hidden: u32, table: &mut [i64], out: &mut [u8]) -> usiz
 pub fn print_key(text: &[u8], out: &mut [u8; ROOM]) -> usize
     ensures { λ r. ⌜ KeyPrinted (now (text .entry)) (now (out .entry)) r (now (out .exit)) ⌝ }
 {
-    let mut words = [0; WORDS];
+    let mut words = [0; table::LARGEST];
     let table: &mut [i64] = &mut words;
     let reading = read::read(text, table);
     match reading {

@@ -5,18 +5,16 @@ use numerals::write;
 use rules::refusal::Refusal;
 use rules::rule::Rule;
 use rules::sheet::Sheet;
-use scripts::reply::Papers;
+use scripts::reply::Subject;
 use scripts::reply::TextMarking;
 use scripts::texts;
+use tables::table;
 use writing::line;
 ghost use Prim.Native.Nat.{_+_, _≤_};
 ghost use lib.ListN.{length, take};
 ghost use Rattle.numerals.specs.Writing.{Spliced};
 ghost use Rattle.reports.specs.Marks.{paperKey, wordText, integersText, valuesText, shownText, verdictText, paperName, refusedMarkText};
 ghost use Rattle.reports.specs.Promises.{MarkPrinted};
-
-// The words of the largest table.
-const WORDS: usize = 2 * Sheet::MAX_QUANTITIES * Sheet::MAX_QUANTITIES;
 
 // Bytes enough for whatever is printed.
 pub const ROOM: usize = 1024;
@@ -87,19 +85,19 @@ fn put_verdict(out: &mut [u8], verdict: Verdict, n: usize, values: &[i64]) -> us
 }
 
 // The line that names the paper of a refusal; answers the cursor after it.
-fn put_paper(out: &mut [u8], at: usize, paper: Papers) -> usize
+fn put_paper(out: &mut [u8], at: usize, paper: Subject) -> usize
     requires { ⌜ at + length (wordText paperKey (paperName paper)) ≤ length (now out) ⌝ }
     ensures { λ r. ⌜ Spliced (now (out .entry)) at (wordText paperKey (paperName paper)) r (now (out .exit)) ⌝ }
 {
     match paper {
-        Papers::Sheet => put_word(out, at, b"paper=", b"sheet"),
-        Papers::Script => put_word(out, at, b"paper=", b"script"),
-        Papers::Both => put_word(out, at, b"paper=", b"both"),
+        Subject::Sheet => put_word(out, at, b"paper=", b"sheet"),
+        Subject::Script => put_word(out, at, b"paper=", b"script"),
+        Subject::Both => put_word(out, at, b"paper=", b"both"),
     }
 }
 
 // The refusal with its paper; answers the length of what is written at the start of the output.
-fn put_refused(out: &mut [u8], paper: Papers, r: Refusal) -> usize
+fn put_refused(out: &mut [u8], paper: Subject, r: Refusal) -> usize
     requires { ⌜ length (refusedMarkText paper r) ≤ length (now out) ⌝ }
     ensures { λ k. ⌜ Spliced (now (out .entry)) 0 (refusedMarkText paper r) k (now (out .exit)) ⌝ }
 {
@@ -112,9 +110,9 @@ fn put_refused(out: &mut [u8], paper: Papers, r: Refusal) -> usize
 pub fn print_mark(sheet: &[u8], script: &[u8], out: &mut [u8; ROOM]) -> usize
     ensures { λ r. ⌜ MarkPrinted (now (sheet .entry)) (now (script .entry)) (now (out .entry)) r (now (out .exit)) ⌝ }
 {
-    let mut sheet_table = [0; WORDS];
-    let mut script_table = [0; WORDS];
-    let mut workspace = [0; 2 * WORDS];
+    let mut sheet_table = [0; table::LARGEST];
+    let mut script_table = [0; table::LARGEST];
+    let mut workspace = [0; 2 * table::LARGEST];
     let mut values = [0; Sheet::MAX_QUANTITIES];
     let marking = texts::mark_texts(
         sheet,

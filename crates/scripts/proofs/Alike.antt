@@ -96,6 +96,7 @@ alike-loose-shown n hidden r values h g s = record {
   incomplete = λ d. s .incomplete (allows hidden (alike-back h) (assignmentOf values) d);
   breaks = s .breaks;
   zero = s .zero;
+  there = s .there;
   range = s .range;
 }
 
@@ -106,5 +107,6 @@ alike-tight-shown n hidden r values h g s = record {
   complete = h (joined hidden (assignmentOf values) (assignmentOf values)) .0 (s .complete);
   forbidden = λ d. s .forbidden (g (assignmentOf values) .1 d);
   breaks = s .breaks;
+  there = s .there;
   range = s .range;
 }

@@ -16,7 +16,7 @@ use Rattle.reading.specs.Reading.{checkText, filled}
 use Rattle.reading.specs.Promises.{TextChecked}
 use Rattle.marking.specs.declared.verdict.Marking.{Marking}
 use Rattle.marking.specs.Promises.{TablesMarked}
-use Rattle.scripts.specs.declared.reply.Papers.the-variants.{Sheet, Script}
+use Rattle.scripts.specs.declared.reply.Subject.the-variants.{Sheet, Script}
 use Rattle.scripts.specs.declared.reply.TextMarking.{TextMarking}
 use Rattle.scripts.specs.Replies.{refusedText, refusedBoth, markedTexts}
 use Rattle.scripts.specs.Marking.{roomChecks, headersReply}

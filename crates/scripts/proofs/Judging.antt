@@ -2,7 +2,7 @@
 -- Assumes nothing.
 use mathlib.Core.Path.{_≡_, refl, sym, _∙_, ap, subst, subst₂}
 use mathlib.Core.Bool.{Bool, true, false, cond, _&&_}
-use mathlib.Core.List.{List}
+use mathlib.Core.List.{List, [], _∷_}
 use mathlib.Core.Logic.{_⊎_, inl, inr}
 use Prim.Native.Nat.{ℕ}
 use lib.Dec.{ltb, eqb}
@@ -11,22 +11,26 @@ use borrow.Author.Tests.{ltb-true, ltb-false, lt-ltb, le-ltb, eqb-true, eq-eqb}
 use Rattle.places.specs.Numbering.{blockStart}
 use Rattle.rules.specs.declared.refusal.Refusal.{Refusal}
 use Rattle.rules.specs.declared.refusal.Refusal.the-variants.{TooShort, Mismatch}
+use Rattle.rules.specs.Refusal.{refusalNumber, refusalValues}
 use Rattle.tables.specs.declared.reply.Reply.{Reply}
 use Rattle.tables.specs.declared.reply.Reply.the-variants.{Done}
 use Rattle.tables.specs.declared.reply.Reply.the-variants.{Refused as NotDone}
 use Rattle.tables.proofs.Tests.{refused-done, clash, both-true}
 use Rattle.keys.specs.Keys.{andThen, lengthReply}
-use Rattle.marking.specs.Marking.{workspaceSize}
+use Rattle.marking.specs.Verdicts.{integersOf}
+use Rattle.marking.specs.Meaning.{workspaceSize}
+use Rattle.marking.proofs.Carried.{refusal-same}
 use Rattle.lines.specs.Lines.{refused}
 use Rattle.reading.specs.Texts.{Contents}
 use Rattle.reading.specs.Meaning.{FailsFor}
 use Rattle.reading.proofs.Means.{text-means, spelled-check}
 use Rattle.reading.proofs.RuleLines.{not-accepted}
-use Rattle.scripts.specs.declared.reply.Papers.{Papers}
-use Rattle.scripts.specs.declared.reply.Papers.the-variants.{Sheet, Script, Both}
+use Rattle.scripts.specs.declared.reply.Subject.{Subject}
+use Rattle.scripts.specs.declared.reply.Subject.the-variants.{Sheet, Script, Both}
 use Rattle.scripts.specs.declared.reply.TextMarking.the-variants.{Refused}
-use Rattle.scripts.specs.Meaning.{Reads, Matches, Room, Accepted, ShortIn, PairFails, RefusedFor}
-use Rattle.scripts.specs.Marking.{roomChecks, headersReply, textsReply}
+use Rattle.scripts.specs.Replies.{textNumber, textValues, textSubjects, TextReturned}
+use Rattle.scripts.specs.Meaning.{Reads, Matches, Room, AcceptedPair, ShortIn, PairFails, RefusedPair}
+use Rattle.scripts.specs.Marking.{roomChecks, headersReply, textsReply, countIn}
 use Rattle.scripts.specs.Promises.{TextsJudged, TextsShown}
 
 -- ---- what is lent
@@ -125,8 +129,12 @@ headers-mismatch n set n' set' f e = go (eqb n n' && eqb set set') e
 -- ---- one text
 
 -- a text has one contents
-pub same-contents : (s : List ℕ) (c d : Contents) → Reads s c → Reads s d → c ≡ d
+same-contents : (s : List ℕ) (c d : Contents) → Reads s c → Reads s d → c ≡ d
 same-contents s c d p q = let e = spelled-check s c (p .small) (p .spelled) in let f = spelled-check s d (q .small) (q .spelled) in cc
+
+-- its n
+pub reads-count : (s : List ℕ) (c : Contents) → Reads s c → countIn s ≡ c .count
+reads-count s c p = rw (spelled-check s c (p .small) (p .spelled))
 
 -- a text that is fine does not fail
 reads-or-fails : (s : List ℕ) (c : Contents) (f : Refusal) → Reads s c → FailsFor s f → ⊥
@@ -136,12 +144,21 @@ reads-or-fails s c f p h = not-accepted (sym (text-means s (refused f) .1 h) ∙
 fails-same : (s : List ℕ) (f g : Refusal) → FailsFor s f → FailsFor s g → f ≡ g
 fails-same s f g h k = let e = text-means s (refused f) .1 h in let d = text-means s (refused g) .1 k in cc
 
+-- ---- two refusals
+
+-- a refusal that is returned by the number, values and paper of another is that one
+returned-same : (p q : Subject) (f g : Refusal) → TextReturned (Refused p f) (refusalNumber g) (integersOf (refusalValues g)) (q ∷ []) → (p ≡ q) × (f ≡ g)
+returned-same p q f g e = (same-paper (e .2), refusal-same f g (e .0) (e .1))
+  where
+    same-paper : p ∷ [] ≡ q ∷ [] → p ≡ q
+    same-paper e = cc
+
 -- ---- two texts
 
 module _ (sheet script : List ℕ) (a b w v : ℕ) where
   -- what is known of the contents of both texts is known of those that are accepted
   pub of-accepted : (P : Contents → Contents → Type 0) (c d : Contents) → Reads sheet c → Reads script d → P c d
-      → (t : Accepted sheet script a b w v) → P (t .of-sheet) (t .of-script)
+      → (t : AcceptedPair sheet script a b w v) → P (t .of-sheet) (t .of-script)
   of-accepted P c d p q h t =
       subst₂ P (same-contents sheet c (t .of-sheet) p (t .sheet-reads)) (same-contents script d (t .of-script) q (t .script-reads)) h
 
@@ -164,7 +181,7 @@ module _ (sheet script : List ℕ) (a b w v : ℕ) where
       go (inr h) (inr k) = h .2 ∙ sym (k .2)
 
   -- and not accepted
-  pair-refused : (f : Refusal) → PairFails sheet script a b w v f → Accepted sheet script a b w v → ⊥
+  pair-refused : (f : Refusal) → PairFails sheet script a b w v f → AcceptedPair sheet script a b w v → ⊥
   pair-refused f p t = go (p .fails)
     where
       same : t .of-sheet ≡ p .of-sheet
@@ -176,7 +193,7 @@ module _ (sheet script : List ℕ) (a b w v : ℕ) where
           h .1 (subst₂ Matches same (same-contents script (t .of-script) (p .of-script) (t .script-reads) (p .script-reads)) (t .matches))
 
   -- two refusals with their reasons are the same
-  refused-same : (p q : Papers) (f g : Refusal) → RefusedFor sheet script a b w v p f → RefusedFor sheet script a b w v q g → Refused p f ≡ Refused q g
+  refused-same : (p q : Subject) (f g : Refusal) → RefusedPair sheet script a b w v p f → RefusedPair sheet script a b w v q g → Refused p f ≡ Refused q g
   refused-same Sheet Sheet f g h k = ap (Refused Sheet) (fails-same sheet f g h k)
   refused-same Sheet Script f g h k = absurd (reads-or-fails sheet (k .0 .contents) f (k .0 .reads) h)
   refused-same Sheet Both f g h k = absurd (reads-or-fails sheet (k .of-sheet) f (k .sheet-reads) h)
@@ -188,29 +205,30 @@ module _ (sheet script : List ℕ) (a b w v : ℕ) where
   refused-same Both Both f g h k = ap (Refused Both) (pair-same f g h k)
 
   -- texts that are accepted have no reason
-  pub refused-accepted : (p : Papers) (f : Refusal) → RefusedFor sheet script a b w v p f → Accepted sheet script a b w v → ⊥
+  pub refused-accepted : (p : Subject) (f : Refusal) → RefusedPair sheet script a b w v p f → AcceptedPair sheet script a b w v → ⊥
   refused-accepted Sheet f h t = reads-or-fails sheet (t .of-sheet) f (t .sheet-reads) h
   refused-accepted Script f h t = reads-or-fails script (t .of-script) f (t .script-reads) (h .1)
   refused-accepted Both f h t = pair-refused f h t
 
   -- a refusal that has its reason is judged as promised,
-  pub refused-judged : (p : Papers) (f : Refusal) → textsReply sheet script a b w v ≡ Refused p f → RefusedFor sheet script a b w v p f
+  pub refused-judged : (p : Subject) (f : Refusal) → textsReply sheet script a b w v ≡ Refused p f → RefusedPair sheet script a b w v p f
       → TextsJudged sheet script a b w v (Refused p f)
   refused-judged p f e why = record {
     reply = sym e;
     refused = λ q g. (
-      λ d. let s : p ≡ q = cc in let u : f ≡ g = cc in subst₂ (RefusedFor sheet script a b w v) s u why,
-      refused-same p q f g why,
+      λ d. let s = returned-same p q f g d in subst₂ (RefusedPair sheet script a b w v) (s .0) (s .1) why,
+      λ h. let s = refused-same p q f g why h in (ap textNumber s, ap textValues s, ap textSubjects s),
     );
     accepted = (λ d. clash {b = false} d refl, λ t. absurd (refused-accepted p f why t));
+    counts = λ t n x d. absurd (refused-accepted p f why t);
     demand = λ t. absurd (refused-accepted p f why t);
-    loose-rule = λ t n rule d. absurd (refused-accepted p f why t);
-    tight-rule = λ t n rule d. absurd (refused-accepted p f why t);
+    loose-rule = λ t rule d. absurd (refused-accepted p f why t);
+    tight-rule = λ t rule d. absurd (refused-accepted p f why t);
   }
 
   -- and shows nothing
-  pub refused-shown : (p : Papers) (f : Refusal) (values : List ℤ) → RefusedFor sheet script a b w v p f → TextsShown sheet script a b w v (Refused p f) values
+  pub refused-shown : (p : Subject) (f : Refusal) (values : List ℤ) → RefusedPair sheet script a b w v p f → TextsShown sheet script a b w v (Refused p f) values
   refused-shown p f values why = record {
-    loose-shown = λ t n rule d. absurd (refused-accepted p f why t);
-    tight-shown = λ t n rule d. absurd (refused-accepted p f why t);
+    loose-shown = λ t rule d. absurd (refused-accepted p f why t);
+    tight-shown = λ t rule d. absurd (refused-accepted p f why t);
   }

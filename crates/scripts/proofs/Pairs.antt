@@ -1,11 +1,11 @@
 -- Two fine texts with room and one header: their reply is that of marking their tables, and what it says of the tables it says of the rules as written. Assumes nothing.
 use mathlib.Core.Path.{_≡_, refl, sym, _∙_, ap}
-use mathlib.Core.Bool.{Bool, true, false, cond}
-use mathlib.Core.List.{List, _++_}
-use mathlib.Core.Logic.{inr}
+use mathlib.Core.Bool.{Bool, true}
+use mathlib.Core.List.{List, [], _∷_, _++_}
+use mathlib.Core.Logic.{inl, inr}
 use Prim.Native.Nat.{ℕ, _≤_}
 use native.Mathlib.Omega.{arith}
-use lib.IntN.{ℤ}
+use lib.IntN.{ℤ, pos}
 use lib.ListN.{length, drop, length-append, length-drop}
 use lib.Seq.{drop-append-seam}
 use borrow.Author.Tests.{le-ltb}
@@ -13,37 +13,38 @@ use Rattle.places.specs.Numbering.{blockStart}
 use Rattle.rules.specs.declared.refusal.Refusal.{Refusal}
 use Rattle.rules.specs.declared.refusal.Refusal.the-variants.{Mismatch}
 use Rattle.rules.specs.Hidden.{hiddenIn}
+use Rattle.rules.specs.Limits.{maxBound}
 use Rattle.tables.specs.declared.reply.Reply.{Reply}
 use Rattle.tables.specs.declared.reply.Reply.the-variants.{Done}
 use Rattle.tables.specs.declared.reply.Reply.the-variants.{Refused as NotDone}
 use Rattle.tables.specs.Tables.{serves}
-use Rattle.tables.specs.Meaning.{Satisfies}
-use Rattle.tables.proofs.Tests.{refused-done, clash}
+use Rattle.tables.specs.Meaning.{Satisfies, NamesVisible}
+use Rattle.tables.proofs.Tests.{clash}
+use Rattle.tables.proofs.Limits.{wordsInLimit-within}
 use Rattle.tables.proofs.Sizes.{long-serves}
 use Rattle.keys.specs.Keys.{andThen, lengthReply, limitReply, inSheetLimit}
 use Rattle.keys.specs.Promises.{Lent}
 use Rattle.marking.specs.declared.verdict.Verdict.{Verdict}
-use Rattle.marking.specs.declared.verdict.Verdict.the-variants.{Loose, Tight}
 use Rattle.marking.specs.declared.verdict.Marking.{Marking}
 use Rattle.marking.specs.declared.verdict.Marking.the-variants.{Refused as NotMarked}
 use Rattle.marking.specs.declared.verdict.Marking.the-variants.{Marked as TablesMarkedAs}
 use Rattle.marking.specs.Verdicts.{verdictNumber, isMarked}
-use Rattle.marking.specs.Meaning.{ByDemand, LooseRule, TightRule, LooseShown, TightShown}
-use Rattle.marking.specs.Marking.{verdictOf, tableNamesHidden, visibleReply, workspaceSize, markChecks, markedAs, markReply}
+use Rattle.marking.specs.Meaning.{ByDemand, LooseRule, TightRule, LooseShown, TightShown, workspaceSize, Sized, InLimits, TablesRefused}
+use Rattle.marking.specs.Marking.{verdictOf, visibleReply, markChecks, markedAs, markReply}
 use Rattle.marking.specs.Promises.{TablesMarked}
 use Rattle.reading.specs.Texts.{Contents}
 use Rattle.reading.specs.Meaning.{rulesOf}
 use Rattle.reading.proofs.Means.{spelled-check}
-use Rattle.scripts.specs.declared.reply.Papers.{Papers}
-use Rattle.scripts.specs.declared.reply.Papers.the-variants.{Both}
-use Rattle.scripts.specs.declared.reply.TextMarking.the-variants.{Marked, Refused}
+use Rattle.scripts.specs.declared.reply.Subject.{Subject}
+use Rattle.scripts.specs.declared.reply.Subject.the-variants.{Both}
+use Rattle.scripts.specs.declared.reply.TextMarking.the-variants.{Marked}
 use Rattle.scripts.specs.Replies.{markedTexts}
-use Rattle.scripts.specs.Meaning.{setIn, tableIn, Reads, Room, Accepted, RefusedFor}
+use Rattle.scripts.specs.Meaning.{setIn, tableIn, Reads, Room, AcceptedPair, RefusedPair}
 use Rattle.scripts.specs.Marking.{pairChecks, markedOr, pairReply, textsReply, countIn}
 use Rattle.scripts.specs.Promises.{TextsJudged, TextsShown, TextsMarked}
 use Rattle.scripts.proofs.Sheets.{Sheet, fine-sheet}
 use Rattle.scripts.proofs.Matching.{matches-visible, visible-matches}
-use Rattle.scripts.proofs.Judging.{room-done, same-headers, of-accepted, refused-accepted, refused-judged, refused-shown}
+use Rattle.scripts.proofs.Judging.{room-done, same-headers, reads-count, of-accepted, refused-accepted, refused-judged, refused-shown}
 use Rattle.scripts.proofs.Alike.{Alike, alike-demand, alike-loose-rule, alike-tight-rule, alike-loose-shown, alike-tight-shown}
 
 -- the last check of two texts, and their verdict
@@ -55,28 +56,14 @@ verdictIn c d = verdictOf (hiddenIn (setIn c)) (c .count) (tableIn c) (tableIn d
 
 -- ---- replies
 
--- a verdict is no refusal
-not-refused {ℓ} : {X : Type ℓ} {n : ℕ} {x : Verdict} {p : Papers} {f : Refusal} → Marked n x ≡ Refused p f → X
-not-refused e = let z : _≡_ {A = ℕ} 0 1 = cc in let y : ⊥ = omega arith in absurd y
+-- a verdict names no paper
+none-named : {p : Subject} → _≡_ {A = List Subject} [] (p ∷ []) → ⊥
+none-named e = let z : _≡_ {A = ℕ} 0 1 = cc in omega arith
 
 -- the texts' reply from that of their tables
 marked-same : (r : Reply) (n : ℕ) (x : Verdict) → markedTexts n (markedAs r x) ≡ markedOr r n x
 marked-same Done n x = refl
 marked-same (NotDone f) n x = refl
-
--- tables that are refused are so by their checks
-marking-refused : (r : Reply) (x : Verdict) (f : Refusal) → NotMarked f ≡ markedAs r x → r ≡ NotDone f
-marking-refused Done x f e = let z : _≡_ {A = ℕ} 0 1 = cc in let y : ⊥ = omega arith in absurd y
-marking-refused (NotDone g) x f e = let z : g ≡ f = cc in ap NotDone z
-
--- the last check refuses with 7
-visible-mismatch : (c d : Contents) (f : Refusal) → visibleIn c d ≡ NotDone f → f ≡ Mismatch
-unfolding visibleReply
-visible-mismatch c d f e = go (tableNamesHidden (hiddenIn (setIn c)) (c .count) (tableIn d)) e
-  where
-    go : (b : Bool) → cond b (NotDone Mismatch) Done ≡ NotDone f → f ≡ Mismatch
-    go true e = cc
-    go false e = absurd (refused-done (sym e))
 
 -- ---- what is lent
 
@@ -94,15 +81,11 @@ fronted m front t t' e h f = record {
 
 -- ---- two contents
 
-module _ (sheet script : List ℕ) (c d : Contents) (p : Reads sheet c) (q : Reads script d) where
-  -- the reply of two texts that are fine
-  pub pair-reply : (a b w v : ℕ) → textsReply sheet script a b w v ≡ markedOr (pairChecks c d a b w v) (c .count) (verdictIn c d)
-  unfolding textsReply pairReply
-  pair-reply a b w v = rw (spelled-check sheet c (p .small) (p .spelled), spelled-check script d (q .small) (q .spelled))
-
-  -- the sheet's n
-  pair-count : countIn sheet ≡ c .count
-  pair-count = rw (spelled-check sheet c (p .small) (p .spelled))
+-- the reply of two texts that are fine
+pub pair-reply : (sheet script : List ℕ) (c d : Contents) → Reads sheet c → Reads script d
+    → (a b w v : ℕ) → textsReply sheet script a b w v ≡ markedOr (pairChecks c d a b w v) (c .count) (verdictIn c d)
+unfolding textsReply pairReply
+pair-reply sheet script c d p q a b w v = rw (spelled-check sheet c (p .small) (p .spelled), spelled-check script d (q .small) (q .spelled))
 
 module _ (sheet script : List ℕ) (a b w v : List ℤ) (c d : Contents) (p : Reads sheet c) (q : Reads script d)
     (room : Room (c .count) (length a) (length b) (length w) (length v)) (counts : d .count ≡ c .count) (sets : setIn d ≡ setIn c) where
@@ -112,6 +95,10 @@ module _ (sheet script : List ℕ) (a b w v : List ℤ) (c d : Contents) (p : Re
 
   of-script : Sheet d
   of-script = fine-sheet d (q .spelled .fine)
+
+  -- the script's bounds are in the sheet's limit
+  script-limit : inSheetLimit (c .count) (tableIn d) ≡ true
+  script-limit = rw (← counts) (of-script .limit)
 
   -- the reply, once there is room and the headers are the same
   texts-reply : textsReply sheet script (length a) (length b) (length w) (length v) ≡ markedOr (visibleIn c d) (c .count) (verdictIn c d)
@@ -143,8 +130,31 @@ module _ (sheet script : List ℕ) (a b w v : List ℤ) (c d : Contents) (p : Re
       script-serves : serves (c .count) (length (tableIn d)) ≡ true
       script-serves = rw (of-script .size, counts) (long-serves (c .count) (blockStart (c .count)) (of-sheet .some) (of-sheet .most) (omega arith))
 
-      script-limit : inSheetLimit (c .count) (tableIn d) ≡ true
-      script-limit = rw (← counts) (of-script .limit)
+  -- the tables have words enough for the sheet's n, which is in its range
+  tables-sized : Sized (c .count) (length (tableIn c)) (length (tableIn d))
+  tables-sized = record {
+    some = of-sheet .some;
+    most = of-sheet .most;
+    sheet-room = rw (of-sheet .size) (omega arith);
+    script-room = rw (of-script .size, counts) (omega arith);
+  }
+
+  -- the hidden set names no quantity past it, and all bounds are in the sheet's limit
+  tables-limits : InLimits (c .count) (setIn c) (tableIn c) (tableIn d)
+  tables-limits = record {
+    set-within = of-sheet .range;
+    sheet-within = wordsInLimit-within (blockStart (c .count)) (pos maxBound) (tableIn c) .0 (of-sheet .limit);
+    script-within = wordsInLimit-within (blockStart (c .count)) (pos maxBound) (tableIn d) .0 script-limit;
+  }
+
+  -- so they are refused only where the script names a hidden quantity, with 7
+  tables-hidden : (f : Refusal) → TablesRefused (c .count) (setIn c) (tableIn c) (tableIn d) (length w) (length v) f
+      → (NamesVisible (c .count) (hiddenIn (setIn c)) (tableIn d) → ⊥) × (f ≡ Mismatch)
+  tables-hidden f (inl h) = absurd (h .0 tables-sized)
+  tables-hidden f (inr (inl h)) = let z : ⊥ = omega (arith, h .1, room .workspace-room) in absurd z
+  tables-hidden f (inr (inr (inl h))) = let z : ⊥ = omega (arith, h .2, room .values-room) in absurd z
+  tables-hidden f (inr (inr (inr (inl h)))) = absurd (h .3 tables-limits)
+  tables-hidden f (inr (inr (inr (inr h)))) = (h .4, h .5)
 
   module _ (w' v' : List ℤ) where
     -- the tables are marked so
@@ -157,26 +167,26 @@ module _ (sheet script : List ℕ) (a b w v : List ℤ) (c d : Contents) (p : Re
         texts-reply ∙ sym (marked-same (visibleIn c d) (c .count) (verdictIn c d)) ∙ ap (markedTexts (c .count)) (sym (t .reply ∙ tables-reply))
 
     -- a refusal is 7, and the script does not fit
-    refused-why : (f : Refusal) → TablesAre (NotMarked f) → RefusedFor sheet script (length a) (length b) (length w) (length v) Both f
+    refused-why : (f : Refusal) → TablesAre (NotMarked f) → RefusedPair sheet script (length a) (length b) (length w) (length v) Both f
     refused-why f t =
-        let m = visible-mismatch c d f (marking-refused (visibleIn c d) (verdictIn c d) f (t .reply ∙ tables-reply)) in
+        let m = tables-hidden f (t .refused f .0 (refl, refl)) in
         record {
           of-sheet = c;
           of-script = d;
           sheet-reads = p;
           script-reads = q;
-          fails = inr (room, λ h. t .mismatch (rw m) (matches-visible c d (p .spelled .fine) (q .spelled .fine) h), m);
+          fails = inr (room, λ h. m .0 (matches-visible c d (p .spelled .fine) (q .spelled .fine) h), m .1);
         }
 
     -- a verdict says that they are accepted
-    both-accepted : (x : Verdict) → TablesAre (TablesMarkedAs x) → Accepted sheet script (length a) (length b) (length w) (length v)
+    both-accepted : (x : Verdict) → TablesAre (TablesMarkedAs x) → AcceptedPair sheet script (length a) (length b) (length w) (length v)
     both-accepted x t = record {
       of-sheet = c;
       of-script = d;
       sheet-reads = p;
       script-reads = q;
       room = room;
-      matches = visible-matches c d (p .spelled .fine) (q .spelled .fine) counts sets (t .visible refl);
+      matches = visible-matches c d (p .spelled .fine) (q .spelled .fine) counts sets (t .accepted .0 refl .visible);
     }
 
     -- each table is as its rules
@@ -190,27 +200,28 @@ module _ (sheet script : List ℕ) (a b w v : List ℤ) (c d : Contents) (p : Re
     verdict-judged : (x : Verdict) → TablesAre (TablesMarkedAs x) → TextsJudged sheet script (length a) (length b) (length w) (length v) (Marked (c .count) x)
     verdict-judged x t = record {
       reply = sym (reply-same (TablesMarkedAs x) t);
-      refused = λ g f. (λ e. not-refused e, λ why. absurd (refused-accepted sheet script _ _ _ _ g f why (both-accepted x t)));
+      refused = λ g f. (λ e. absurd (none-named (e .2)), λ why. absurd (refused-accepted sheet script _ _ _ _ g f why (both-accepted x t)));
       accepted = (λ e. both-accepted x t, λ u. refl);
+      counts = λ u m y e. let k : m ≡ c .count = cc in of-accepted sheet script _ _ _ _ (λ i j. m ≡ i .count) c d p q k u;
       demand = of-accepted sheet script _ _ _ _ (λ i j. ByDemand (hiddenIn (setIn i)) (rulesOf i) (rulesOf j) (verdictNumber x)) c d p q
-          (alike-demand (hiddenIn (setIn c)) (verdictNumber x) sheet-alike script-alike (t .demand refl));
-      loose-rule = λ u m rule e. let k : x ≡ Loose rule = cc in
+          (alike-demand (hiddenIn (setIn c)) (verdictNumber x) sheet-alike script-alike (t .demand (t .accepted .0 refl)));
+      loose-rule = λ u rule e.
           of-accepted sheet script _ _ _ _ (λ i j. LooseRule (hiddenIn (setIn i)) (i .count) (tableIn i) (rulesOf j) rule) c d p q
-          (alike-loose-rule (hiddenIn (setIn c)) (c .count) (tableIn c) rule script-alike (t .loose-rule rule (ap TablesMarkedAs k))) u;
-      tight-rule = λ u m rule e. let k : x ≡ Tight rule = cc in
+          (alike-loose-rule (hiddenIn (setIn c)) (c .count) (tableIn c) rule script-alike (t .loose-rule rule (e .0, e .1))) u;
+      tight-rule = λ u rule e.
           of-accepted sheet script _ _ _ _ (λ i j. TightRule (i .count) (rulesOf i) (tableIn j) rule) c d p q
-          (alike-tight-rule (c .count) (tableIn d) rule sheet-alike (t .tight-rule rule (ap TablesMarkedAs k))) u;
+          (alike-tight-rule (c .count) (tableIn d) rule sheet-alike (t .tight-rule rule (e .0, e .1))) u;
     }
 
     -- and shown
     verdict-shown : (x : Verdict) → TablesAre (TablesMarkedAs x) → TextsShown sheet script (length a) (length b) (length w) (length v) (Marked (c .count) x) v'
     verdict-shown x t = record {
-      loose-shown = λ u m rule e. let k : x ≡ Loose rule = cc in
+      loose-shown = λ u rule e.
           of-accepted sheet script _ _ _ _ (λ i j. LooseShown (i .count) (hiddenIn (setIn i)) (rulesOf i) (rulesOf j) rule v') c d p q
-          (alike-loose-shown (c .count) (hiddenIn (setIn c)) rule v' sheet-alike script-alike (t .loose-shown rule (ap TablesMarkedAs k))) u;
-      tight-shown = λ u m rule e. let k : x ≡ Tight rule = cc in
+          (alike-loose-shown (c .count) (hiddenIn (setIn c)) rule v' sheet-alike script-alike (t .loose-shown rule (e .0, e .1))) u;
+      tight-shown = λ u rule e.
           of-accepted sheet script _ _ _ _ (λ i j. TightShown (i .count) (hiddenIn (setIn i)) (rulesOf i) (rulesOf j) rule v') c d p q
-          (alike-tight-shown (c .count) (hiddenIn (setIn c)) rule v' sheet-alike script-alike (t .tight-shown rule (ap TablesMarkedAs k))) u;
+          (alike-tight-shown (c .count) (hiddenIn (setIn c)) rule v' sheet-alike script-alike (t .tight-shown rule (e .0, e .1))) u;
     }
 
     -- the texts are marked as their tables are
@@ -220,32 +231,34 @@ module _ (sheet script : List ℕ) (a b w v : List ℤ) (c d : Contents) (p : Re
       where
         lent-sheet : Lent (blockStart (countIn sheet)) true a a'
         lent-sheet =
-            rw (pair-count sheet script c d p q) (fronted (blockStart (c .count)) (tableIn c) a a' (of-sheet .size) (room .sheet-room) e)
+            rw (reads-count sheet c p) (fronted (blockStart (c .count)) (tableIn c) a a' (of-sheet .size) (room .sheet-room) e)
 
         lent-script : Lent (blockStart (countIn sheet)) true b b'
         lent-script =
-            rw (pair-count sheet script c d p q, ← counts)
+            rw (reads-count sheet c p, ← counts)
             (fronted (blockStart (d .count)) (tableIn d) b b' (of-script .size) (rw counts (room .script-room)) f)
 
         lent-workspace : (r : Marking) → TablesAre r → Lent (workspaceSize (countIn sheet)) true w w'
-        lent-workspace r t = rw (pair-count sheet script c d p q) (freed (workspaceSize (c .count)) (isMarked r) w w' (t .lent))
+        lent-workspace r t = rw (reads-count sheet c p) (freed (workspaceSize (c .count)) (isMarked r) w w' (t .lent))
 
         go : (r : Marking) → TablesAre r → TextsMarked sheet script a b w v (markedTexts (c .count) r) a' b' w' v'
         go (TablesMarkedAs x) t = record {
+          count = reads-count sheet;
           judged = verdict-judged x t;
           shown = verdict-shown x t;
           sheet-table = lent-sheet;
           script-table = lent-script;
           workspace = lent-workspace (TablesMarkedAs x) t;
-          written = rw (pair-count sheet script c d p q) (t .written);
+          written = rw (reads-count sheet c p) (t .written);
         }
         go (NotMarked f) t =
             let why = refused-why f t in
             record {
+              count = reads-count sheet;
               judged = refused-judged sheet script _ _ _ _ Both f (reply-same (NotMarked f) t) why;
               shown = refused-shown sheet script _ _ _ _ Both f v' why;
               sheet-table = lent-sheet;
               script-table = lent-script;
               workspace = lent-workspace (NotMarked f) t;
-              written = rw (pair-count sheet script c d p q) (t .written);
+              written = rw (reads-count sheet c p) (t .written);
             }

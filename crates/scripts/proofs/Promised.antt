@@ -28,16 +28,16 @@ use Rattle.reading.proofs.Means.{spelled-check}
 use Rattle.reading.proofs.Passing.{Sheeted, sheet-passed, failed-refused}
 use Rattle.marking.specs.declared.verdict.Marking.{Marking}
 use Rattle.marking.specs.Promises.{TablesMarked}
-use Rattle.scripts.specs.declared.reply.Papers.{Papers}
-use Rattle.scripts.specs.declared.reply.Papers.the-variants.{Sheet, Script, Both}
+use Rattle.scripts.specs.declared.reply.Subject.{Subject}
+use Rattle.scripts.specs.declared.reply.Subject.the-variants.{Sheet, Script, Both}
 use Rattle.scripts.specs.declared.reply.TextMarking.the-variants.{Refused}
 use Rattle.scripts.specs.Replies.{markedTexts}
-use Rattle.scripts.specs.Meaning.{setIn, tableIn, Reads, RefusedFor}
+use Rattle.scripts.specs.Meaning.{setIn, tableIn, Reads, RefusedPair}
 use Rattle.scripts.specs.Marking.{roomChecks, headersReply, pairChecks, pairReply, textsReply}
 use Rattle.scripts.specs.Promises.{TextsMarked}
 use Rattle.scripts.proofs.Sheets.{fine-sheet}
 use Rattle.scripts.proofs.Matching.{matches-set}
-use Rattle.scripts.proofs.Judging.{done-room, refused-short, same-headers, headers-same, headers-mismatch, refused-judged, refused-shown}
+use Rattle.scripts.proofs.Judging.{done-room, refused-short, same-headers, headers-same, headers-mismatch, reads-count, refused-judged, refused-shown}
 use Rattle.scripts.proofs.Pairs.{pair-reply, tables-marked}
 
 -- ---- refused, and nothing changed
@@ -47,10 +47,11 @@ untouched : (m : ℕ) (free : Bool) (t : List ℤ) → Lent m free t t
 untouched m free t = record { size = refl; rest = refl; kept = λ e. refl }
 
 -- a refusal that has its reason
-unchanged : (sheet script : List ℕ) (a b w v : List ℤ) (p : Papers) (f : Refusal)
+unchanged : (sheet script : List ℕ) (a b w v : List ℤ) (p : Subject) (f : Refusal)
     → textsReply sheet script (length a) (length b) (length w) (length v) ≡ Refused p f
-    → RefusedFor sheet script (length a) (length b) (length w) (length v) p f → TextsMarked sheet script a b w v (Refused p f) a b w v
+    → RefusedPair sheet script (length a) (length b) (length w) (length v) p f → TextsMarked sheet script a b w v (Refused p f) a b w v
 unchanged sheet script a b w v p f e why = record {
+  count = reads-count sheet;
   judged = refused-judged sheet script _ _ _ _ p f e why;
   shown = refused-shown sheet script _ _ _ _ p f v why;
   sheet-table = untouched _ _ a;

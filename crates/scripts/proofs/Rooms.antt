@@ -15,7 +15,7 @@ use Rattle.tables.specs.declared.reply.Reply.the-variants.{Refused as NotDone}
 use Rattle.tables.specs.Tables.{tableSize}
 use Rattle.tables.proofs.Sizes.{small-start, size-whole}
 use Rattle.keys.specs.Keys.{andThen, lengthReply}
-use Rattle.marking.specs.Marking.{workspaceSize}
+use Rattle.marking.specs.Meaning.{workspaceSize}
 use Rattle.scripts.specs.Marking.{roomChecks, headersReply}
 
 -- n is in its range

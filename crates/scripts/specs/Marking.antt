@@ -12,11 +12,12 @@ use Rattle.tables.specs.declared.reply.Reply.the-variants.{Done}
 use Rattle.tables.specs.declared.reply.Reply.the-variants.{Refused as NotDone}
 use Rattle.keys.specs.Keys.{andThen, lengthReply}
 use Rattle.marking.specs.declared.verdict.Verdict.{Verdict}
-use Rattle.marking.specs.Marking.{workspaceSize, visibleReply, verdictOf}
+use Rattle.marking.specs.Meaning.{workspaceSize}
+use Rattle.marking.specs.Marking.{visibleReply, verdictOf}
 use Rattle.lines.specs.Lines.{Judged, accepted, refused}
 use Rattle.reading.specs.Texts.{Contents}
 use Rattle.reading.specs.Reading.{checkText}
-use Rattle.scripts.specs.declared.reply.Papers.the-variants.{Sheet, Script, Both}
+use Rattle.scripts.specs.declared.reply.Subject.the-variants.{Sheet, Script, Both}
 use Rattle.scripts.specs.declared.reply.TextMarking.{TextMarking}
 use Rattle.scripts.specs.declared.reply.TextMarking.the-variants.{Marked, Refused}
 use Rattle.scripts.specs.Meaning.{setIn, tableIn}
@@ -53,12 +54,12 @@ unfoldable pub textsReply : List ℕ → List ℕ → ℕ → ℕ → ℕ → �
 textsReply sheet script a b w v = pairReply (checkText sheet) (checkText script) a b w v
 
 -- the sheet's n; 0 where its text is refused, and no word may change
-abbrev pub countJudged : Judged Contents → ℕ
-countJudged (accepted c u) = c .count
-countJudged (refused f) = 0
+abbrev pub sheetCount : Judged Contents → ℕ
+sheetCount (accepted c u) = c .count
+sheetCount (refused f) = 0
 
 abbrev pub countIn : List ℕ → ℕ
-countIn s = countJudged (checkText s)
+countIn s = sheetCount (checkText s)
 
 -- ---- room enough for every sheet: the words of a table and of a workspace at the largest n
 

@@ -16,9 +16,9 @@ use Rattle.tables.specs.Meaning.{NoneNames}
 use Rattle.lines.specs.Spelling.{writtenRules}
 use Rattle.reading.specs.Texts.{Contents}
 use Rattle.reading.specs.Meaning.{Spells, FailsFor}
-use Rattle.marking.specs.Marking.{workspaceSize}
-use Rattle.scripts.specs.declared.reply.Papers.{Papers}
-use Rattle.scripts.specs.declared.reply.Papers.the-variants.{Sheet, Script, Both}
+use Rattle.marking.specs.Meaning.{workspaceSize}
+use Rattle.scripts.specs.declared.reply.Subject.{Subject}
+use Rattle.scripts.specs.declared.reply.Subject.the-variants.{Sheet, Script, Both}
 
 -- the hidden set and the table of contents
 abbrev pub setIn : Contents → ℕ
@@ -51,7 +51,7 @@ pub record Room (n sheet script workspace values : ℕ) : Type 0 where
   pub values-room : n ≤ values
 
 -- two texts are accepted
-pub record Accepted (sheet script : List ℕ) (a b w v : ℕ) : Type 0 where
+pub record AcceptedPair (sheet script : List ℕ) (a b w v : ℕ) : Type 0 where
   pub of-sheet : Contents
   pub of-script : Contents
   pub sheet-reads : Reads sheet of-sheet
@@ -78,7 +78,7 @@ pub record PairFails (sheet script : List ℕ) (a b w v : ℕ) (f : Refusal) : T
   pub fails : ShortIn (of-sheet .count) a b w v f ⊎ (Room (of-sheet .count) a b w v × (Matches of-sheet of-script → ⊥) × (f ≡ Mismatch))
 
 -- a refusal and the paper that it names: the sheet's comes first, then the script's
-abbrev pub RefusedFor : List ℕ → List ℕ → ℕ → ℕ → ℕ → ℕ → Papers → Refusal → Type 0
-RefusedFor sheet script a b w v Sheet f = FailsFor sheet f
-RefusedFor sheet script a b w v Script f = Readable sheet × FailsFor script f
-RefusedFor sheet script a b w v Both f = PairFails sheet script a b w v f
+abbrev pub RefusedPair : List ℕ → List ℕ → ℕ → ℕ → ℕ → ℕ → Subject → Refusal → Type 0
+RefusedPair sheet script a b w v Sheet f = FailsFor sheet f
+RefusedPair sheet script a b w v Script f = Readable sheet × FailsFor script f
+RefusedPair sheet script a b w v Both f = PairFails sheet script a b w v f

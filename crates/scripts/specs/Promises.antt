@@ -2,7 +2,7 @@
 use mathlib.Core.Path.{_≡_}
 use mathlib.Core.Bool.{true}
 use mathlib.Core.Logic.{_↔_}
-use mathlib.Core.List.{List}
+use mathlib.Core.List.{List, [], _∷_}
 use Prim.Native.Nat.{ℕ}
 use lib.IntN.{ℤ}
 use lib.ListN.{length}
@@ -10,44 +10,49 @@ use Rattle.places.specs.Numbering.{blockStart}
 use Rattle.rules.specs.declared.rule.Rule.{Rule}
 use Rattle.rules.specs.declared.refusal.Refusal.{Refusal}
 use Rattle.rules.specs.Hidden.{hiddenIn}
+use Rattle.rules.specs.Refusal.{refusalNumber, refusalValues}
 use Rattle.keys.specs.Promises.{Lent}
-use Rattle.marking.specs.declared.verdict.Verdict.the-variants.{Loose, Tight}
-use Rattle.marking.specs.Meaning.{ByDemand, LooseRule, TightRule, LooseShown, TightShown}
-use Rattle.marking.specs.Marking.{workspaceSize}
+use Rattle.marking.specs.declared.verdict.Verdict.{Verdict}
+use Rattle.marking.specs.Verdicts.{ruleValues, integersOf}
+use Rattle.marking.specs.Meaning.{ByDemand, LooseRule, TightRule, LooseShown, TightShown, workspaceSize}
 use Rattle.reading.specs.Texts.{Contents}
 use Rattle.reading.specs.Meaning.{rulesOf}
-use Rattle.scripts.specs.declared.reply.Papers.{Papers}
+use Rattle.scripts.specs.declared.reply.Subject.{Subject}
 use Rattle.scripts.specs.declared.reply.TextMarking.{TextMarking}
-use Rattle.scripts.specs.declared.reply.TextMarking.the-variants.{Marked, Refused}
-use Rattle.scripts.specs.Replies.{textNumber, isTextMarked, isTextShown}
-use Rattle.scripts.specs.Meaning.{setIn, tableIn, Accepted, RefusedFor}
+use Rattle.scripts.specs.declared.reply.TextMarking.the-variants.{Marked}
+use Rattle.scripts.specs.Replies.{textNumber, TextReturned, isTextMarked, isTextShown}
+use Rattle.scripts.specs.Meaning.{setIn, tableIn, Reads, AcceptedPair, RefusedPair}
 use Rattle.scripts.specs.Marking.{textsReply, countIn}
 
 -- the reply r for two texts, with a sheet's table, a script's, a workspace and an assignment of so many words
 pub record TextsJudged (sheet script : List ℕ) (a b w v : ℕ) (r : TextMarking) : Type 0 where
   pub reply : r ≡ textsReply sheet script a b w v
-  -- refused exactly for these reasons, with the paper named, and a verdict exactly where both are accepted
-  pub refused : (p : Papers) (f : Refusal) → (r ≡ Refused p f) ↔ RefusedFor sheet script a b w v p f
-  pub accepted : (isTextMarked r ≡ true) ↔ Accepted sheet script a b w v
+  -- by document 01's numbers and values: refused exactly for these reasons, with the paper named, and a verdict exactly where both are accepted
+  pub refused : (p : Subject) (f : Refusal) → TextReturned r (refusalNumber f) (integersOf (refusalValues f)) (p ∷ []) ↔ RefusedPair sheet script a b w v p f
+  pub accepted : (isTextMarked r ≡ true) ↔ AcceptedPair sheet script a b w v
+  -- the n beside a verdict is the sheet's
+  pub counts : (t : AcceptedPair sheet script a b w v) (n : ℕ) (x : Verdict) → r ≡ Marked n x → n ≡ t .of-sheet .count
   -- demand 3, of the rules as written
-  pub demand : (t : Accepted sheet script a b w v)
+  pub demand : (t : AcceptedPair sheet script a b w v)
       → ByDemand (hiddenIn (setIn (t .of-sheet))) (rulesOf (t .of-sheet)) (rulesOf (t .of-script)) (textNumber r)
   -- the rule that is carried; the script's is one of the table that its text reads into
-  pub loose-rule : (t : Accepted sheet script a b w v) (n : ℕ) (rule : Rule) → r ≡ Marked n (Loose rule)
+  pub loose-rule : (t : AcceptedPair sheet script a b w v) (rule : Rule) → TextReturned r 101 (ruleValues rule) []
       → LooseRule (hiddenIn (setIn (t .of-sheet))) (t .of-sheet .count) (tableIn (t .of-sheet)) (rulesOf (t .of-script)) rule
-  pub tight-rule : (t : Accepted sheet script a b w v) (n : ℕ) (rule : Rule) → r ≡ Marked n (Tight rule)
+  pub tight-rule : (t : AcceptedPair sheet script a b w v) (rule : Rule) → TextReturned r 102 (ruleValues rule) []
       → TightRule (t .of-sheet .count) (rulesOf (t .of-sheet)) (tableIn (t .of-script)) rule
 
 -- the assignment that shows a loose or tight verdict
 pub record TextsShown (sheet script : List ℕ) (a b w v : ℕ) (r : TextMarking) (values : List ℤ) : Type 0 where
-  pub loose-shown : (t : Accepted sheet script a b w v) (n : ℕ) (rule : Rule) → r ≡ Marked n (Loose rule)
+  pub loose-shown : (t : AcceptedPair sheet script a b w v) (rule : Rule) → TextReturned r 101 (ruleValues rule) []
       → LooseShown (t .of-sheet .count) (hiddenIn (setIn (t .of-sheet))) (rulesOf (t .of-sheet)) (rulesOf (t .of-script)) rule values
-  pub tight-shown : (t : Accepted sheet script a b w v) (n : ℕ) (rule : Rule) → r ≡ Marked n (Tight rule)
+  pub tight-shown : (t : AcceptedPair sheet script a b w v) (rule : Rule) → TextReturned r 102 (ruleValues rule) []
       → TightShown (t .of-sheet .count) (hiddenIn (setIn (t .of-sheet))) (rulesOf (t .of-sheet)) (rulesOf (t .of-script)) rule values
 
 -- two texts marked. The words that the sheet's n needs of the tables and the workspace are free after every reply; the assignment is written for loose and tight
 -- alone; no word past these changes, and none at all where the sheet's text is refused, whose n is not known
 pub record TextsMarked (sheet script : List ℕ) (a b w v : List ℤ) (r : TextMarking) (a' b' w' v' : List ℤ) : Type 0 where
+  -- the sheet's n, by which the words are counted
+  pub count : (c : Contents) → Reads sheet c → countIn sheet ≡ c .count
   pub judged : TextsJudged sheet script (length a) (length b) (length w) (length v) r
   pub shown : TextsShown sheet script (length a) (length b) (length w) (length v) r v'
   pub sheet-table : Lent (blockStart (countIn sheet)) true a a'

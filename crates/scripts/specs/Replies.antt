@@ -1,6 +1,7 @@
 -- Document 01's number and values of each reply of marking two texts.
 use mathlib.Core.Bool.{Bool, true, false}
-use mathlib.Core.List.{List}
+use mathlib.Core.Path.{_≡_}
+use mathlib.Core.List.{List, [], _∷_}
 use Prim.Native.Nat.{ℕ}
 use lib.IntN.{ℤ}
 use Rattle.rules.specs.declared.refusal.Refusal.the-variants.{Size}
@@ -15,8 +16,8 @@ use Rattle.marking.specs.Verdicts.{verdictNumber, verdictValues, isShown, integ
 use Rattle.reading.specs.declared.check.Checked.{Checked}
 use Rattle.reading.specs.declared.check.Checked.the-variants.{Passed}
 use Rattle.reading.specs.declared.check.Checked.the-variants.{Refused as Failed}
-use Rattle.scripts.specs.declared.reply.Papers.{Papers}
-use Rattle.scripts.specs.declared.reply.Papers.the-variants.{Both}
+use Rattle.scripts.specs.declared.reply.Subject.{Subject}
+use Rattle.scripts.specs.declared.reply.Subject.the-variants.{Both}
 use Rattle.scripts.specs.declared.reply.TextMarking.{TextMarking}
 use Rattle.scripts.specs.declared.reply.TextMarking.the-variants.{Marked, Refused}
 
@@ -34,6 +35,15 @@ abbrev pub textValue : TextMarking → ℕ
 textValue (Marked n v) = 0
 textValue (Refused p f) = refusalValue f
 
+-- the paper that a refusal names
+abbrev pub textSubjects : TextMarking → List Subject
+textSubjects (Marked n v) = []
+textSubjects (Refused p f) = p ∷ []
+
+-- the reply is returned by this number and these values, with the paper named
+abbrev pub TextReturned : TextMarking → ℕ → List ℤ → List Subject → Type 0
+TextReturned r number values subjects = (textNumber r ≡ number) × (textValues r ≡ values) × (textSubjects r ≡ subjects)
+
 -- is it a verdict?
 abbrev pub isTextMarked : TextMarking → Bool
 isTextMarked (Marked n v) = true
@@ -47,7 +57,7 @@ isTextShown (Refused p f) = false
 -- ---- from the replies of its parts
 
 -- a text that did not pass; one that did has no refusal of its own
-abbrev pub refusedText : Papers → Checked → TextMarking
+abbrev pub refusedText : Subject → Checked → TextMarking
 refusedText p (Passed n set m body) = Refused p Size
 refusedText p (Failed f) = Refused p f
 

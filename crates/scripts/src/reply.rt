@@ -9,7 +9,7 @@ ghost use mathlib.Core.Path.{_≡_};
 ghost use Rattle.scripts.specs.Replies.{textNumber, textValue, refusedText, refusedBoth, markedTexts};
 
 // Which paper a refusal is about.
-pub enum Papers {
+pub enum Subject {
     Sheet,
     Script,
     // what is lent, or that the two do not fit each other
@@ -19,7 +19,7 @@ pub enum Papers {
 pub enum TextMarking {
     // the sheet's n, which says how many words the assignment has, and the verdict
     Marked { quantities: usize, verdict: Verdict },
-    Refused { paper: Papers, refusal: Refusal },
+    Refused { paper: Subject, refusal: Refusal },
 }
 
 impl TextMarking {
@@ -51,7 +51,7 @@ impl TextMarking {
 }
 
 // The refusal of a paper whose text did not pass; 1 where it did, which no caller asks.
-pub(crate) fn refused(paper: Papers, checked: Checked) -> TextMarking
+pub(crate) fn refused(paper: Subject, checked: Checked) -> TextMarking
     ensures { λ r. ⌜ r ≡ refusedText paper checked ⌝ }
 {
     match checked {
@@ -74,11 +74,11 @@ pub(crate) fn refused_both(reply: Reply) -> TextMarking
 {
     match reply {
         Reply::Done => TextMarking::Refused {
-            paper: Papers::Both,
+            paper: Subject::Both,
             refusal: Refusal::Size,
         },
         Reply::Refused(refusal) => TextMarking::Refused {
-            paper: Papers::Both,
+            paper: Subject::Both,
             refusal,
         },
     }
@@ -94,7 +94,7 @@ pub(crate) fn marked(n: usize, marking: Marking) -> TextMarking
             verdict,
         },
         Marking::Refused(refusal) => TextMarking::Refused {
-            paper: Papers::Both,
+            paper: Subject::Both,
             refusal,
         },
     }

@@ -1,6 +1,6 @@
 // Marking two texts: both are checked before anything lent is, then their tables are filled and marked.
 use crate::reply;
-use crate::reply::Papers;
+use crate::reply::Subject;
 use crate::reply::TextMarking;
 use marking::mark;
 use reading::check;
@@ -68,7 +68,7 @@ pub fn mark_texts(
         body,
     } = of_sheet
     else {
-        return reply::refused(Papers::Sheet, of_sheet);
+        return reply::refused(Subject::Sheet, of_sheet);
     };
     let of_script = check::check(script);
     let Checked::Passed {
@@ -78,7 +78,7 @@ pub fn mark_texts(
         body: script_body,
     } = of_script
     else {
-        return reply::refused(Papers::Script, of_script);
+        return reply::refused(Subject::Script, of_script);
     };
     let lent = check_room(
         n,

@@ -14,6 +14,9 @@ ghost use Rattle.tables.specs.Tables.{tableSize, ruleReply, putHalved, c
 ghost use Rattle.tables.specs.Tables.{serves as Tables·serves};
 ghost use Rattle.tables.specs.Promises.{Emptied, Put, Cleared};
 
+// The words of the largest table.
+pub const LARGEST: usize = 2 * Sheet::MAX_QUANTITIES * Sheet::MAX_QUANTITIES;
+
 // The words of a table over `n` quantities; 0 where `n` is outside its range.
 pub fn size(n: usize) -> usize
     ensures { λ r. ⌜ r ≡ tableSize n ⌝ }

@@ -14,7 +14,7 @@ use Rattle.tightening.specs.Tightening.{pairUpTo, strengthened, tightene
 use Rattle.tightening.specs.Promises.{Adding, AllPaired, Tightened}
 use Rattle.tightening.proofs.Growing.{paired-adding}
 use Rattle.tightening.proofs.Least.{clash-refuted, tightened-least}
-use Rattle.tightening.proofs.Steps.{strengthen-rest}
+use Rattle.tightening.proofs.Steps.{strengthen-rest, strengthen-length}
 
 -- the words of a table paired without a contradiction add
 pub clear-adding : (n : ℕ) (t u : List ℤ) → Fits n t → AllPaired n t false u → Adding n u
@@ -30,7 +30,7 @@ tightened-none n t u f p = record {
   reply = same;
   none = answer-tells n t true f same;
   table = λ e. clash refl e;
-  rest = p .rest;
+  lent = p .lent;
   least = λ e. clash refl e;
 }
   where
@@ -44,7 +44,11 @@ tightened-some n t u v f p e = record {
   reply = same;
   none = answer-tells n t false f same;
   table = λ d. made;
-  rest = rw e (strengthen-rest n u ∙ p .rest);
+  lent = record {
+    size = rw e (strengthen-length n u ∙ p .lent .size);
+    rest = rw e (strengthen-rest n u ∙ p .lent .rest);
+    kept = λ h. clash refl h;
+  };
   least = λ d. rw made (tightened-least n t f (sym (p .reply)));
 }
   where

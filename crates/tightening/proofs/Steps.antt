@@ -6,14 +6,15 @@ use Prim.Native.Nat.{ℕ, zero, suc, _+_, _-_, _<_}
 use native.Mathlib.Nat.{zero-add, suc-add}
 use native.Mathlib.Omega.{arith}
 use lib.IntN.{ℤ}
-use lib.ListN.{drop}
-use Rattle.words.proofs.Change.{change-drop}
+use lib.ListN.{length, drop}
+use Rattle.words.proofs.Change.{change-length, change-drop}
 use Rattle.places.specs.Numbering.{blockStart}
 use Rattle.tables.proofs.Tests.{clash}
 use Rattle.elimination.specs.Hiding.{paired, contradicts}
 use Rattle.elimination.specs.Promises.{Paired}
 use Rattle.tightening.specs.Tightening.{pairUpTo, clashUpTo, strengthened}
 use Rattle.tightening.specs.Promises.{AllPaired}
+use Rattle.tightening.proofs.Growing.{pairUpTo-length}
 
 -- before the first step the table is as it was, and there is no contradiction
 pub pair-none : (n : ℕ) (t : List ℤ) → (t ≡ pairUpTo n 0 t) × (clashUpTo n 0 t ≡ false)
@@ -52,13 +53,21 @@ pub strengthen-rest : (n : ℕ) (t : List ℤ) → drop (blockStart n) (strength
 unfolding strengthened
 strengthen-rest n t = change-drop (blockStart n) _ t
 
+pub strengthen-length : (n : ℕ) (t : List ℤ) → length (strengthened n t) ≡ length t
+unfolding strengthened
+strengthen-length n t = change-length (blockStart n) _ t
+
 -- stopped at the contradiction of quantity j + 1
 pub paired-clash : (n j : ℕ) (t u v : List ℤ) (r : Bool) → j < n → u ≡ pairUpTo n j t → clashUpTo n j t ≡ false → Paired 0 n j u r v → r ≡ true
     → AllPaired n t true v
 paired-clash n j t u v r h e c p d = record {
   reply = sym (rw rest at (clash-stays n (suc j) (n - suc j) t (clash-more n j t c ∙ rw (← e, ← p .reply) d)));
   table = λ f. clash refl f;
-  rest = rw (p .table, e, pair-more n j t) (pair-rest n (suc j) t);
+  lent = record {
+    size = rw (p .table, e, pair-more n j t) (pairUpTo-length n (suc j) t);
+    rest = rw (p .table, e, pair-more n j t) (pair-rest n (suc j) t);
+    kept = λ f. clash refl f;
+  };
 }
   where
     rest : (n - suc j) + suc j ≡ n
@@ -66,4 +75,8 @@ paired-clash n j t u v r h e c p d = record {
 
 -- come to the end without one
 pub paired-clear : (n : ℕ) (t u : List ℤ) → u ≡ pairUpTo n n t → clashUpTo n n t ≡ false → AllPaired n t false u
-paired-clear n t u e c = record { reply = sym c; table = λ f. e; rest = rw e (pair-rest n n t) }
+paired-clear n t u e c = record {
+  reply = sym c;
+  table = λ f. e;
+  lent = record { size = rw e (pairUpTo-length n n t); rest = rw e (pair-rest n n t); kept = λ f. clash refl f };
+}

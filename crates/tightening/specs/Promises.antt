@@ -5,7 +5,7 @@ use mathlib.Core.Logic.{_↔_}
 use mathlib.Core.List.{List}
 use Prim.Native.Nat.{ℕ, _*_, _≤_, _<_}
 use lib.IntN.{ℤ}
-use lib.ListN.{length, drop}
+use lib.ListN.{length}
 use lib.Signed.{_<ℤ_}
 use Rattle.words.specs.Change.{wordAt, change}
 use Rattle.places.specs.Numbering.{blockStart}
@@ -15,7 +15,8 @@ use Rattle.tables.specs.Tables.{hasRule}
 use Rattle.tables.specs.Meaning.{Satisfies, Unsatisfiable, Breaks, WordsWithin}
 use Rattle.elimination.specs.Magnitude.{addLimit}
 use Rattle.keys.specs.Keys.{refuted}
-use Rattle.tightening.specs.Tightening.{pairUpTo, clashUpTo, strengthened, tightened, gatheringLone}
+use Rattle.keys.specs.Promises.{Lent}
+use Rattle.tightening.specs.Tightening.{pairUpTo, clashUpTo, tightened, gatheringLone}
 
 -- a table over n quantities whose words add
 pub record Adding (n : ℕ) (t : List ℤ) : Type 0 where
@@ -33,17 +34,17 @@ pub record LoneGatherable (n : ℕ) (table row : List ℤ) : Type 0 where
 pub record LoneGathered (n : ℕ) (table before after : List ℤ) : Type 0 where
   pub row : after ≡ change (2 * n) (gatheringLone table) before
 
--- every quantity paired with all others: whether a contradiction is met, and where not, every word
+-- every quantity paired with all others: whether a contradiction is met, and where not, every word; where one is, the table's words are free
 pub record AllPaired (n : ℕ) (before : List ℤ) (r : Bool) (after : List ℤ) : Type 0 where
   pub reply : r ≡ clashUpTo n n before
   pub table : r ≡ false → after ≡ pairUpTo n n before
-  pub rest : drop (blockStart n) after ≡ drop (blockStart n) before
+  pub lent : Lent (blockStart n) true before after
 
 -- a table made the tightest, and whether no integers satisfy it. Where some do, each word is the least bound of its term: a bound is smaller exactly where
--- some assignment that satisfies the table breaks it, and where the word is no rule, every bound is broken
+-- some assignment that satisfies the table breaks it, and where the word is no rule, every bound is broken. Where none do, the table's words are free
 pub record Tightened (n : ℕ) (before : List ℤ) (r : Bool) (after : List ℤ) : Type 0 where
   pub reply : r ≡ refuted n before
   pub none : (r ≡ true) ↔ Unsatisfiable n before
   pub table : r ≡ false → after ≡ tightened n before
-  pub rest : drop (blockStart n) after ≡ drop (blockStart n) before
+  pub lent : Lent (blockStart n) true before after
   pub least : r ≡ false → (k : ℕ) → k < blockStart n → (c : ℤ) → hasRule c ≡ true → (c <ℤ wordAt after k) ↔ Breaks (Satisfies n before) (ruleAt k c)

@@ -7,7 +7,7 @@ use lib.ListN.{length, getD, set}
 use lib.IntN.{ℤ, pos}
 use Rattle.integers.specs.Bound.{smaller}
 
--- the word at a place; 0 past the end, where nothing asks
+-- the word at a place; 0 past the end
 abbrev pub wordAt : List ℤ → ℕ → ℤ
 wordAt t k = getD t k (pos 0)
 

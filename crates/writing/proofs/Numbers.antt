@@ -16,5 +16,5 @@ wrote-text (Refused f) m w = absurd (refusal-number f (w .0))
 
 -- a reply with another number than 0 is no text
 pub refused-number : (r : Writing) → (writingNumber r ≡ 0 → ⊥) → isText r ≡ false
-refused-number (Text length) f = absurd (f refl)
+refused-number (Text m) f = absurd (f refl)
 refused-number (Refused r) f = refl

@@ -125,7 +125,7 @@ writeReply n set t room =
     (Refused Size)
 
 abbrev pub isText : Writing → Bool
-isText (Text length) = true
+isText (Text m) = true
 isText (Refused r) = false
 
 -- the output afterwards: the text, and bytes past it as they were
@@ -134,16 +134,16 @@ written n set t out = cond (isText (writeReply n set t (length out))) (writtenTe
 
 -- document 01's number of a reply, 0 where the text is written, and what is returned beside it
 abbrev pub writingNumber : Writing → ℕ
-writingNumber (Text length) = 0
+writingNumber (Text m) = 0
 writingNumber (Refused r) = refusalNumber r
 
 abbrev pub writingValues : Writing → List ℕ
-writingValues (Text length) = length ∷ []
+writingValues (Text m) = m ∷ []
 writingValues (Refused r) = refusalValues r
 
 -- the same as one number, 0 where there is none
 abbrev pub writingValue : Writing → ℕ
-writingValue (Text length) = length
+writingValue (Text m) = m
 writingValue (Refused r) = refusalValue r
 
 -- the reply is returned by 0 and this length

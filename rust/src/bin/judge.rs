@@ -1,6 +1,8 @@
-//! judge [SEED [COUNT]]: judges the linked library on COUNT random sheets, then on as many random texts. Prints a line
-//! for each; at the first failure it prints what failed and the input, and exits with 1.
+//! judge [SEED [COUNT]]: judges the linked library on COUNT random sheets, then on as many random texts, then on as many
+//! random pairs of texts. Prints a line for each; at the first failure it prints what failed and the input, and exits
+//! with 1.
 
+use judge::marking;
 use judge::run;
 use judge::sys::Linked;
 use judge::text;
@@ -20,6 +22,7 @@ fn main() {
     };
     report(seed, run::all(&Linked, seed, count));
     report(seed, text::run::all(&Linked, seed, count));
+    report(seed, marking::run::all(&Linked, seed, count));
 }
 
 fn report(seed: u64, judged: Result<impl Display, String>) {

@@ -37,14 +37,14 @@ impl Rows {
     }
 
     /// Is a bare 0 <= c with c below 0 among the sums?
-    fn contradict(&self) -> bool {
+    pub fn contradict(&self) -> bool {
         let cancelled = (0..self.plus.len()).map(|x| sum(self.plus[x], self.minus[x ^ 1]));
         sum(self.plus_alone, self.minus_alone) < 0 || cancelled.min() < Some(0)
     }
 
     /// Puts every sum in that lands in a place of quantities from `first` on. Places that name the quantity itself keep
     /// their words, for no row has a rule at its literals.
-    fn add(&self, n: usize, table: &mut [i64], first: usize) {
+    pub fn add(&self, n: usize, table: &mut [i64], first: usize) {
         for r in first..n {
             if !self.meets(r) {
                 continue;
@@ -98,7 +98,7 @@ pub fn hide(n: usize, table: &mut [i64], k: usize) {
     }
 }
 
-fn sum(a: i64, b: i64) -> i64 {
+pub fn sum(a: i64, b: i64) -> i64 {
     if a == NO_RULE || b == NO_RULE {
         NO_RULE
     } else {

@@ -4,7 +4,7 @@ use super::written::{self, Written};
 use crate::meaning::is_in;
 use crate::sheets::Sheet;
 
-#[derive(PartialEq, Debug)]
+#[derive(Clone, PartialEq, Debug)]
 pub struct Paper {
     pub n: usize,
     pub hidden: u32,

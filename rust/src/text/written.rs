@@ -12,6 +12,11 @@ pub struct Written {
 }
 
 impl Written {
+    /// The rule as it is written: a doubled term keeps its bound, and its meaning needs no halving.
+    pub fn rule(&self) -> Rule {
+        Rule { term: Term { first: self.first, second: self.second }, bound: self.bound }
+    }
+
     /// The rule that a table holds for this one: a doubled term halved, else the lower quantity first.
     fn held(&self) -> Rule {
         let Written { first, second, bound } = *self;

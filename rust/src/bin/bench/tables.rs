@@ -1,7 +1,7 @@
 //! The calls on tables: 32 quantities, 16 of them hidden, an assignment, and rules at all 2,048 places or at 64 of
 //! them.
 
-use crate::times::{report, timed, Both, CALLS};
+use crate::times::{report, timed, Both, CALLS, REFILLED};
 use judge::library::{Library, DONE};
 use judge::meaning::{size, terms, LIMIT, MOST_QUANTITIES, NO_RULE};
 use judge::plain;
@@ -11,30 +11,30 @@ use std::hint::black_box;
 
 const N: usize = MOST_QUANTITIES;
 /// Every second quantity.
-const HIDDEN: u32 = 0x5555_5555;
+pub const HIDDEN: u32 = 0x5555_5555;
 
 pub fn all() {
-    let dense = full_sheet();
+    let dense = full_sheet(N, LIMIT);
     let sparse = thinned(&dense);
     for sheet in [&dense, &sparse] {
         let rules = sheet.iter().filter(|&&word| word != NO_RULE).count();
-        report(&format!("key, n {N}, {rules} rules"), key_times(sheet));
-        report(&format!("assignment, n {N}, {rules} rules"), assignment_times(sheet));
+        report(&format!("key, n {N}, {rules} rules"), REFILLED, key_times(sheet));
+        report(&format!("assignment, n {N}, {rules} rules"), REFILLED, assignment_times(sheet));
     }
 }
 
-/// Rules around random integers, so that these are an assignment and every bound is within the limits.
-pub fn full_sheet() -> Vec<i64> {
+/// Rules around random integers, so that these are an assignment and every bound is within this limit.
+pub fn full_sheet(n: usize, limit: i64) -> Vec<i64> {
     let mut random = Random::new(1, 0);
-    let slack = LIMIT / 5;
-    let reach = (LIMIT - slack) / 2;
-    let values: Vec<i64> = (0..N).map(|_| random.within(-reach, reach)).collect();
+    let slack = limit / 5;
+    let reach = (limit - slack) / 2;
+    let values: Vec<i64> = (0..n).map(|_| random.within(-reach, reach)).collect();
     let bound = |value: i128| value as i64 + random.within(0, slack);
-    terms(N).iter().map(|term| term.value(&values)).map(bound).collect()
+    terms(n).iter().map(|term| term.value(&values)).map(bound).collect()
 }
 
 /// A rule of the sheet at every 32nd place, moved on by one from row to row so that all quantities are met.
-fn thinned(sheet: &[i64]) -> Vec<i64> {
+pub fn thinned(sheet: &[i64]) -> Vec<i64> {
     let kept = |(place, &word): (usize, &i64)| if place % 32 == place / 32 % 32 { word } else { NO_RULE };
     sheet.iter().enumerate().map(kept).collect()
 }

@@ -3,9 +3,9 @@
 //! words.
 
 use crate::tables::full_sheet;
-use crate::times::{report, timed, Both, CALLS};
+use crate::times::{report, timed, Both, CALLS, REFILLED};
 use judge::library::{written, Header, Texts, DONE};
-use judge::meaning::{size, MOST_QUANTITIES, MOST_RULES};
+use judge::meaning::{size, LIMIT, MOST_QUANTITIES, MOST_RULES};
 use judge::plain_text;
 use judge::sheets::Sheet;
 use judge::sys::Linked;
@@ -17,16 +17,20 @@ const N: usize = MOST_QUANTITIES;
 pub fn all() {
     for rules in [MOST_RULES / 4, MOST_RULES / 2, MOST_RULES] {
         let text = longest_sheet(rules).text();
-        report(&format!("reading, n {N}, {rules} rules, {} bytes", text.len()), read_times(&text));
+        report(&format!("reading, n {N}, {rules} rules, {} bytes", text.len()), REFILLED, read_times(&text));
     }
     // the rules above name 1,012 places in turn; here each has its own
-    let sheet = Sheet { n: N, hidden: u32::MAX, table: full_sheet() };
+    let sheet = Sheet { n: N, hidden: u32::MAX, table: full_sheet(N, LIMIT) };
     let text = sheet.to_string().into_bytes();
-    report(&format!("reading, n {N}, {MOST_RULES} places, {} bytes", text.len()), read_times(&text));
+    report(&format!("reading, n {N}, {MOST_RULES} places, {} bytes", text.len()), REFILLED, read_times(&text));
     let longest = Sheet { n: N, hidden: u32::MAX, table: vec![i64::MIN; size(N)] };
     for sheet in [&sheet, &longest] {
         let text = sheet.to_string().into_bytes();
-        report(&format!("writing, n {N}, {MOST_RULES} rules, {} bytes", text.len()), write_times(sheet, &text));
+        report(
+            &format!("writing, n {N}, {MOST_RULES} rules, {} bytes", text.len()),
+            REFILLED,
+            write_times(sheet, &text),
+        );
     }
 }
 

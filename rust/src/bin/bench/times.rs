@@ -14,10 +14,14 @@ pub fn timed<T>(call: impl FnOnce() -> T) -> (Duration, T) {
     (start.elapsed(), reply)
 }
 
-pub fn report(what: &str, times: Both) {
+/// Lent memory is filled anew outside of the timing.
+pub const REFILLED: &str = "buffers refilled before each";
+
+/// Prints the ratio of the medians, and how the calls were made.
+pub fn report(what: &str, made: &str, times: Both) {
     let [library, plain] = times.map(median);
     println!(
-        "{what}: ratio {:.2} (library {library:.1} us, plain Rust {plain:.1} us; medians of {CALLS} calls, buffers refilled before each)",
+        "{what}: ratio {:.2} (library {library:.1} us, plain Rust {plain:.1} us; medians of {CALLS} calls, {made})",
         library / plain
     );
 }

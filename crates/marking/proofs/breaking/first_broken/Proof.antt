@@ -41,8 +41,8 @@ returns c =
     (y .least-bounds .ensures)
     (c .if1 .taken)
 
-first-above-requires : tie.Need-first-above-requires
-first-above-requires c κs =
+first-below-requires : tie.Need-first-below-requires
+first-below-requires c κs =
     let y = c .before .before .before in
     let z = y .before .before in
     let s = z .before in
@@ -60,7 +60,7 @@ returns-2 c =
     first-found _ _ _ _ _ _ _ (s .pre .2)
     (half-back _ _ _ _ (s .pre .0 .most) (z .size .ensures) (s .pre .2) (y .least-bounds .kept .1 .1 .0))
     (y .least-bounds .ensures)
-    (g .if1 .left) _ (z .size .ensures) (s .pre .0 .most) _ (c .first-above .ensures)
+    (g .if1 .left) _ (z .size .ensures) (s .pre .0 .most) _ (c .first-below .ensures)
 
 pub first-broken-spec : {M : Type 1} → statement M
 first-broken-spec =
@@ -74,6 +74,6 @@ first-broken-spec =
     least-bounds-requires
     same-length
     returns
-    first-above-requires
+    first-below-requires
     same-length-2
     returns-2)

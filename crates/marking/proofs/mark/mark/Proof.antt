@@ -1,6 +1,6 @@
 -- `mark::mark` meets its contract: the checks, then the verdict. Assumes nothing.
 use borrow.Author.Needs.{needs}
-use Rattle.marking.proofs.Promised.{checked-markable, mark-refused, mark-given}
+use Rattle.marking.proofs.Promised.{checked-accepted, mark-refused, mark-given}
 use Rattle.marking.proofs.mark.mark.Statement.{statement}
 use Rattle.marking.proofs.mark.mark.Tie as tie
 
@@ -16,7 +16,7 @@ enum-told c = search needs
 verdict-requires : tie.Need-verdict-requires
 verdict-requires c κs =
     let a = c .before .before in
-    checked-markable _ _ _ _ _ _ _ (a .before .before .check .ensures) (a .enum-told .given .1)
+    checked-accepted _ _ _ _ _ _ _ (a .before .before .check .ensures) (a .enum-told .given .1)
 
 returns : tie.Need-returns
 returns c = mark-refused _ _ _ _ _ _ _ _ (c .before .before .before .check .ensures) (c .before .checked .given .1)

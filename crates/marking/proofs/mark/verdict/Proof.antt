@@ -1,6 +1,6 @@
 -- `mark::verdict` meets its contract: the sheet decided, then its key at the workspace's front against the script, then the script there against the sheet.
 -- Assumes nothing.
-use mathlib.Core.Path.{_≡_, refl, sym, _∙_}
+use mathlib.Core.Path.{_≡_, sym, _∙_}
 use mathlib.Core.Bool.{false}
 use denote.Ref.{now}
 use borrow.Author.Needs.{needs}
@@ -9,7 +9,7 @@ use Rattle.keys.specs.Keys.{keyOf, refuted}
 use Rattle.keys.proofs.Copying.{same-fits}
 use Rattle.marking.proofs.Opposed.{sheet-fitting}
 use Rattle.marking.proofs.Lending.{Fronted, decided-lent, key-fronted}
-use Rattle.marking.proofs.Promised.{NoneLoose, markable-again, one-table, verdict-without, table-there, loose-breakable, tight-breakable, bare-term, other-term}
+use Rattle.marking.proofs.Promised.{NoneLoose, one-table, verdict-without, table-there, loose-breakable, tight-breakable, bare-term, other-term}
 use Rattle.marking.proofs.Promised.{loose-given, none-loose, tight-given, equal-given}
 use Rattle.marking.proofs.mark.verdict.Statement.{statement}
 use Rattle.marking.proofs.mark.verdict.Tie as tie
@@ -28,7 +28,8 @@ sheet-there : (c : tie.After-copy) → let s = startOf (c .before .before .befor
 sheet-there c =
     let d = c .before .before .before .before .before in
     let p = startOf d .pre in
-    table-there _ _ _ _ _ _ _ _ _ _ p (p .sheet-room) (decided-lent _ _ _ _ _ (d .decide .ensures)) (c .before .size .ensures) (c .copy .ensures)
+    table-there _ _ _ _ _ _ (p .sized .most) (p .workspace-room) (p .sized .sheet-room) (decided-lent _ _ _ _ _ (d .decide .ensures)) (c .before .size .ensures)
+    (c .copy .ensures)
 
 -- the key there
 key-there : (c : tie.After-hide-set) → let s = startOf (c .before .before .before .before .before .before .before .before) in
@@ -52,7 +53,7 @@ script-there c =
     let o = c .before .before .before in
     let h = o .before .before .before .before .before .before .before .before in
     let p = startOf (h .before .before .before .before .before .before .before .before) .pre in
-    table-there _ _ _ _ _ _ _ _ _ _ p (p .script-room) (passed o .lent) (c .before .size2 .ensures) (c .copy2 .ensures)
+    table-there _ _ _ _ _ _ (p .sized .most) (p .workspace-room) (p .sized .script-room) (passed o .lent) (c .before .size2 .ensures) (c .copy2 .ensures)
 
 decide-requires : tie.Need-decide-requires
 decide-requires c κs =
@@ -63,7 +64,7 @@ without-sheet-requires : tie.Need-without-sheet-requires
 without-sheet-requires c κs =
     let o = c .before .before in
     let d = o .before .before in
-    (markable-again _ _ _ _ _ _ _ _ (startOf d .pre) (d .decide .ensures .lent .size) refl, sym (d .decide .ensures .reply) ∙ o .if1 .taken)
+    (rw (d .decide .ensures .lent .size) (startOf d .pre), sym (d .decide .ensures .reply) ∙ o .if1 .taken)
 
 same-length : tie.Need-same-length
 same-length c = search needs
@@ -138,7 +139,8 @@ returns-3 c =
     let y = b .before .before .before .before in
     let o = y .before .before .before in
     let h = o .before .before .before .before .before .before .before .before in
-    tight-given _ _ _ _ _ _ _ _ _ _ _ _ (some-sheet (h .before .before .before .before .before .before)) (passed o) (script-there y) (b .break-first2 .ensures)
+    let e = h .before .before .before .before .before .before in
+    tight-given _ _ _ _ _ _ _ _ _ _ _ _ (startOf (e .before .before) .pre .values-room) (some-sheet e) (passed o) (script-there y) (b .break-first2 .ensures)
     (other-term (b .break-first2 .result) (c .match2 .keys2))
 
 same-length-7 : tie.Need-same-length-7

@@ -3,7 +3,7 @@ use mathlib.Core.Path.{ap}
 use native.Mathlib.Omega.{arith}
 use lib.ListN.{length}
 use borrow.Author.Needs.{needs}
-use Rattle.scripts.specs.declared.reply.Papers.{Papers}
+use Rattle.scripts.specs.declared.reply.Subject.{Subject}
 use Rattle.reports.specs.Marks.{paperKey, wordText, paperName}
 use Rattle.reports.proofs.mark.put_paper.Statement.{statement}
 use Rattle.reports.proofs.mark.put_paper.Tie as tie
@@ -18,7 +18,7 @@ slice-aggregate-put-word-2 : tie.Need-slice-aggregate-put-word-2
 slice-aggregate-put-word-2 c = search needs
 
 put-word-requires : tie.Need-put-word-requires
-put-word-requires c κs = omega (arith, ap (λ (p : Papers). length (wordText paperKey (paperName p))) (c .before .before .before .enum-told .given .1))
+put-word-requires c κs = omega (arith, ap (λ (p : Subject). length (wordText paperKey (paperName p))) (c .before .before .before .enum-told .given .1))
 
 enum-told-2 : tie.Need-enum-told-2
 enum-told-2 c = search needs
@@ -30,7 +30,7 @@ slice-aggregate-put-word-4 : tie.Need-slice-aggregate-put-word-4
 slice-aggregate-put-word-4 c = search needs
 
 put-word-requires-2 : tie.Need-put-word-requires-2
-put-word-requires-2 c κs = omega (arith, ap (λ (p : Papers). length (wordText paperKey (paperName p))) (c .before .before .before .enum-told2 .given .1))
+put-word-requires-2 c κs = omega (arith, ap (λ (p : Subject). length (wordText paperKey (paperName p))) (c .before .before .before .enum-told2 .given .1))
 
 enum-told-3 : tie.Need-enum-told-3
 enum-told-3 c = search needs
@@ -42,7 +42,7 @@ slice-aggregate-put-word-6 : tie.Need-slice-aggregate-put-word-6
 slice-aggregate-put-word-6 c = search needs
 
 put-word-requires-3 : tie.Need-put-word-requires-3
-put-word-requires-3 c κs = omega (arith, ap (λ (p : Papers). length (wordText paperKey (paperName p))) (c .before .before .before .enum-told3 .given .1))
+put-word-requires-3 c κs = omega (arith, ap (λ (p : Subject). length (wordText paperKey (paperName p))) (c .before .before .before .enum-told3 .given .1))
 
 same-length : tie.Need-same-length
 same-length c = search needs

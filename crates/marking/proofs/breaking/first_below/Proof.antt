@@ -1,4 +1,4 @@
--- `breaking::first_above` meets its contract. The loop's invariant: the answer is that of the places that are left. The measure is their number.
+-- `breaking::first_below` meets its contract. The loop's invariant: the answer is that of the places that are left. The measure is their number.
 -- Assumes nothing.
 use mathlib.Core.Path.{_≡_, _∙_}
 use mathlib.Core.Logic.{⊎-elim}
@@ -10,13 +10,13 @@ use mir.Val.{toZ, ofZ}
 use denote.Ref.{now}
 use Rattle.integers.proofs.Parts.{held-value}
 use Rattle.words.specs.Change.{wordAt}
-use Rattle.marking.specs.Marking.{firstAboveFrom}
-use Rattle.marking.proofs.Finding.{above-here, above-on, above-end}
-use Rattle.marking.proofs.breaking.first_above.Statement.{statement}
-use Rattle.marking.proofs.breaking.first_above.Tie as tie
+use Rattle.marking.specs.Marking.{firstBelowFrom}
+use Rattle.marking.proofs.Finding.{below-here, below-on, below-end}
+use Rattle.marking.proofs.breaking.first_below.Statement.{statement}
+use Rattle.marking.proofs.breaking.first_below.Tie as tie
 
 abbrev Inv-loop : tie.InvT-loop
-Inv-loop m words k₀ k = firstAboveFrom (m - k) k m words ≡ firstAboveFrom m 0 m words
+Inv-loop m words k₀ k = firstBelowFrom (m - k) k m words ≡ firstBelowFrom m 0 m words
 
 abbrev μ-loop : tie.MeasureT-loop
 μ-loop m words k₀ k = m - k
@@ -53,7 +53,7 @@ returns c =
     let a = c .before in
     let w = a .before .before in
     let l = w .before .before in
-    above-here _ _ _ (w .before .loop-test .taken) (rw (rw (word w) at (a .before .if1 .taken), rw (word w, further a) at (c .if2 .taken))) ∙ l .loop .inv
+    below-here _ _ _ (w .before .loop-test .taken) (rw (rw (word w) at (a .before .if1 .taken), rw (word w, further a) at (c .if2 .taken))) ∙ l .loop .inv
 
 add-k : tie.Need-add-k Inv-loop μ-loop
 add-k c = omega arith
@@ -65,17 +65,17 @@ loop-again : tie.Need-loop-again Inv-loop μ-loop
 loop-again c =
     let w = c .before in
     let l = w .before .before in
-    above-on _ _ _ (w .before .loop-test .taken)
+    below-on _ _ _ (w .before .loop-test .taken)
     (⊎-elim
     (λ v. rw (rw (word w) at (v .0 .taken), rw (word w, further (record { before = record { before = w; if1 = v .0 }; if22 = v .1 })) at (v .2 .left)))
     (λ v. rw (rw (word w) at (v .left)))
     (c .if1 .came)) ∙ l .loop .inv
 
 returns-2 : tie.Need-returns-2 Inv-loop μ-loop
-returns-2 c = let l = c .before in above-end _ _ _ (c .loop-test .left) ∙ l .loop .inv
+returns-2 c = let l = c .before in below-end _ _ _ (c .loop-test .left) ∙ l .loop .inv
 
-pub first-above-spec : {M : Type 1} → statement M
-first-above-spec =
+pub first-below-spec : {M : Type 1} → statement M
+first-below-spec =
     tie.close
     (tie.spec
     Inv-loop

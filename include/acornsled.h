@@ -1,0 +1,87 @@
+/*
+ * The calls of the static library libacornsled.a, which `rt staticlib acornsled` builds, for hosts in C and C++.
+ *
+ * A slice is lent as a pointer, which is not null, and a length in its own elements, bytes or words. The host passes true
+ * lengths, and nothing that a call may change overlaps anything else that it is given. A call asks nothing further: bad
+ * input is answered with a number. No call keeps anything, and two threads may call at once.
+ *
+ * A table over n quantities has 2n^2 words, one for each term in place order; ACORNSLED_NO_RULE means that there is no
+ * rule. Bit q - 1 of a hidden set stands for quantity q. Words and bytes past those named are never changed.
+ */
+#ifndef ACORNSLED_H
+#define ACORNSLED_H
+
+#include <stddef.h>
+#include <stdint.h>
+
+/* The limits of a sheet. */
+#define ACORNSLED_MOST_QUANTITIES 32
+#define ACORNSLED_MOST_RULES 2048
+#define ACORNSLED_MOST_BYTES 65536
+#define ACORNSLED_NO_RULE INT64_MAX
+
+/* The answers. 0 is the answer of a call on one paper that is not refused, and the last three are those of acornsled_mark. */
+enum {
+    ACORNSLED_DONE = 0,
+    ACORNSLED_SIZE = 1,          /* n outside 1 to 32, a table shorter than 2n^2 words, a text over 65,536 bytes */
+    ACORNSLED_MALFORMED = 2,     /* a line of a text is malformed or missing, or bytes follow the last */
+    ACORNSLED_PAST_LIMIT = 3,    /* a number is outside its limit, in a text, a hidden set or a table */
+    ACORNSLED_CANCELLING = 4,    /* a rule of a text is +q-q or -q+q */
+    ACORNSLED_NO_ASSIGNMENT = 5, /* no integers satisfy the table */
+    ACORNSLED_TOO_SHORT = 6,     /* what is lent to be written to is too short */
+    ACORNSLED_MISMATCH = 7,      /* the script has another n or hidden list, or a rule that names a hidden quantity */
+    ACORNSLED_EQUAL = 100,       /* the script allows what the sheet allows */
+    ACORNSLED_LOOSE = 101,       /* it allows more, be it that it also forbids something */
+    ACORNSLED_TIGHT = 102        /* it only forbids more */
+};
+
+#ifdef __cplusplus
+extern "C" {
+#endif
+
+/*
+ * The first four calls write to `value` what stands beside their number: with 2, 3 and 4 of a text the line, with 6 the
+ * length needed, with 0 of acornsled_write the text's length, and 0 with all others. A refusal changes nothing else, but 5
+ * leaves the first 2n^2 words of the workspace free.
+ */
+
+/*
+ * Reads a text: 0, or 1, 2, 3, 4, 6. With 0 the table's first 2n^2 words hold the text's rules, and `quantities` and
+ * `hidden` its n and its hidden set. A table of 2,048 words is long enough for every text.
+ */
+uint32_t acornsled_read(const uint8_t *text, size_t text_length, int64_t *table, size_t table_length,
+                        size_t *quantities, uint32_t *hidden, size_t *value);
+
+/*
+ * Writes a table and a hidden set as a text: 0, or 1, 3, 6. With 0 the first `value` bytes of `out` are the text. An output of
+ * 67,703 bytes is long enough for every table.
+ */
+uint32_t acornsled_write(size_t n, uint32_t hidden, const int64_t *table, size_t table_length, uint8_t *out,
+                         size_t out_length, size_t *value);
+
+/*
+ * Makes the key: 0, or 1, 3, 5, 6. The workspace needs 2n^2 words. With 0 the table's first 2n^2 words have become the key,
+ * and the workspace's are free.
+ */
+uint32_t acornsled_key(size_t n, uint32_t hidden, int64_t *table, size_t table_length, int64_t *workspace,
+                       size_t workspace_length, size_t *value);
+
+/*
+ * Finds an assignment: 0, or 1, 3, 5, 6. The workspace needs 2n^2 words and `values` n. With 0 the first n words of `values`
+ * are integers from -2^62 to 2^62 that satisfy the table, and the workspace's first 2n^2 words are free.
+ */
+uint32_t acornsled_assignment(size_t n, const int64_t *table, size_t table_length, int64_t *workspace,
+                              size_t workspace_length, int64_t *values, size_t values_length, size_t *value);
+
+/*
+ * Marks a script against a sheet, both as texts: 100, 101 or 102, or the refusal's number alone, 1, 2, 3, 4 or 7. The sheet
+ * is read first, then the script, then the two are held against each other. Nothing but the texts is lent and nothing is
+ * changed; the call takes some 66 KiB of the stack.
+ */
+uint32_t acornsled_mark(const uint8_t *sheet, size_t sheet_length, const uint8_t *script, size_t script_length);
+
+#ifdef __cplusplus
+}
+#endif
+
+#endif

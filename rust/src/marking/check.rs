@@ -1,0 +1,35 @@
+//! One pair of texts marked: the number, and that no byte has changed.
+
+use super::call::MarkCall;
+use super::counts::Counts;
+use super::due;
+use crate::library::Marker;
+use crate::plain_mark::Plain;
+use crate::random::Random;
+use crate::text::check::shown;
+
+/// Judges the marking of two texts, whatever they are.
+pub fn texts(
+    library: &dyn Marker,
+    sheet: &[u8],
+    script: &[u8],
+    random: &mut Random,
+    counts: &mut Counts,
+) -> Result<(), String> {
+    let stated = |e: String| format!("{e}\nsheet, {}\nscript, {}", shown(sheet), shown(script));
+    let due = due::of(sheet, script).map_err(stated)?;
+    let call = MarkCall::new(sheet, script, random);
+    // the library's times are measured against it
+    marking(&Plain, due.number, &call).map_err(|e| stated(format!("the judges differ: plain: {e}")))?;
+    marking(library, due.number, &call).map_err(stated)?;
+    counts.marking(&due);
+    Ok(())
+}
+
+fn marking(library: &dyn Marker, due: u32, call: &MarkCall) -> Result<(), String> {
+    let number = call.run(library);
+    if number != due {
+        return Err(format!("number {number}, due {due}"));
+    }
+    call.memory()
+}

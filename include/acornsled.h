@@ -1,12 +1,16 @@
 /*
  * The calls of the static library libacornsled.a, which `rt staticlib acornsled` builds, for hosts in C and C++.
  *
- * A slice is lent as a pointer, which is not null, and a length in its own elements, bytes or words. The host passes true
- * lengths, and nothing that a call may change overlaps anything else that it is given. A call asks nothing further: bad
- * input is answered with a number. No call keeps anything, and two threads may call at once.
+ * A slice is lent as a pointer and a length in its own elements, bytes or words. No pointer is null, also not that of an
+ * empty slice. The host passes true lengths, and a slice or a single word that a call may change overlaps nothing else that
+ * the call is given. A call asks nothing further: bad input is answered with a number. No call keeps anything, and two
+ * threads may call at once.
  *
  * A table over n quantities has 2n^2 words, one for each term in place order; ACORNSLED_NO_RULE means that there is no
- * rule. Bit q - 1 of a hidden set stands for quantity q. Words and bytes past those named are never changed.
+ * rule. Place order goes quantity by quantity: for q first +q, -q, then for each p below q, from 1 on, +p+q, +p-q, -p+q,
+ * -p-q. The block of q begins at word 2(q - 1)^2, counted from 0: that of 3 begins at word 8, and +1+3 is word 10.
+ *
+ * Bit q - 1 of a hidden set stands for quantity q. Words and bytes past those named are never changed.
  */
 #ifndef ACORNSLED_H
 #define ACORNSLED_H
@@ -14,8 +18,9 @@
 #include <stddef.h>
 #include <stdint.h>
 
-/* The limits of a sheet. */
+/* The limits of a sheet. Bounds are from -ACORNSLED_MOST_BOUND to ACORNSLED_MOST_BOUND; those of a key may be larger. */
 #define ACORNSLED_MOST_QUANTITIES 32
+#define ACORNSLED_MOST_BOUND 1000000000
 #define ACORNSLED_MOST_RULES 2048
 #define ACORNSLED_MOST_BYTES 65536
 #define ACORNSLED_NO_RULE INT64_MAX
@@ -31,7 +36,7 @@ enum {
     ACORNSLED_TOO_SHORT = 6,     /* what is lent to be written to is too short */
     ACORNSLED_MISMATCH = 7,      /* the script has another n or hidden list, or a rule that names a hidden quantity */
     ACORNSLED_EQUAL = 100,       /* the script allows what the sheet allows */
-    ACORNSLED_LOOSE = 101,       /* it allows more, be it that it also forbids something */
+    ACORNSLED_LOOSE = 101,       /* it allows something that the sheet does not, whatever it forbids */
     ACORNSLED_TIGHT = 102        /* it only forbids more */
 };
 

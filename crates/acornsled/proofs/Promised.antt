@@ -1,8 +1,8 @@
 -- The exported functions' contracts, from those of the calls. Assumes nothing.
 use mathlib.Core.Path.{_≡_, refl, sym, ap, _∙_}
-use mathlib.Core.Logic.{_⊎_, inl, inr}
+use mathlib.Core.Logic.{_↔_, _⊎_, inl, inr}
 use mathlib.Core.List.{List}
-use Prim.Native.Nat.{ℕ, _≤_}
+use Prim.Native.Nat.{ℕ, _≤_, _<_}
 use native.Mathlib.Omega.{arith}
 use lib.IntN.{ℤ}
 use lib.ListN.{length}
@@ -35,7 +35,7 @@ use Rattle.reading.specs.Promises.{ReadInto}
 use Rattle.writing.specs.declared.write.Writing.{Writing}
 use Rattle.writing.specs.Writing.{writingNumber, writingValue}
 use Rattle.writing.specs.Promises.{TextWritten}
-use Rattle.acornsled.specs.Promises.{KeyAnswer, AssignmentAnswer, ReadAnswer, WriteAnswer, MarkAnswer, countRead, setRead}
+use Rattle.acornsled.specs.Promises.{KeyAnswer, AssignmentAnswer, ReadAnswer, WriteAnswer, RefusedWith, MarkAnswer, countRead, setRead}
 
 pub key-answer : (n set : ℕ) (t w t' w' : List ℤ) (reply : Reply) (r v : ℕ) → Keyed n set t w reply t' w' → r ≡ replyNumber reply → v ≡ replyValue reply
     → KeyAnswer n set t w r v t' w'
@@ -117,6 +117,17 @@ never-number sheet script (Marked n (Loose rule)) j = (λ e. omega arith, λ e. 
 never-number sheet script (Marked n (Tight rule)) j = (λ e. omega arith, λ e. omega arith)
 never-number sheet script (NotMarked p f) j = never-refused sheet script p f (j .refused p f .0 (refl, refl, refl))
 
+-- a reply's number below 100 is a refusal's
+refused-number : (sheet script : List ℕ) (r : TextMarking) → TextsJudged sheet script lentTable lentTable lentWorkspace maxQuantities r
+    → (k : ℕ) → k < 100 → (textNumber r ≡ k) ↔ RefusedWith sheet script k
+refused-number sheet script r j k h = (told r j, λ w. j .refused (w .paper) (w .refusal) .1 (w .reason) .0 ∙ sym (w .number))
+  where
+    told : (x : TextMarking) → TextsJudged sheet script lentTable lentTable lentWorkspace maxQuantities x → textNumber x ≡ k → RefusedWith sheet script k
+    told (Marked n Equal) i e = absurd (omega arith)
+    told (Marked n (Loose rule)) i e = absurd (omega arith)
+    told (Marked n (Tight rule)) i e = absurd (omega arith)
+    told (NotMarked p f) i e = record { paper = p; refusal = f; reason = i .refused p f .0 (refl, refl, refl); number = sym e }
+
 -- the number of a reply that was given with so much lent
 pub mark-answer : (sheet script : List ℕ) (a b w v a' b' w' v' : List ℤ) (reply : TextMarking) (r : ℕ) → TextsMarked sheet script a b w v reply a' b' w' v'
     → length a ≡ lentTable → length b ≡ lentTable → length w ≡ lentWorkspace → length v ≡ maxQuantities → r ≡ textNumber reply → MarkAnswer sheet script r
@@ -124,6 +135,7 @@ mark-answer sheet script a b w v a' b' w' v' reply r m la lb lw lv e =
     let j : TextsJudged sheet script lentTable lentTable lentWorkspace maxQuantities reply = rw (la, lb, lw, lv) at (m .judged) in
     record {
       number = e ∙ ap textNumber (j .reply);
+      refused = rw e (refused-number sheet script reply j);
       judged = rw (j .reply) at j;
       demand = rw e (j .demand);
       never = rw e (never-number sheet script reply j);

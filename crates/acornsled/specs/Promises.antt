@@ -1,11 +1,14 @@
 -- What the exported functions promise: document 01's number and value of a call's reply, and what the call promises of every lent word.
 use mathlib.Core.Path.{_≡_}
+use mathlib.Core.Logic.{_↔_}
 use mathlib.Core.List.{List}
-use Prim.Native.Nat.{ℕ}
+use Prim.Native.Nat.{ℕ, _<_}
 use lib.IntN.{ℤ}
 use lib.ListN.{length}
+use Rattle.rules.specs.declared.refusal.Refusal.{Refusal}
 use Rattle.rules.specs.Hidden.{hiddenIn}
 use Rattle.rules.specs.Limits.{maxQuantities}
+use Rattle.rules.specs.Refusal.{refusalNumber}
 use Rattle.tables.specs.Tables.{replyNumber, replyValue}
 use Rattle.keys.specs.Keys.{keyReply, assignmentReply}
 use Rattle.keys.specs.Promises.{Keyed, Assigned}
@@ -17,8 +20,9 @@ use Rattle.reading.specs.Promises.{ReadInto}
 use Rattle.reading.specs.Meaning.{rulesOf}
 use Rattle.writing.specs.Writing.{writeReply, writingNumber, writingValue}
 use Rattle.writing.specs.Promises.{TextWritten}
+use Rattle.scripts.specs.declared.reply.Subject.{Subject}
 use Rattle.scripts.specs.Replies.{textNumber}
-use Rattle.scripts.specs.Meaning.{setIn, AcceptedPair}
+use Rattle.scripts.specs.Meaning.{setIn, AcceptedPair, RefusedPair}
 use Rattle.scripts.specs.Marking.{textsReply, lentTable, lentWorkspace}
 use Rattle.scripts.specs.Promises.{TextsJudged}
 
@@ -57,12 +61,21 @@ pub record AssignmentAnswer (n : ℕ) (table workspace values : List ℤ) (r v :
   pub value : v ≡ replyValue (assignmentReply n table (length workspace) (length values))
   pub call : Assigned n table workspace values (assignmentReply n table (length workspace) (length values)) workspace' values'
 
+-- a refusal's number k, with the paper that it is about and its reason
+pub record RefusedWith (sheet script : List ℕ) (k : ℕ) : Type 0 where
+  pub paper : Subject
+  pub refusal : Refusal
+  pub reason : RefusedPair sheet script lentTable lentTable lentWorkspace maxQuantities paper refusal
+  pub number : k ≡ refusalNumber refusal
+
 -- marking two texts, for the exam host: its number r is that of the reply with room enough lent, a verdict's or a refusal's
 pub record MarkAnswer (sheet script : List ℕ) (r : ℕ) : Type 0 where
   pub number : r ≡ textNumber (textsReply sheet script lentTable lentTable lentWorkspace maxQuantities)
-  -- refused exactly for these reasons, and a verdict by demand 3, of the rules as written
-  pub judged : TextsJudged sheet script lentTable lentTable lentWorkspace maxQuantities (textsReply sheet script lentTable lentTable lentWorkspace maxQuantities)
+  -- a refusal's number exactly for these reasons, and a verdict's by demand 3, of the rules as written
+  pub refused : (k : ℕ) → k < 100 → (r ≡ k) ↔ RefusedWith sheet script k
   pub demand : (t : AcceptedPair sheet script lentTable lentTable lentWorkspace maxQuantities)
       → ByDemand (hiddenIn (setIn (t .of-sheet))) (rulesOf (t .of-sheet)) (rulesOf (t .of-script)) r
   -- there is room for every sheet, so 6 does not come, and 5 is no reply of marking
   pub never : ((r ≡ 5) → ⊥) × ((r ≡ 6) → ⊥)
+  -- what the reply promises beside
+  pub judged : TextsJudged sheet script lentTable lentTable lentWorkspace maxQuantities (textsReply sheet script lentTable lentTable lentWorkspace maxQuantities)

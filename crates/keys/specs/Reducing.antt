@@ -42,7 +42,7 @@ pub record Grows (n : ℕ) (limit reach : ℕ → ℕ) (t : List ℤ) : Type 0 w
   pub named : (j : ℕ) → j < n → (reach j ≡ limit j) ⊎ Unnamed n j t
   pub step : (j : ℕ) → j < n → (reach j ≤ limit j) × (limit j + reach j ≤ limit (suc j))
 
--- and in the end they are small enough: the sums fit
+-- and in the end they are small enough: the sums fit. A table within the sheet's limits does, since 10 ^ 9 * 2 ^ 32 is below 2 ^ 62
 pub record Fits (n : ℕ) (t : List ℤ) : Type 0 where
   pub most : n ≤ maxQuantities
   pub limit : ℕ → ℕ

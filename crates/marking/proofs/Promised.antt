@@ -26,6 +26,7 @@ use Rattle.tables.specs.Tables.{tableSize}
 use Rattle.tables.specs.Meaning.{Satisfies}
 use Rattle.tables.proofs.Sizes.{size-whole, long-serves}
 use Rattle.tables.proofs.Limits.{wordsInLimit-within}
+use Rattle.tables.proofs.Meanings.{table-allows-visible, script-visible}
 use Rattle.tables.proofs.Tests.{refused-done, clash}
 use Rattle.keys.specs.Keys.{keyOf, refuted, assignmentChecks}
 use Rattle.keys.specs.Reducing.{reduceUpTo, fillDown}
@@ -300,6 +301,7 @@ mark-refused n set sheet script w v a f e d = record {
   );
   accepted = (λ c. clash {b = false} c refl, λ t. absurd (not-accepted t));
   demand = λ t. absurd (not-accepted t);
+  visibles = λ t. absurd (not-accepted t);
   loose-rule = λ rule c. absurd (verdict-refusal (Loose rule) f (sym (c .0)));
   tight-rule = λ rule c. absurd (verdict-refusal (Tight rule) f (sym (c .0)));
   loose-shown = λ rule c. absurd (verdict-refusal (Loose rule) f (sym (c .0)));
@@ -330,6 +332,10 @@ mark-given n set sheet script w v a r w' v' e d g = record {
   );
   accepted = (λ c. m, λ t. refl);
   demand = λ t. rw (g .reply) (verdict-demand n set sheet script (length w) (length v) m);
+  visibles = λ t. record {
+    script-visible = λ σ τ. script-visible n (hiddenIn set) script σ τ (t .visible);
+    sheet-visible = table-allows-visible n (hiddenIn set) sheet;
+  };
   loose-rule = λ rule c. let p = loose-returned r (ruleValues rule) (c .0) (c .1) in
       loose-alike (p .0) rule (p .2) (hiddenIn set) n sheet (Satisfies n script)
       (verdict-loose n set sheet script (length w) (length v) m (p .0) (sym (g .reply) ∙ p .1));

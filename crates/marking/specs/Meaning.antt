@@ -1,5 +1,5 @@
--- What a verdict means (demand 3), over unbounded integers and apart from any algorithm. Sheet and script are papers: what satisfies the rules that a table holds, or
--- those that a text writes, a doubled term taken as written.
+-- What a verdict means (demand 3), over unbounded integers. No algorithm is in it but the key's steps, which document 01 fixes and demand 2 gives a meaning (`Keyed`). Sheet and
+-- script are papers: what satisfies the rules that a table holds, or those that a text writes, a doubled term taken as written.
 use mathlib.Core.Bool.{Bool, true, false}
 use mathlib.Core.Path.{_≡_}
 use mathlib.Core.Logic.{_↔_, _⊎_}
@@ -17,15 +17,15 @@ use Rattle.rules.specs.declared.refusal.Refusal.the-variants.{Size, OutOfLimit,
 use Rattle.rules.specs.Hidden.{hiddenIn, setWithin}
 use Rattle.rules.specs.Limits.{maxQuantities, maxBound}
 use Rattle.rules.specs.Meaning.{Assignment, Meets}
-use Rattle.tables.specs.Meaning.{HoldsRule, ruleIn, Satisfiable, Unsatisfiable, Paper, Completes, SheetAllows, ScriptAllows, ScriptForbids, Breaks, NamesVisible, WordsWithin, assignmentOf}
+use Rattle.tables.specs.Meaning.{HoldsRule, ruleIn, Satisfiable, Unsatisfiable, Paper, Completes, SheetAllows, ScriptAllows, ScriptForbids, Breaks, NamesVisible, SameVisible, WordsWithin, assignmentOf}
 use Rattle.elimination.specs.Magnitude.{valueLimit}
 use Rattle.keys.specs.Keys.{keyOf}
 use Rattle.marking.specs.Verdicts.{hasTerm}
 
 -- ---- demand 3
 
--- equal: script and sheet allow the same visible integers. Here and below an assignment stands for its visible integers: the rules of an accepted script name visible
--- quantities alone, and what a sheet allows does not depend on the integers at hidden ones. Where no quantity is visible, all assignments are the one empty choice
+-- equal: script and sheet allow the same visible integers. Here and below an assignment stands for its visible integers (`ByVisible`); where no quantity is visible, all
+-- assignments are the one empty choice
 abbrev pub AllowSame : (ℕ → Bool) → Paper → Paper → Type 0
 AllowSame hidden sheet script = (σ : Assignment) → ScriptAllows script σ ↔ SheetAllows hidden sheet σ
 
@@ -50,6 +50,11 @@ pub record ByDemand (hidden : ℕ → Bool) (sheet script : Paper) (number : ℕ
   pub equal : (number ≡ 100) ↔ AllowSame hidden sheet script
   pub loose : (number ≡ 101) ↔ IsLoose hidden sheet script
   pub tight : (number ≡ 102) ↔ IsTight hidden sheet script
+
+-- and to both papers an assignment is its visible integers: those that agree there are allowed alike
+pub record ByVisible (n : ℕ) (hidden : ℕ → Bool) (sheet script : Paper) : Type 0 where
+  pub script-visible : (σ τ : Assignment) → SameVisible n hidden σ τ → ScriptAllows script σ → ScriptAllows script τ
+  pub sheet-visible : (σ τ : Assignment) → SameVisible n hidden σ τ → SheetAllows hidden sheet σ → SheetAllows hidden sheet τ
 
 -- ---- the rule that is carried
 
@@ -90,7 +95,7 @@ BreaksCarried σ (Nothing c) = Unit {0}
 abbrev pub ValuesWithin : ℕ → List ℤ → Type 0
 ValuesWithin n values = (k : ℕ) → k < n → Within valueLimit (wordAt values k)
 
--- for loose: the script allows its visible integers, no hidden values complete them, and its hidden words are 0
+-- for loose: the script allows its visible integers, no hidden values complete them, it breaks the rule, and its hidden words are 0
 pub record LooseShown (n : ℕ) (hidden : ℕ → Bool) (sheet script : Paper) (r : Rule) (values : List ℤ) : Type 0 where
   pub allowed : ScriptAllows script (assignmentOf values)
   pub incomplete : SheetAllows hidden sheet (assignmentOf values) → ⊥
@@ -99,7 +104,7 @@ pub record LooseShown (n : ℕ) (hidden : ℕ → Bool) (sheet script : Paper) (
   pub there : n ≤ length values
   pub range : ValuesWithin n values
 
--- for tight: its hidden words complete its visible integers, which the script forbids
+-- for tight: its hidden words complete its visible integers, which the script forbids, and it breaks the rule
 pub record TightShown (n : ℕ) (hidden : ℕ → Bool) (sheet script : Paper) (r : Rule) (values : List ℤ) : Type 0 where
   pub complete : Completes hidden sheet (assignmentOf values) (assignmentOf values)
   pub forbidden : ScriptForbids script (assignmentOf values)

@@ -28,7 +28,7 @@ use Rattle.marking.specs.declared.verdict.Verdict.{Verdict}
 use Rattle.marking.specs.declared.verdict.Verdict.the-variants.{Loose, Tight}
 use Rattle.marking.specs.declared.verdict.Marking.{Marking}
 use Rattle.marking.specs.Verdicts.{ruleValues, integersOf, markingNumber, Returned, isMarked, isMarkingShown, isShown, hasTerm}
-use Rattle.marking.specs.Meaning.{ByDemand, FirstAt, FirstBroken, NoneBroken, LooseRule, TightRule, LooseShown, TightShown, ValuesWithin, workspaceSize, TablesAccepted, TablesRefused}
+use Rattle.marking.specs.Meaning.{ByDemand, ByVisible, FirstAt, FirstBroken, NoneBroken, LooseRule, TightRule, LooseShown, TightShown, ValuesWithin, workspaceSize, TablesAccepted, TablesRefused}
 use Rattle.marking.specs.Marking.{firstBroken, verdictOf, markReply}
 
 -- ---- marking two tables
@@ -46,6 +46,7 @@ pub record TablesMarked (n set : ℕ) (sheet script workspace values : List ℤ)
   -- demand 3
   pub demand : TablesAccepted n set sheet script (length workspace) (length values)
       → ByDemand (hiddenIn set) (Satisfies n sheet) (Satisfies n script) (markingNumber r)
+  pub visibles : TablesAccepted n set sheet script (length workspace) (length values) → ByVisible n (hiddenIn set) (Satisfies n sheet) (Satisfies n script)
   -- the rule that is carried
   pub loose-rule : (rule : Rule) → Returned r 101 (ruleValues rule) → LooseRule (hiddenIn set) n sheet (Satisfies n script) rule
   pub tight-rule : (rule : Rule) → Returned r 102 (ruleValues rule) → TightRule n (Satisfies n sheet) script rule

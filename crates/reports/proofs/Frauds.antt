@@ -2,7 +2,7 @@
 -- assignment with fewer integers than the sheet has quantities. Assumes nothing.
 use mathlib.Core.Path.{_≡_, sym, _∙_, refl, ap}
 use mathlib.Core.Bool.{false}
-use mathlib.Core.List.{List, _++_}
+use mathlib.Core.List.{List, [], _∷_, _++_}
 use Prim.Native.Nat.{ℕ, _≤_}
 use native.Mathlib.Omega.{arith}
 use lib.Dec.{eqb}
@@ -16,7 +16,7 @@ use Rattle.numerals.proofs.Decimals.{signed-some}
 use Rattle.marking.specs.declared.verdict.Verdict.the-variants.{Loose}
 use Rattle.scripts.specs.declared.reply.TextMarking.{TextMarking}
 use Rattle.scripts.specs.declared.reply.TextMarking.the-variants.{Marked}
-use Rattle.scripts.specs.Replies.{isTextMarked}
+use Rattle.scripts.specs.Replies.{isTextMarked, textCounts}
 use Rattle.reports.specs.Reports.{keyReport}
 use Rattle.reports.specs.Marks.{integersText, valuesText, markText}
 use Rattle.reports.specs.Promises.{KeyPrinted, MarkPrinted}
@@ -78,7 +78,9 @@ three-integers p =
     let e : p .reply ≡ Marked 3 (Loose sumRule) = p .judged .reply ∙ wide-loose in
     let t = p .judged .accepted .0 (ap isTextMarked e) in
     let shown = p .shown .loose-shown t sumRule (verdict-returned e) in
-    omega (arith, shown .there, p .judged .counts t 3 (Loose sumRule) e)
+    let c : 3 ∷ [] ≡ t .of-sheet .count ∷ [] = sym (ap textCounts e) ∙ p .judged .counts t in
+    let n : 3 ≡ t .of-sheet .count = cc in
+    omega (arith, shown .there)
 
 -- three integers joined by commas have at least five bytes
 three-long : (values : List ℤ) → 3 ≤ length values → 5 ≤ length (integersText (take 3 values))

@@ -30,7 +30,7 @@ use Rattle.scripts.specs.declared.reply.Subject.{Subject}
 use Rattle.scripts.specs.declared.reply.Subject.the-variants.{Sheet as OfSheet, Script as OfScript, Both as OfBoth}
 use Rattle.scripts.specs.declared.reply.TextMarking.{TextMarking}
 use Rattle.scripts.specs.declared.reply.TextMarking.the-variants.{Marked, Refused}
-use Rattle.scripts.specs.Replies.{textNumber, textValues, textSubjects, TextReturned, isTextMarked}
+use Rattle.scripts.specs.Replies.{textNumber, textValues, textSubjects, TextReturned, isTextMarked, textCounts}
 use Rattle.scripts.specs.Meaning.{setIn, tableIn, AcceptedPair, ShortIn, RefusedPair}
 use Rattle.scripts.specs.Marking.{lentTable, lentWorkspace}
 use Rattle.scripts.specs.Promises.{TextsJudged, TextsShown, TextsMarked}
@@ -128,20 +128,24 @@ module _ {sheet script : List ℕ} {r : TextMarking} {values : List ℤ} (m : Le
   both-accepted : (n : ℕ) (v : Verdict) → r ≡ Marked n v → AcceptedPair sheet script lentTable lentTable lentWorkspace maxQuantities
   both-accepted n v e = m .judged .accepted .0 (ap isTextMarked e)
 
+  -- the n beside a verdict is the sheet's
+  counted : {n : ℕ} {v : Verdict} (t : AcceptedPair sheet script lentTable lentTable lentWorkspace maxQuantities) → r ≡ Marked n v → n ≡ t .of-sheet .count
+  counted t e = let c = m .judged .counts t in let d = ap textCounts e in cc
+
   -- what follows the first line of a verdict has at most 713 bytes
   carried-short : (n : ℕ) (v : Verdict) → r ≡ Marked n v → length (carriedText v (take n values)) ≤ 713
   carried-short n Equal e = omega arith
   carried-short n (Loose rule) e =
       let t = both-accepted n (Loose rule) e in
       let s = fine-sheet (t .of-sheet) (t .sheet-reads .spelled .fine) in
-      let q = m .judged .counts t n (Loose rule) e in
+      let q = counted t e in
       let line = loose-line (t .of-sheet) s (m .judged .loose-rule t rule (verdict-returned e)) in
       rw q (shown-short (t .of-sheet .count) rule values (s .most) line (m .shown .loose-shown t rule (verdict-returned e) .range))
   carried-short n (Tight rule) e =
       let t = both-accepted n (Tight rule) e in
       let s = fine-sheet (t .of-sheet) (t .sheet-reads .spelled .fine) in
       let u = fine-sheet (t .of-script) (t .script-reads .spelled .fine) in
-      let q = m .judged .counts t n (Tight rule) e in
+      let q = counted t e in
       let line = tight-line (t .of-sheet) (t .of-script) s u (t .matches .count) (m .judged .tight-rule t rule (verdict-returned e)) in
       rw q (shown-short (t .of-sheet .count) rule values (s .most) line (m .shown .tight-shown t rule (verdict-returned e) .range))
 
@@ -149,7 +153,7 @@ module _ {sheet script : List ℕ} {r : TextMarking} {values : List ℤ} (m : Le
   pub verdict-room : (n : ℕ) (v : Verdict) → r ≡ Marked n v → (n ≤ length values) × (length (verdictText v (take n values)) ≤ markRoom)
   verdict-room n v e =
       let t = both-accepted n v e in
-      let q = m .judged .counts t n v e in
+      let q = counted t e in
       (omega (arith, m .size, t .room .values-room), omega (arith, verdict-length {v = v} (take n values) refl, first-line v, carried-short n v e))
 
   -- there is room for a refusal's text

@@ -7,7 +7,7 @@ use lib.IntN.{ℤ}
 use Rattle.rules.specs.declared.rule.Rule.{Rule}
 use Rattle.rules.specs.Meaning.{Assignment}
 use Rattle.tables.specs.Meaning.{Paper, joined, SheetAllows, Breaks, assignmentOf}
-use Rattle.marking.specs.Meaning.{AllowSame, IsLoose, IsNarrow, ByDemand, FirstBroken, LooseRule, TightRule, LooseShown, TightShown}
+use Rattle.marking.specs.Meaning.{AllowSame, IsLoose, IsNarrow, ByDemand, ByVisible, FirstBroken, LooseRule, TightRule, LooseShown, TightShown}
 
 -- two papers are satisfied by the same assignments
 abbrev pub Alike : Paper → Paper → Type 0
@@ -61,6 +61,13 @@ alike-demand hidden number h g d =
         λ t. d .tight .1 (λ l. t .0 (loose hidden h g l), narrow hidden h' g' (t .1)),
       );
     }
+
+-- an assignment is its visible integers to the other papers too
+pub alike-visible : {A B C D : Paper} (n : ℕ) (hidden : ℕ → Bool) → Alike A B → Alike C D → ByVisible n hidden A C → ByVisible n hidden B D
+alike-visible n hidden h g v = record {
+  script-visible = λ σ τ s a. g τ .0 (v .script-visible σ τ s (g σ .1 a));
+  sheet-visible = λ σ τ s a. allows hidden h τ (v .sheet-visible σ τ s (allows hidden (alike-back h) σ a));
+}
 
 -- ---- the rule that is carried
 

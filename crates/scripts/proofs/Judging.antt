@@ -220,8 +220,11 @@ module _ (sheet script : List ℕ) (a b w v : ℕ) where
       λ h. let s = refused-same p q f g why h in (ap textNumber s, ap textValues s, ap textSubjects s),
     );
     accepted = (λ d. clash {b = false} d refl, λ t. absurd (refused-accepted p f why t));
-    counts = λ t n x d. absurd (refused-accepted p f why t);
+    counts = λ t. absurd (refused-accepted p f why t);
+    members = λ t. absurd (refused-accepted p f why t);
+    tables = λ t. absurd (refused-accepted p f why t);
     demand = λ t. absurd (refused-accepted p f why t);
+    visibles = λ t. absurd (refused-accepted p f why t);
     loose-rule = λ t rule d. absurd (refused-accepted p f why t);
     tight-rule = λ t rule d. absurd (refused-accepted p f why t);
   }

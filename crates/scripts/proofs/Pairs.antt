@@ -2,7 +2,7 @@
 use mathlib.Core.Path.{_≡_, refl, sym, _∙_, ap}
 use mathlib.Core.Bool.{Bool, true}
 use mathlib.Core.List.{List, [], _∷_, _++_}
-use mathlib.Core.Logic.{inl, inr}
+use mathlib.Core.Logic.{_↔_, inl, inr}
 use Prim.Native.Nat.{ℕ, _≤_}
 use native.Mathlib.Omega.{arith}
 use lib.IntN.{ℤ, pos}
@@ -12,8 +12,9 @@ use borrow.Author.Tests.{le-ltb}
 use Rattle.places.specs.Numbering.{blockStart}
 use Rattle.rules.specs.declared.refusal.Refusal.{Refusal}
 use Rattle.rules.specs.declared.refusal.Refusal.the-variants.{Mismatch}
-use Rattle.rules.specs.Hidden.{hiddenIn}
+use Rattle.rules.specs.Hidden.{hiddenIn, isListed}
 use Rattle.rules.specs.Limits.{maxBound}
+use Rattle.rules.specs.Meaning.{Assignment}
 use Rattle.tables.specs.declared.reply.Reply.{Reply}
 use Rattle.tables.specs.declared.reply.Reply.the-variants.{Done}
 use Rattle.tables.specs.declared.reply.Reply.the-variants.{Refused as NotDone}
@@ -29,9 +30,11 @@ use Rattle.marking.specs.declared.verdict.Marking.{Marking}
 use Rattle.marking.specs.declared.verdict.Marking.the-variants.{Refused as NotMarked}
 use Rattle.marking.specs.declared.verdict.Marking.the-variants.{Marked as TablesMarkedAs}
 use Rattle.marking.specs.Verdicts.{verdictNumber, isMarked}
-use Rattle.marking.specs.Meaning.{ByDemand, LooseRule, TightRule, LooseShown, TightShown, workspaceSize, Sized, InLimits, TablesRefused}
+use Rattle.marking.specs.Meaning.{ByDemand, ByVisible, LooseRule, TightRule, LooseShown, TightShown, workspaceSize, Sized, InLimits, TablesRefused}
 use Rattle.marking.specs.Marking.{verdictOf, visibleReply, markChecks, markedAs, markReply}
 use Rattle.marking.specs.Promises.{TablesMarked}
+use Rattle.lines.specs.Spelling.{lineWithin}
+use Rattle.lines.proofs.SetMembers.{list-members}
 use Rattle.reading.specs.Texts.{Contents}
 use Rattle.reading.specs.Meaning.{rulesOf}
 use Rattle.reading.proofs.Means.{spelled-check}
@@ -45,7 +48,7 @@ use Rattle.scripts.specs.Promises.{TextsJudged, TextsShown, TextsMarked}
 use Rattle.scripts.proofs.Sheets.{Sheet, fine-sheet}
 use Rattle.scripts.proofs.Matching.{matches-visible, visible-matches}
 use Rattle.scripts.proofs.Judging.{room-done, same-headers, reads-count, of-accepted, refused-accepted, refused-judged, refused-shown}
-use Rattle.scripts.proofs.Alike.{Alike, alike-demand, alike-loose-rule, alike-tight-rule, alike-loose-shown, alike-tight-shown}
+use Rattle.scripts.proofs.Alike.{Alike, alike-demand, alike-visible, alike-loose-rule, alike-tight-rule, alike-loose-shown, alike-tight-shown}
 
 -- the last check of two texts, and their verdict
 abbrev visibleIn : Contents → Contents → Reply
@@ -198,13 +201,21 @@ module _ (sheet script : List ℕ) (a b w v : List ℤ) (c d : Contents) (p : Re
 
     -- a verdict is judged as promised
     verdict-judged : (x : Verdict) → TablesAre (TablesMarkedAs x) → TextsJudged sheet script (length a) (length b) (length w) (length v) (Marked (c .count) x)
+    unfolding lineWithin
     verdict-judged x t = record {
       reply = sym (reply-same (TablesMarkedAs x) t);
       refused = λ g f. (λ e. absurd (none-named (e .2)), λ why. absurd (refused-accepted sheet script _ _ _ _ g f why (both-accepted x t)));
       accepted = (λ e. both-accepted x t, λ u. refl);
-      counts = λ u m y e. let k : m ≡ c .count = cc in of-accepted sheet script _ _ _ _ (λ i j. m ≡ i .count) c d p q k u;
+      counts = of-accepted sheet script _ _ _ _ (λ i j. c .count ∷ [] ≡ i .count ∷ []) c d p q refl;
+      members = of-accepted sheet script _ _ _ _ (λ i j. (k : ℕ) → hiddenIn (setIn i) k ≡ isListed k (i .hiddens)) c d p q
+          (list-members (c .count) (c .hiddens) (p .spelled .fine .1 .0 .formed) (p .spelled .fine .1 .0 .within));
+      tables = of-accepted sheet script _ _ _ _
+          (λ i j. (σ : Assignment) → (Satisfies (i .count) (tableIn i) σ ↔ rulesOf i σ) × (Satisfies (i .count) (tableIn j) σ ↔ rulesOf j σ)) c d p q
+          (λ σ. (sheet-alike σ, script-alike σ));
       demand = of-accepted sheet script _ _ _ _ (λ i j. ByDemand (hiddenIn (setIn i)) (rulesOf i) (rulesOf j) (verdictNumber x)) c d p q
           (alike-demand (hiddenIn (setIn c)) (verdictNumber x) sheet-alike script-alike (t .demand (t .accepted .0 refl)));
+      visibles = of-accepted sheet script _ _ _ _ (λ i j. ByVisible (i .count) (hiddenIn (setIn i)) (rulesOf i) (rulesOf j)) c d p q
+          (alike-visible (c .count) (hiddenIn (setIn c)) sheet-alike script-alike (t .visibles (t .accepted .0 refl)));
       loose-rule = λ u rule e.
           of-accepted sheet script _ _ _ _ (λ i j. LooseRule (hiddenIn (setIn i)) (i .count) (tableIn i) (rulesOf j) rule) c d p q
           (alike-loose-rule (hiddenIn (setIn c)) (c .count) (tableIn c) rule script-alike (t .loose-rule rule (e .0, e .1))) u;

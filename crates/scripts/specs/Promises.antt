@@ -9,18 +9,18 @@ use lib.ListN.{length}
 use Rattle.places.specs.Numbering.{blockStart}
 use Rattle.rules.specs.declared.rule.Rule.{Rule}
 use Rattle.rules.specs.declared.refusal.Refusal.{Refusal}
-use Rattle.rules.specs.Hidden.{hiddenIn}
+use Rattle.rules.specs.Hidden.{hiddenIn, isListed}
 use Rattle.rules.specs.Refusal.{refusalNumber, refusalValues}
+use Rattle.rules.specs.Meaning.{Assignment}
+use Rattle.tables.specs.Meaning.{Satisfies}
 use Rattle.keys.specs.Promises.{Lent}
-use Rattle.marking.specs.declared.verdict.Verdict.{Verdict}
 use Rattle.marking.specs.Verdicts.{ruleValues, integersOf}
-use Rattle.marking.specs.Meaning.{ByDemand, LooseRule, TightRule, LooseShown, TightShown, workspaceSize}
+use Rattle.marking.specs.Meaning.{ByDemand, ByVisible, LooseRule, TightRule, LooseShown, TightShown, workspaceSize}
 use Rattle.reading.specs.Texts.{Contents}
 use Rattle.reading.specs.Meaning.{rulesOf}
 use Rattle.scripts.specs.declared.reply.Subject.{Subject}
 use Rattle.scripts.specs.declared.reply.TextMarking.{TextMarking}
-use Rattle.scripts.specs.declared.reply.TextMarking.the-variants.{Marked}
-use Rattle.scripts.specs.Replies.{textNumber, TextReturned, isTextMarked, isTextShown}
+use Rattle.scripts.specs.Replies.{textNumber, textCounts, TextReturned, isTextMarked, isTextShown}
 use Rattle.scripts.specs.Meaning.{setIn, tableIn, Reads, AcceptedPair, RefusedPair}
 use Rattle.scripts.specs.Marking.{textsReply, countIn}
 
@@ -31,10 +31,17 @@ pub record TextsJudged (sheet script : List ℕ) (a b w v : ℕ) (r : TextMarkin
   pub refused : (p : Subject) (f : Refusal) → TextReturned r (refusalNumber f) (integersOf (refusalValues f)) (p ∷ []) ↔ RefusedPair sheet script a b w v p f
   pub accepted : (isTextMarked r ≡ true) ↔ AcceptedPair sheet script a b w v
   -- the n beside a verdict is the sheet's
-  pub counts : (t : AcceptedPair sheet script a b w v) (n : ℕ) (x : Verdict) → r ≡ Marked n x → n ≡ t .of-sheet .count
+  pub counts : (t : AcceptedPair sheet script a b w v) → textCounts r ≡ t .of-sheet .count ∷ []
+  -- the hidden set and the tables spoken of below are what the texts write: the set has the quantities that are listed, and what satisfies a table meets the rules as written
+  pub members : (t : AcceptedPair sheet script a b w v) (q : ℕ) → hiddenIn (setIn (t .of-sheet)) q ≡ isListed q (t .of-sheet .hiddens)
+  pub tables : (t : AcceptedPair sheet script a b w v) (σ : Assignment)
+      → (Satisfies (t .of-sheet .count) (tableIn (t .of-sheet)) σ ↔ rulesOf (t .of-sheet) σ)
+      × (Satisfies (t .of-sheet .count) (tableIn (t .of-script)) σ ↔ rulesOf (t .of-script) σ)
   -- demand 3, of the rules as written
   pub demand : (t : AcceptedPair sheet script a b w v)
       → ByDemand (hiddenIn (setIn (t .of-sheet))) (rulesOf (t .of-sheet)) (rulesOf (t .of-script)) (textNumber r)
+  pub visibles : (t : AcceptedPair sheet script a b w v)
+      → ByVisible (t .of-sheet .count) (hiddenIn (setIn (t .of-sheet))) (rulesOf (t .of-sheet)) (rulesOf (t .of-script))
   -- the rule that is carried; the script's is one of the table that its text reads into
   pub loose-rule : (t : AcceptedPair sheet script a b w v) (rule : Rule) → TextReturned r 101 (ruleValues rule) []
       → LooseRule (hiddenIn (setIn (t .of-sheet))) (t .of-sheet .count) (tableIn (t .of-sheet)) (rulesOf (t .of-script)) rule

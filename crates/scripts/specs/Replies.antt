@@ -40,6 +40,11 @@ abbrev pub textSubjects : TextMarking → List Subject
 textSubjects (Marked n v) = []
 textSubjects (Refused p f) = p ∷ []
 
+-- the n beside a verdict
+abbrev pub textCounts : TextMarking → List ℕ
+textCounts (Marked n v) = n ∷ []
+textCounts (Refused p f) = []
+
 -- the reply is returned by this number and these values, with the paper named
 abbrev pub TextReturned : TextMarking → ℕ → List ℤ → List Subject → Type 0
 TextReturned r number values subjects = (textNumber r ≡ number) × (textValues r ≡ values) × (textSubjects r ≡ subjects)

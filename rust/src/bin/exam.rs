@@ -19,8 +19,8 @@ fn main() {
     println!("{}", Linked.mark(&held(sheet), &held(script)));
 }
 
-/// The begin of a file, no bytes where it cannot be read. One byte more than a text may have shows that it is too long,
-/// so that an endless file ends too.
+/// The beginning of a file, no bytes where it cannot be read. One byte more than a text may have shows that it is too
+/// long, so that an endless file ends too.
 fn held(path: &OsString) -> Vec<u8> {
     let mut text = Vec::new();
     let read = File::open(path).and_then(|file| file.take(MOST_BYTES as u64 + 1).read_to_end(&mut text));

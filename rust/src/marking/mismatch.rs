@@ -35,8 +35,8 @@ fn hidden(script: &mut Paper, random: &mut Random) {
     script.hidden ^= 1 << random.edge(script.n);
 }
 
-/// A rule on a hidden quantity, alone, doubled or with another, at the begin, at the end or between. Half of the time
-/// it says next to nothing.
+/// A rule on a hidden quantity, alone, doubled or with another, at the beginning, at the end or between. Half of the
+/// time it says next to nothing.
 fn rule(script: &mut Paper, random: &mut Random) {
     let hidden: Vec<usize> = (1..=script.n).filter(|&q| is_in(script.hidden, q)).collect();
     if hidden.is_empty() || script.rules.len() == MOST_RULES {

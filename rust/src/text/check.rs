@@ -90,7 +90,7 @@ fn same_bytes(found: &[u8], due: &[u8]) -> Result<(), String> {
     }
 }
 
-/// A text as it can be printed, or the begin of a long one.
+/// A text as it can be printed, or the beginning of a long one.
 pub fn shown(text: &[u8]) -> String {
     const MOST: usize = 1500;
     let begin = &text[..text.len().min(MOST)];

@@ -1,0 +1,249 @@
+/*
+ * A host that makes all calls of acornsled.h, by the names that the header has, on document 01's sheet A and on input that
+ * is refused, and holds numbers, values and lent memory against document 01. The first difference ends it with status 1.
+ */
+#include "acornsled.h"
+
+#include <inttypes.h>
+#include <stdio.h>
+#include <stdlib.h>
+#include <string.h>
+
+#define N 3
+#define HIDDEN 2 /* quantity 2 */
+#define WORDS (2 * N * N)
+#define LARGEST (2 * ACORNSLED_MOST_QUANTITIES * ACORNSLED_MOST_QUANTITIES)
+#define NONE ACORNSLED_NO_RULE
+#define WIDEST (INT64_C(1) << 62) /* an assignment's integers are no further from 0 */
+
+/* What lent words and bytes are before a call. No call here has it for an answer. */
+#define BEFORE 99
+
+/* Sheet A as document 01 has it, as the writer has it, the lower quantity first, and its key. */
+static const char sheet[] = "quantities=3\nhidden=2\nrules=3\nrule=+1+2:5\nrule=+1-2:2\nrule=+3-2:0\n";
+static const char written[] = "quantities=3\nhidden=2\nrules=3\nrule=+1+2:5\nrule=+1-2:2\nrule=-2+3:0\n";
+static const char key[] = "quantities=3\nhidden=2\nrules=2\nrule=+1:3\nrule=+1+3:5\n";
+
+/* The tables of both, a line for each quantity. */
+static const int64_t sheet_table[WORDS] = {
+    NONE, NONE,
+    NONE, NONE, 5, 2, NONE, NONE,
+    NONE, NONE, NONE, NONE, NONE, NONE, NONE, NONE, 0, NONE,
+};
+static const int64_t key_table[WORDS] = {
+    3, NONE,
+    NONE, NONE, NONE, NONE, NONE, NONE,
+    NONE, NONE, 5, NONE, NONE, NONE, NONE, NONE, NONE, NONE,
+};
+
+/* What is lent. */
+static int64_t table[LARGEST];
+static int64_t workspace[LARGEST];
+static int64_t values[LARGEST];
+static uint8_t out[ACORNSLED_MOST_BYTES + 1];
+static size_t quantities;
+static uint32_t hidden;
+static size_t value;
+
+static unsigned calls;
+
+static void holds(int met, const char *what)
+{
+    if (!met) {
+        fprintf(stderr, "calls: not so: %s\n", what);
+        exit(1);
+    }
+}
+
+/* The call that has just been made answered this number, and wrote the value. */
+static void due(const char *call, uint32_t number, uint32_t number_due, size_t value_due)
+{
+    if (number != number_due || value != value_due) {
+        fprintf(stderr, "calls: %s: %" PRIu32 " with value %zu, due %" PRIu32 " with value %zu\n", call, number, value,
+                number_due, value_due);
+        exit(1);
+    }
+    calls++;
+    value = BEFORE;
+}
+
+static void fill(int64_t *words)
+{
+    for (size_t at = 0; at < LARGEST; at++) {
+        words[at] = BEFORE;
+    }
+}
+
+/* Are the words from this one on as they were before the call? */
+static int kept(const int64_t *words, size_t from)
+{
+    while (from < LARGEST && words[from] == BEFORE) {
+        from++;
+    }
+    return from == LARGEST;
+}
+
+/* Lends what is as before, but for the table, which begins with these words. */
+static void lend(const int64_t *words, size_t length)
+{
+    fill(table);
+    fill(workspace);
+    fill(values);
+    memset(out, BEFORE, sizeof out);
+    quantities = BEFORE;
+    hidden = BEFORE;
+    value = BEFORE;
+    if (length > 0) {
+        memcpy(table, words, length * sizeof *words);
+    }
+}
+
+/* Does the table hold these words of sheet A, and is the rest of it as before? */
+static int held(const int64_t *words)
+{
+    return memcmp(table, words, WORDS * sizeof *words) == 0 && kept(table, WORDS);
+}
+
+/* Is this text written, and the byte behind it as before? */
+static int wrote(const char *text)
+{
+    return memcmp(out, text, strlen(text)) == 0 && out[strlen(text)] == BEFORE;
+}
+
+static void reading(void)
+{
+    const uint8_t *text = (const uint8_t *)sheet;
+    lend(NULL, 0);
+    due("read", acornsled_read(text, strlen(sheet), table, WORDS - 1, &quantities, &hidden, &value), ACORNSLED_TOO_SHORT,
+        WORDS);
+    holds(kept(table, 0) && quantities == BEFORE && hidden == BEFORE, "a refused reading changes nothing");
+    due("read", acornsled_read(text, strlen(sheet), table, LARGEST, &quantities, &hidden, &value), ACORNSLED_DONE, 0);
+    holds(quantities == N && hidden == HIDDEN, "sheet A has three quantities, the second hidden");
+    holds(held(sheet_table), "sheet A's table is read");
+}
+
+/* A text that the reader refuses, with its number and its line. */
+static void refused(const char *text, uint32_t number, size_t line)
+{
+    const uint8_t *bytes = (const uint8_t *)text;
+    lend(NULL, 0);
+    due(text, acornsled_read(bytes, strlen(text), table, LARGEST, &quantities, &hidden, &value), number, line);
+    holds(kept(table, 0) && quantities == BEFORE && hidden == BEFORE, "a refused text changes nothing");
+}
+
+/* The same with a number put in. */
+static void refused_with(const char *text, int put, uint32_t number, size_t line)
+{
+    char whole[100];
+    snprintf(whole, sizeof whole, text, put);
+    refused(whole, number, line);
+}
+
+static void refusals(void)
+{
+    refused("", ACORNSLED_MALFORMED, 1);
+    refused("quantities=3\nhidden=2\nrules=1\nrule=+1:3\nrule=+1:3\n", ACORNSLED_MALFORMED, 5);
+    refused("quantities=3\nhidden=2\nrules=1\nrule=+3-3:5\n", ACORNSLED_CANCELLING, 4);
+    refused_with("quantities=%d\nhidden=\nrules=0\n", ACORNSLED_MOST_QUANTITIES + 1, ACORNSLED_PAST_LIMIT, 1);
+    refused_with("quantities=3\nhidden=\nrules=%d\n", ACORNSLED_MOST_RULES + 1, ACORNSLED_PAST_LIMIT, 3);
+    refused_with("quantities=3\nhidden=\nrules=1\nrule=+1:%d\n", ACORNSLED_MOST_BOUND + 1, ACORNSLED_PAST_LIMIT, 4);
+    /* at the limits of rules and of bytes it is a line that is refused */
+    refused_with("quantities=3\nhidden=\nrules=%d\n", ACORNSLED_MOST_RULES, ACORNSLED_MALFORMED, 4);
+    lend(NULL, 0);
+    due("read", acornsled_read(out, ACORNSLED_MOST_BYTES, table, LARGEST, &quantities, &hidden, &value),
+        ACORNSLED_MALFORMED, 1);
+    due("read", acornsled_read(out, ACORNSLED_MOST_BYTES + 1, table, LARGEST, &quantities, &hidden, &value),
+        ACORNSLED_SIZE, 0);
+}
+
+static void assigning(void)
+{
+    static const int64_t half[] = {0, -1}; /* 2x is at most 1 and -2x at most -1 */
+
+    lend(sheet_table, WORDS);
+    due("assignment", acornsled_assignment(N, table, WORDS - 1, workspace, WORDS, values, N, &value), ACORNSLED_SIZE, 0);
+    due("assignment", acornsled_assignment(N, table, WORDS, workspace, WORDS - 1, values, N - 1, &value),
+        ACORNSLED_TOO_SHORT, WORDS);
+    due("assignment", acornsled_assignment(N, table, WORDS, workspace, WORDS, values, N - 1, &value),
+        ACORNSLED_TOO_SHORT, N);
+    holds(kept(workspace, 0) && kept(values, 0), "a refused assignment changes nothing");
+    due("assignment", acornsled_assignment(N, table, LARGEST, workspace, LARGEST, values, LARGEST, &value),
+        ACORNSLED_DONE, 0);
+    for (size_t at = 0; at < N; at++) {
+        holds(-WIDEST <= values[at] && values[at] <= WIDEST, "the integers are from -2^62 to 2^62");
+    }
+    /* as sums of two that are 2^62 from 0 they might wrap */
+    holds(values[0] <= 5 - values[1] && values[0] <= 2 + values[1] && values[2] <= values[1],
+          "the integers satisfy sheet A");
+    holds(held(sheet_table) && kept(workspace, WORDS) && kept(values, N), "all else stays");
+
+    lend(half, 2);
+    due("assignment", acornsled_assignment(1, table, 2, workspace, 2, values, 1, &value), ACORNSLED_NO_ASSIGNMENT, 0);
+    holds(kept(workspace, 2) && kept(values, 0), "no assignment is written where there is none");
+    due("key", acornsled_key(1, 0, table, 2, workspace, 2, &value), ACORNSLED_NO_ASSIGNMENT, 0);
+    holds(memcmp(table, half, sizeof half) == 0 && kept(table, 2), "a table without an assignment stays");
+}
+
+static void keying(void)
+{
+    int64_t bound[] = {ACORNSLED_MOST_BOUND, NONE};
+
+    lend(sheet_table, WORDS);
+    due("key", acornsled_key(N, HIDDEN, table, WORDS - 1, workspace, WORDS, &value), ACORNSLED_SIZE, 0);
+    due("key", acornsled_key(ACORNSLED_MOST_QUANTITIES + 1, 0, table, LARGEST, workspace, LARGEST, &value),
+        ACORNSLED_SIZE, 0);
+    due("key", acornsled_key(N, HIDDEN, table, WORDS, workspace, WORDS - 1, &value), ACORNSLED_TOO_SHORT, WORDS);
+    due("key", acornsled_key(N, 1 << N, table, WORDS, workspace, WORDS, &value), ACORNSLED_PAST_LIMIT, 0);
+    holds(held(sheet_table) && kept(workspace, 0), "a refused key changes nothing");
+    due("key", acornsled_key(N, HIDDEN, table, LARGEST, workspace, LARGEST, &value), ACORNSLED_DONE, 0);
+    holds(held(key_table) && kept(workspace, WORDS), "sheet A's table becomes its key");
+
+    lend(bound, 2);
+    due("key", acornsled_key(1, 0, table, 2, workspace, 2, &value), ACORNSLED_DONE, 0);
+    bound[0]++;
+    lend(bound, 2);
+    due("key", acornsled_key(1, 0, table, 2, workspace, 2, &value), ACORNSLED_PAST_LIMIT, 0);
+}
+
+static void writing(void)
+{
+    size_t length = strlen(key);
+    lend(key_table, WORDS);
+    due("write", acornsled_write(N, HIDDEN, table, WORDS - 1, out, sizeof out, &value), ACORNSLED_SIZE, 0);
+    due("write", acornsled_write(N, 1 << N, table, WORDS, out, sizeof out, &value), ACORNSLED_PAST_LIMIT, 0);
+    due("write", acornsled_write(N, HIDDEN, table, WORDS, out, length - 1, &value), ACORNSLED_TOO_SHORT, length);
+    holds(wrote(""), "a refused writing changes nothing");
+    due("write", acornsled_write(N, HIDDEN, table, LARGEST, out, sizeof out, &value), ACORNSLED_DONE, length);
+    holds(wrote(key), "sheet A's key is written");
+
+    lend(sheet_table, WORDS);
+    due("write", acornsled_write(N, HIDDEN, table, WORDS, out, strlen(written), &value), ACORNSLED_DONE, strlen(written));
+    holds(wrote(written), "sheet A is written");
+}
+
+/* Marks a script against sheet A. No value is written. */
+static void marked(const char *script, uint32_t number)
+{
+    const uint8_t *text = (const uint8_t *)sheet;
+    due("mark", acornsled_mark(text, strlen(sheet), (const uint8_t *)script, strlen(script)), number, BEFORE);
+}
+
+static void marking(void)
+{
+    lend(NULL, 0);
+    marked("quantities=3\nhidden=2\nrules=2\nrule=+1+1:7\nrule=+1+3:5\n", ACORNSLED_EQUAL);
+    marked("quantities=3\nhidden=2\nrules=1\nrule=+1:3\n", ACORNSLED_LOOSE);
+    marked("quantities=3\nhidden=2\nrules=2\nrule=+1:2\nrule=+1+3:5\n", ACORNSLED_TIGHT);
+    marked(sheet, ACORNSLED_MISMATCH);
+}
+
+int main(void)
+{
+    reading();
+    refusals();
+    assigning();
+    keying();
+    writing();
+    marking();
+    return printf("calls: %u calls from C answered as is due\n", calls) < 0 || fflush(stdout) != 0;
+}

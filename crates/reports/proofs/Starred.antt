@@ -1,4 +1,5 @@
--- Document 01's starred cases, about keys and about marking, as one table of what is printed for whole texts; beside it refusals, and papers that allow nothing.
+-- Document 01's starred cases, about keys and about marking, as one table of what is printed for whole texts; beside it refusals, papers that allow nothing,
+-- and two texts with little lent.
 -- Every case is computed by the definitions that the contracts cite. Assumes nothing.
 use mathlib.Core.Path.{_≡_, refl, _∙_}
 use mathlib.Core.Bool.{true, false, cond}
@@ -12,7 +13,7 @@ use borrow.Author.Tests.{lt-ltb}
 use Rattle.integers.specs.Bound.{half, oppositeBound, smaller}
 use Rattle.words.specs.Change.{changeFrom, change, lowered}
 use Rattle.places.specs.Numbering.{blockStart, placeOfOne, placeOfPair, placeOfTwo, findTwo, blockUpTo, blockOf, offsetOf, isOne, higherAt, lowerAt}
-use Rattle.rules.specs.declared.refusal.Refusal.the-variants.{Malformed, TooShort}
+use Rattle.rules.specs.declared.refusal.Refusal.the-variants.{Malformed, TooShort, Mismatch}
 use Rattle.rules.specs.Limits.{maxQuantities, maxText}
 use Rattle.rules.specs.Meaning.{names}
 use Rattle.rules.specs.Steps.{ruleOf, oppositeOf, halvedOf}
@@ -20,6 +21,7 @@ use Rattle.tables.specs.Places.{ruleAt, findPlace}
 use Rattle.tables.specs.Tables.{putAt, putHalved, putRule, putAll, cleared}
 use Rattle.elimination.specs.Hiding.{withSum, withHalf, bareBelow, pairWord, onOne, onTwo, lowestAt, pairing, anyBare, paired, contradicts, eliminated}
 use Rattle.keys.specs.Keys.{hideUpTo, keyOf, refutedUpTo, refuted, andThen as inTurn, lengthReply}
+use Rattle.marking.specs.declared.verdict.Verdict.the-variants.{Equal}
 use Rattle.marking.specs.Verdicts.{isShown}
 use Rattle.marking.specs.Marking.{breakable, firstRule, firstBroken, verdictOf, namesHidden, anyNamesHidden, visibleReply}
 use Rattle.numerals.specs.Bytes.{bytes}
@@ -366,6 +368,68 @@ scriptNothing = record {
 abbrev pub nothings : List Case
 nothings = mark sheetNothing ∷ mark bothNothing ∷ mark scriptNothing ∷ []
 
+-- ---- two texts with little lent. The sheet is A, of 3 quantities: its table has 18 words, and so has the script's, the workspace 36, the assignment 3
+
+-- a script's text, how many words are lent for the sheet's table, the script's, the workspace and the assignment, and the reply
+pub record LentCase : Type 0 where
+  pub script : String
+  pub sheet-table : ℕ
+  pub script-table : ℕ
+  pub workspace : ℕ
+  pub values : ℕ
+  pub reply : TextMarking
+
+-- the sheet and the script give just that
+abbrev pub LentPasses : LentCase → Type 0
+LentPasses c = textsReply (bytes (sheetA .sheet)) (bytes (c .script)) (c .sheet-table) (c .script-table) (c .workspace) (c .values) ≡ c .reply
+
+-- all of a table do
+abbrev pub AllLentPass : List LentCase → Type 0
+AllLentPass [] = Unit {0}
+AllLentPass (c ∷ cs) = LentPasses c × AllLentPass cs
+
+-- 2, of the script, before 6: nothing at all is lent
+abbrev pub scriptBeforeRoom : LentCase
+scriptBeforeRoom = record { script = ""; sheet-table = 0; script-table = 0; workspace = 0; values = 0; reply = Refused Script (Malformed 1) }
+
+-- 6 before 7, with the length by the sheet's n: the script has another
+abbrev pub nothingLent : LentCase
+nothingLent = record { script = otherCount .script; sheet-table = 0; script-table = 0; workspace = 0; values = 0; reply = Refused Both (TooShort 18) }
+
+-- 6: the sheet's table alone is short
+abbrev pub sheetTableShort : LentCase
+sheetTableShort = record { script = otherCount .script; sheet-table = 17; script-table = 18; workspace = 36; values = 3; reply = Refused Both (TooShort 18) }
+
+-- 6: the script's is, before workspace and assignment
+abbrev pub scriptTableShort : LentCase
+scriptTableShort = record { script = otherCount .script; sheet-table = 18; script-table = 17; workspace = 35; values = 2; reply = Refused Both (TooShort 18) }
+
+-- 6: the workspace is, before the assignment
+abbrev pub workspaceShort : LentCase
+workspaceShort = record { script = otherCount .script; sheet-table = 18; script-table = 18; workspace = 35; values = 2; reply = Refused Both (TooShort 36) }
+
+-- 6: the assignment is, last
+abbrev pub assignmentShort : LentCase
+assignmentShort = record { script = otherCount .script; sheet-table = 18; script-table = 18; workspace = 36; values = 2; reply = Refused Both (TooShort 3) }
+
+-- 7, not 6: the script's own n is 4, whose table would have 32 words
+abbrev pub largerCount : LentCase
+largerCount = record {
+  script = "quantities=4\nhidden=2\nrules=1\nrule=+3+4:5\n";
+  sheet-table = 18;
+  script-table = 18;
+  workspace = 36;
+  values = 3;
+  reply = Refused Both Mismatch;
+}
+
+-- and so much is enough
+abbrev pub justEnough : LentCase
+justEnough = record { script = sameAsKey .script; sheet-table = 18; script-table = 18; workspace = 36; values = 3; reply = Marked 3 Equal }
+
+abbrev pub lendings : List LentCase
+lendings = scriptBeforeRoom ∷ nothingLent ∷ sheetTableShort ∷ scriptTableShort ∷ workspaceShort ∷ assignmentShort ∷ largerCount ∷ justEnough ∷ []
+
 -- ---- they pass
 
 -- `unfolding reckoning` lets every definition compute that a case uses, up to the spelling of what is printed
@@ -423,20 +487,15 @@ pub markRefusals-pass : AllPass markRefusals
 unfolding reckoning spelling decimal
 markRefusals-pass = (λ v. refl, (λ v. refl, (λ v. refl, (λ v. refl, (λ v. refl, tt)))))
 
--- and every case of papers that allow nothing
+-- every case of papers that allow nothing
 pub nothings-pass : AllPass nothings
 unfolding reckoning spelling decimal
 nothings-pass = (λ v. refl, (λ v. refl, (λ v. refl, tt)))
 
--- where nothing at all is lent, 2 of the script still comes before 6
-pub script-before-room : textsReply (bytes (sheetA .sheet)) (bytes "") 0 0 0 0 ≡ Refused Script (Malformed 1)
+-- and every case of what is lent
+pub lendings-pass : AllLentPass lendings
 unfolding reckoning
-script-before-room = refl
-
--- and 6, with the 18 words of a table for the sheet's n, before 7
-pub room-before-match : textsReply (bytes (sheetA .sheet)) (bytes (otherCount .script)) 0 0 0 0 ≡ Refused Both (TooShort 18)
-unfolding reckoning
-room-before-match = refl
+lendings-pass = (refl, (refl, (refl, (refl, (refl, (refl, (refl, (refl, tt))))))))
 
 -- 1: a text over 65,536 bytes, whatever they are
 pub too-long : (s : List ℕ) → maxText < length s → keyReport s ≡ bytes "refused=1\nline=0\n"

@@ -1,5 +1,5 @@
--- The frauds against the exam host's call, refuted on document 01's sheet A: a function that returns 100 whatever it gets, and one that does so where the script is
--- narrow. Assumes nothing.
+-- The frauds against the exam host's call, refuted on document 01's sheet A: a function that returns 100 for all texts, and one that
+-- returns 101 for all. Assumes nothing.
 use mathlib.Core.Path.{_≡_, ap, _∙_}
 use mathlib.Core.List.{List}
 use Prim.Native.Nat.{ℕ}

@@ -17,7 +17,8 @@ use Rattle.elimination.specs.Hiding.{withSum, withHalf, onOne, onTwo}
 pub hasRule-mono : (w u : ℤ) → w ≤ℤ u → hasRule u ≡ true → hasRule w ≡ true
 hasRule-mono w u l e = lt-ltZ w noRule (omega (linear, ltZ-true u noRule e))
 
-le-trans : {a b c : ℤ} → a ≤ℤ b → b ≤ℤ c → a ≤ℤ c
+-- orders chain
+pub le-trans : {a b c : ℤ} → a ≤ℤ b → b ≤ℤ c → a ≤ℤ c
 le-trans {a} {b} {c} h k = omega linear
 
 -- a word with c put in by minimum where a test passes: at most the word, at most c where the test passes, the word itself where it does not,

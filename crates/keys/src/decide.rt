@@ -21,7 +21,7 @@ pub fn reduce(n: usize, table: &mut [i64]) -> bool
     false
 }
 
-// Whether no integers satisfy the table. Where some do, the workspace has the table reduced, from which `assignment` reads them.
+// Whether no integers satisfy the table. Where some do, the workspace has the table reduced, from which `assignment::fill` reads them.
 pub fn decide(n: usize, table: &[i64], workspace: &mut [i64]) -> bool
     requires { ⌜ Fits n (now table) × (blockStart n ≤ length (now workspace)) ⌝ }
     ensures { λ r. ⌜ Decided n (now (table .entry)) (now (workspace .entry)) r (now (workspace .exit)) ⌝ }

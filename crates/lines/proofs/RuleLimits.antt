@@ -21,6 +21,7 @@ use Rattle.lines.specs.declared.answer.Answer.the-variants.{Rule, Refuse
 use Rattle.lines.specs.Spelling.{Term, Written, one, two, quantityWithin, ruleWithin, cancelling, signedQuantity, writtenRule}
 use Rattle.lines.specs.Lines.{accepted, refused, judged}
 use Rattle.lines.specs.Answers.{told, spelledAnswer, formAnswer, ruleAnswer}
+use Rattle.lines.proofs.Bits.{within-range}
 use Rattle.lines.proofs.Told.{natAbs-told, natAbs-signed, told-exact}
 
 -- ---- limits
@@ -32,10 +33,6 @@ within-low n q h = rw (lt-leb 1 q h)
 -- any other is where it is not above n
 pub within-high : (n q : ℕ) → 1 ≤ q → quantityWithin n q ≡ leb q n
 within-high n q h = rw (le-leb 1 q h)
-
--- a number that is has both limits
-pub within-range : (n q : ℕ) → quantityWithin n q ≡ true → (1 ≤ q) × (q ≤ n)
-within-range n q e = let p = both-true (leb 1 q) (leb q n) e in (leb-true 1 q (p .0), leb-true q n (p .1))
 
 -- an integer of such a magnitude fits the word of a signed quantity number
 pub within-narrow : (n : ℕ) (z : ℤ) → n ≤ maxQuantities → quantityWithin n (natAbs z) ≡ true → SFits w32 z

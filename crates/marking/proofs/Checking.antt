@@ -1,152 +1,31 @@
 -- What the checks of marking answer, and what it tells: done exactly where the tables are accepted, and refused exactly where there is this reason. Assumes nothing.
-use mathlib.Core.Path.{_≡_, refl, sym, _∙_, subst}
-use mathlib.Core.Bool.{Bool, true, false, cond, _&&_, _||_, and-false, or-true}
-use mathlib.Core.List.{List, [], _∷_}
-use mathlib.Core.Logic.{_↔_, _⊎_, inl, inr, ⊎-elim}
-use Prim.Native.Nat.{ℕ, zero, suc, _+_, _*_, _≤_, _<_}
+use mathlib.Core.Path.{_≡_, refl, sym, subst}
+use mathlib.Core.Bool.{Bool, true, false, cond, _&&_, and-false}
+use mathlib.Core.List.{List}
+use mathlib.Core.Logic.{_↔_, inl, inr}
+use Prim.Native.Nat.{ℕ, _*_, _≤_, _<_}
 use native.Mathlib.Omega.{arith}
-use lib.Dec.{ltb, eqb}
+use lib.Dec.{ltb}
 use lib.IntN.{ℤ, pos}
-use lib.ListN.{length, take, drop, length-take, drop-of-length-le}
-use lib.Seq.{length-take-le, getD-take, drop-cons}
-use borrow.Author.Tests.{ltb-true, ltb-false, lt-ltb, le-ltb, eq-eqb, eqb-true}
-use Rattle.words.specs.Change.{wordAt}
+use lib.ListN.{length, take}
+use borrow.Author.Tests.{ltb-true, ltb-false, lt-ltb, le-ltb}
 use Rattle.places.specs.Numbering.{blockStart}
-use Rattle.rules.specs.declared.rule.Rule.{Rule}
-use Rattle.rules.specs.declared.rule.Rule.the-variants.{One, Two, Nothing}
 use Rattle.rules.specs.declared.refusal.Refusal.{Refusal}
 use Rattle.rules.specs.declared.refusal.Refusal.the-variants.{Size, OutOfLimit, TooShort, Mismatch}
 use Rattle.rules.specs.Hidden.{hiddenIn, setWithin}
 use Rattle.rules.specs.Limits.{maxQuantities, maxBound}
-use Rattle.rules.specs.Literal.{quantityOf}
-use Rattle.rules.specs.Meaning.{names}
 use Rattle.tables.specs.declared.reply.Reply.{Reply}
 use Rattle.tables.specs.declared.reply.Reply.the-variants.{Done, Refused}
-use Rattle.tables.specs.Places.{ruleAt}
-use Rattle.tables.specs.Tables.{hasRule, tableSize, serves}
-use Rattle.tables.specs.Meaning.{HoldsRule, ruleIn, NamesVisible, WordsWithin}
+use Rattle.tables.specs.Tables.{serves}
+use Rattle.tables.specs.Meaning.{WordsWithin}
 use Rattle.tables.specs.Promises.{InLimit}
 use Rattle.tables.proofs.Tests.{clash, both-true}
 use Rattle.tables.proofs.Sizes.{small-start, serves-tells, long-serves}
 use Rattle.tables.proofs.Limits.{wordsInLimit-within}
-use Rattle.elimination.proofs.Step.{neither}
 use Rattle.keys.specs.Keys.{andThen, lengthReply, limitReply, inSheetLimit}
 use Rattle.marking.specs.Meaning.{workspaceSize, Sized, InLimits, TablesAccepted, TablesRefused}
-use Rattle.marking.specs.Marking.{namesHidden, anyNamesHidden, tableNamesHidden, visibleReply, markChecks}
-
--- ---- the names of a script's rules
-
--- a rule names no hidden quantity exactly where each that it names is visible
-rule-visible : (hidden : ℕ → Bool) (r : Rule) → (namesHidden hidden r ≡ false) ↔ ((q : ℕ) → names q r ≡ true → hidden q ≡ false)
-unfolding namesHidden names
-rule-visible hidden (One x c) =
-    (λ e q d. rw (sym (eqb-true (quantityOf x) q d)) e, λ f. f (quantityOf x) (eq-eqb (quantityOf x) (quantityOf x) refl))
-rule-visible hidden (Two x y c) = (
-  λ e q d. let p = neither (hidden (quantityOf x)) (hidden (quantityOf y)) .0 e in go q (p .0) (p .1) (eqb (quantityOf x) q) refl d,
-  λ f. neither (hidden (quantityOf x)) (hidden (quantityOf y)) .1 (f (quantityOf x) first, f (quantityOf y) second),
-)
-  where
-    first : (eqb (quantityOf x) (quantityOf x) || eqb (quantityOf y) (quantityOf x)) ≡ true
-    first = rw (eq-eqb (quantityOf x) (quantityOf x) refl)
-
-    second : (eqb (quantityOf x) (quantityOf y) || eqb (quantityOf y) (quantityOf y)) ≡ true
-    second = rw (eq-eqb (quantityOf y) (quantityOf y) refl) (or-true (eqb (quantityOf x) (quantityOf y)))
-
-    go : (q : ℕ) → hidden (quantityOf x) ≡ false → hidden (quantityOf y) ≡ false → (b : Bool) → eqb (quantityOf x) q ≡ b
-        → (b || eqb (quantityOf y) q) ≡ true → hidden q ≡ false
-    go q e f true d g = rw (sym (eqb-true (quantityOf x) q d)) e
-    go q e f false d g = rw (sym (eqb-true (quantityOf y) q g)) f
-rule-visible hidden (Nothing c) = (λ e q d. clash d refl, λ f. refl)
-
--- each word's rule, the first word being that of place k, names no hidden quantity
-abbrev NoneNamed : (ℕ → Bool) → ℕ → List ℤ → Type 0
-NoneNamed hidden k ws = (i : ℕ) → i < length ws → hasRule (wordAt ws i) ≡ true → namesHidden hidden (ruleAt (k + i) (wordAt ws i)) ≡ false
-
--- the test of words finds none exactly where each is so
-none-named : (hidden : ℕ → Bool) (k : ℕ) (ws : List ℤ) → (anyNamesHidden hidden k ws ≡ false) ↔ NoneNamed hidden k ws
-unfolding anyNamesHidden
-none-named hidden k [] = (λ e i h. let z : ⊥ = omega arith in absurd z, λ f. refl)
-none-named hidden k (w ∷ ws) =
-    let ih = none-named hidden (suc k) ws in
-    let p = neither (hasRule w && namesHidden hidden (ruleAt k w)) (anyNamesHidden hidden (suc k) ws) in
-    (λ e. to (p .0 e .0) (ih .0 (p .0 e .1)), λ f. p .1 (of f (hasRule w) refl, ih .1 (later f)))
-  where
-    here : k + 0 ≡ k
-    here = omega arith
-
-    next : (i : ℕ) → k + suc i ≡ suc k + i
-    next i = omega arith
-
-    to : (hasRule w && namesHidden hidden (ruleAt k w)) ≡ false → NoneNamed hidden (suc k) ws → NoneNamed hidden k (w ∷ ws)
-    to e ih zero h d = rw here (rw d at e)
-    to e ih (suc i) h d = rw (next i) (ih i (omega arith) d)
-
-    of : NoneNamed hidden k (w ∷ ws) → (b : Bool) → hasRule w ≡ b → (b && namesHidden hidden (ruleAt k w)) ≡ false
-    of f true d = rw here at (f 0 (omega arith) d)
-    of f false d = refl
-
-    later : NoneNamed hidden k (w ∷ ws) → NoneNamed hidden (suc k) ws
-    later f i h d = rw (next i) at (f (suc i) (omega arith) d)
-
--- no rule of a table names a hidden quantity exactly where all name visible quantities alone
-names-visible : (hidden : ℕ → Bool) (n : ℕ) (t : List ℤ) → blockStart n ≤ length t → (tableNamesHidden hidden n t ≡ false) ↔ NamesVisible n hidden t
-names-visible hidden n t l = (λ e. record { each = to (none-named hidden 0 front .0 e) }, λ v. none-named hidden 0 front .1 (of v))
-  where
-    front : List ℤ
-    front = take (blockStart n) t
-
-    size : length front ≡ blockStart n
-    size = length-take-le (blockStart n) t l
-
-    from : (k : ℕ) → 0 + k ≡ k
-    from k = omega arith
-
-    same : (k : ℕ) → k < blockStart n → wordAt front k ≡ wordAt t k
-    same k h = getD-take (blockStart n) t k (pos 0) h
-
-    to : NoneNamed hidden 0 front → (k : ℕ) → HoldsRule n t k → (q : ℕ) → names q (ruleIn t k) ≡ true → hidden q ≡ false
-    to f k h =
-        rule-visible hidden (ruleIn t k) .0
-        (rw (from k, same k (h .inside)) at (f k (rw size (h .inside)) (rw (same k (h .inside)) (h .rule))))
-
-    of : NamesVisible n hidden t → NoneNamed hidden 0 front
-    of v k h d =
-        let i : k < blockStart n = rw size at h in
-        rw (from k, same k i) (rule-visible hidden (ruleIn t k) .1 (v .each k (record { inside = i; there = omega arith; rule = rw (same k i) at d })))
-
--- ---- the loop over a script's words
-
--- the present word decides, or the words after it
-naming-more : (hidden : ℕ → Bool) (m k : ℕ) (t : List ℤ) → k < m → k < length t
-    → anyNamesHidden hidden k (drop k (take m t))
-    ≡ ((hasRule (wordAt t k) && namesHidden hidden (ruleAt k (wordAt t k))) || anyNamesHidden hidden (k + 1) (drop (k + 1) (take m t)))
-unfolding anyNamesHidden
-naming-more hidden m k t h l = rw (drop-cons (take m t) k (pos 0) inside, getD-take m t k (pos 0) h, next)
-  where
-    inside : k < length (take m t)
-    inside = omega (arith, length-take m t)
-
-    next : k + 1 ≡ suc k
-    next = omega arith
-
--- the answer of the words that are left is true where the present word's rule names a hidden quantity,
-pub naming-found : (hidden : ℕ → Bool) (m k : ℕ) (t : List ℤ) (r : Bool) → anyNamesHidden hidden k (drop k (take m t)) ≡ r → k < m → k < length t
-    → hasRule (wordAt t k) ≡ true → namesHidden hidden (ruleAt k (wordAt t k)) ≡ true → true ≡ r
-naming-found hidden m k t r e h l d f = rw (d, f) at (sym (naming-more hidden m k t h l) ∙ e)
-
--- that of the words after it where it does not,
-pub naming-next : (hidden : ℕ → Bool) (m k : ℕ) (t : List ℤ) (r : Bool) → anyNamesHidden hidden k (drop k (take m t)) ≡ r → k < m → k < length t
-    → (hasRule (wordAt t k) && namesHidden hidden (ruleAt k (wordAt t k))) ≡ false → anyNamesHidden hidden (k + 1) (drop (k + 1) (take m t)) ≡ r
-naming-next hidden m k t r e h l d = rw d at (sym (naming-more hidden m k t h l) ∙ e)
-
--- and false where none are left
-pub naming-end : (hidden : ℕ → Bool) (m k : ℕ) (t : List ℤ) (r : Bool) → anyNamesHidden hidden k (drop k (take m t)) ≡ r → (m ≤ k) ⊎ (length t ≤ k)
-    → false ≡ r
-unfolding anyNamesHidden
-naming-end hidden m k t r e h = rw (drop-of-length-le (take m t) past) at e
-  where
-    past : length (take m t) ≤ k
-    past = ⊎-elim (λ g. omega (arith, length-take m t)) (λ g. omega (arith, length-take m t)) h
+use Rattle.marking.specs.Marking.{anyNamesHidden, tableNamesHidden, visibleReply, markChecks}
+use Rattle.marking.proofs.Naming.{names-visible}
 
 -- ---- the answer by the tests
 
@@ -195,34 +74,32 @@ sheet-refused n set sheet script w v e = rw (checks-tested n set sheet script w 
 pub script-refused : (n set : ℕ) (sheet script : List ℤ) (w v : ℕ) → serves n (length script) ≡ false → Refused Size ≡ markChecks n set sheet script w v
 script-refused n set sheet script w v e = rw (checks-tested n set sheet script w v, e, and-false (serves n (length sheet)))
 
--- both serve, and m is their size
+-- both serve, and m is the size of a table
 pub record BothServe (n m : ℕ) (sheet script : List ℤ) : Type 0 where
   pub sheet-serves : serves n (length sheet) ≡ true
   pub script-serves : serves n (length script) ≡ true
-  pub size : m ≡ tableSize n
-
-both-size : (n m : ℕ) (sheet script : List ℤ) → BothServe n m sheet script → m ≡ blockStart n
-both-size n m sheet script b = b .size ∙ serves-tells n (length sheet) (b .sheet-serves) .size
+  pub size : m ≡ blockStart n
 
 -- that size is small
 pub both-small : (n m : ℕ) (sheet script : List ℤ) → BothServe n m sheet script → m ≤ 2 * (maxQuantities * maxQuantities)
 both-small n m sheet script b =
-    let p = both-size n m sheet script b in
-    omega (arith, small-start n (serves-tells n (length sheet) (b .sheet-serves) .most))
+    omega (arith, b .size, small-start n (serves-tells n (length sheet) (b .sheet-serves) .most))
+
+-- and the script has as many words
+pub both-room : (n m : ℕ) (sheet script : List ℤ) → BothServe n m sheet script → m ≤ length script
+both-room n m sheet script b = omega (arith, b .size, serves-tells n (length script) (b .script-serves) .room)
 
 -- a workspace that is too short
 pub workspace-refused : (n set m : ℕ) (sheet script : List ℤ) (w v : ℕ) → BothServe n m sheet script → w < 2 * m
     → Refused (TooShort (2 * m)) ≡ markChecks n set sheet script w v
 workspace-refused n set m sheet script w v b h =
-    let p = both-size n m sheet script b in
-    rw (checks-tested n set sheet script w v, b .sheet-serves, b .script-serves, lt-ltb w (workspaceSize n) (omega arith), p)
+    rw (checks-tested n set sheet script w v, b .sheet-serves, b .script-serves, lt-ltb w (workspaceSize n) (omega (arith, b .size)), b .size)
 
 -- an assignment that is
 pub values-refused : (n set m : ℕ) (sheet script : List ℤ) (w v : ℕ) → BothServe n m sheet script → 2 * m ≤ w → v < n
     → Refused (TooShort n) ≡ markChecks n set sheet script w v
 values-refused n set m sheet script w v b h g =
-    let p = both-size n m sheet script b in
-    rw (checks-tested n set sheet script w v, b .sheet-serves, b .script-serves, le-ltb w (workspaceSize n) (omega arith), lt-ltb v n g)
+    rw (checks-tested n set sheet script w v, b .sheet-serves, b .script-serves, le-ltb w (workspaceSize n) (omega (arith, b .size)), lt-ltb v n g)
 
 -- both serve, and all lengths are enough
 pub record AllServe (n m : ℕ) (sheet script : List ℤ) (w v : ℕ) : Type 0 where
@@ -235,8 +112,13 @@ all-tested : (n set m : ℕ) (sheet script : List ℤ) (w v : ℕ) → AllServe 
     → markChecks n set sheet script w v ≡ tested n true false false (within n set sheet script) (tableNamesHidden (hiddenIn set) n script)
 all-tested n set m sheet script w v a =
     let b = a .both in
-    let p = both-size n m sheet script b in
-    rw (checks-tested n set sheet script w v, b .sheet-serves, b .script-serves, le-ltb w (workspaceSize n) (omega (arith, a .room)), le-ltb v n (a .values-room))
+    rw (
+      checks-tested n set sheet script w v,
+      b .sheet-serves,
+      b .script-serves,
+      le-ltb w (workspaceSize n) (omega (arith, b .size, a .room)),
+      le-ltb v n (a .values-room),
+    )
 
 -- a hidden set past n
 pub set-refused : (n set m : ℕ) (sheet script : List ℤ) (w v : ℕ) → AllServe n m sheet script w v → setWithin n set ≡ false
@@ -246,7 +128,7 @@ set-refused n set m sheet script w v a e = rw (all-tested n set m sheet script w
 -- the test of the first m words is that of a served table
 pub limit-test : (n m : ℕ) (sheet script : List ℤ) (w v : ℕ) (t : List ℤ) (r : Bool) → AllServe n m sheet script w v → InLimit m (pos maxBound) t r
     → inSheetLimit n t ≡ r
-limit-test n m sheet script w v t r a i = let p = both-size n m sheet script (a .both) in sym (rw p at (i .reply))
+limit-test n m sheet script w v t r a i = sym (rw (a .both .size) at (i .reply))
 
 -- a word of the sheet past its limit
 pub sheet-outside : (n set m : ℕ) (sheet script : List ℤ) (w v : ℕ) → AllServe n m sheet script w v → inSheetLimit n sheet ≡ false
@@ -264,8 +146,7 @@ pub names-answered : (n set m : ℕ) (sheet script : List ℤ) (w v : ℕ) (name
     → inSheetLimit n sheet ≡ true → inSheetLimit n script ≡ true → named ≡ anyNamesHidden (hiddenIn set) 0 (take m script)
     → cond named (Refused Mismatch) Done ≡ markChecks n set sheet script w v
 names-answered n set m sheet script w v named a e f g h =
-    let p = both-size n m sheet script (a .both) in
-    rw (all-tested n set m sheet script w v a, e, f, g, h, p)
+    rw (all-tested n set m sheet script w v a, e, f, g, h, a .both .size)
 
 -- ---- what the answer tells
 

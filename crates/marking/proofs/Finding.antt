@@ -24,7 +24,7 @@ use Rattle.tables.specs.Places.{ruleAt}
 use Rattle.tables.specs.Tables.{hasRule, tableSize}
 use Rattle.tables.specs.Meaning.{HoldsRule, ruleIn, Satisfies, Breaks}
 use Rattle.tables.proofs.Tests.{clash, both-true}
-use Rattle.tables.proofs.Sizes.{size-whole}
+use Rattle.tables.proofs.Sizes.{size-known}
 use Rattle.keys.specs.Reducing.{Fits}
 use Rattle.keys.proofs.Copying.{SameTable, copied, same-back, same-satisfies}
 use Rattle.tightening.specs.Promises.{Tightened}
@@ -88,10 +88,6 @@ first-of (suc count) k m ws = go (isBelow m ws k) refl (firstBelowFrom count (su
     go false e Nowhere f = λ i h g q. f i (past e i h q (ltb k i) refl) (omega arith) q
 
 -- ---- the least bounds of a table's terms: a copy of the table made the tightest
-
--- a size asked for is that of the table
-pub size-known : (n m : ℕ) → n ≤ maxQuantities → m ≡ tableSize n → m ≡ blockStart n
-size-known n m h d = d ∙ size-whole n h
 
 -- a rule that some assignment of a table breaks, one of a table of the same words breaks too
 same-breaks : (n : ℕ) (t u : List ℤ) (r : Rule) → SameTable n t u → Breaks (Satisfies n t) r → Breaks (Satisfies n u) r

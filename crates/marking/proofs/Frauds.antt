@@ -25,7 +25,7 @@ use Rattle.tables.specs.Meaning.{HoldsRule, ruleIn, Satisfies, Unsatisfiable, M
 use Rattle.tables.proofs.Tests.{clash}
 use Rattle.tables.proofs.Lists.{empty-satisfied, tableOf-meaning}
 use Rattle.tables.proofs.Places.{ruleAt-place, ruleAt-hasPlace}
-use Rattle.tables.proofs.SheetA.{rules, hidden, sheet, of-one-and-three, of-two, completes, not-allowed, wide, wide-allows, narrow}
+use Rattle.tables.proofs.SheetA.{rules, hidden, sheet, of-one-and-three, of-two, completes, not-allowed, wide, wide-allows}
 use Rattle.keys.specs.Keys.{keyOf, refuted}
 use Rattle.keys.proofs.Sheets.{sheetTable, seenLate, steps}
 use Rattle.keys.proofs.FraudMeanings.{seenLate-unsatisfiable}
@@ -33,9 +33,9 @@ use Rattle.marking.specs.declared.verdict.Verdict.{Verdict}
 use Rattle.marking.specs.declared.verdict.Verdict.the-variants.{Equal, Loose, Tight}
 use Rattle.marking.specs.Verdicts.{verdictNumber, hasTerm}
 use Rattle.marking.specs.Meaning.{IsLoose, ByDemand, FirstBroken, LooseRule, TightRule, TightShown}
-use Rattle.marking.specs.Marking.{breakable, firstRule, firstBroken, orElse, verdictOf}
+use Rattle.marking.specs.Marking.{breakable, firstRule, firstBroken, orElse}
 
--- ---- scripts for sheet A, beside `wide`, which is +1:3, and `narrow`, which is +1:2, +1+3:5
+-- ---- scripts for sheet A, beside `wide`, which is +1:3
 
 -- +1+1:7, +1+3:5
 unfoldable pub same : List Rule
@@ -45,27 +45,10 @@ same = ruleOf (pos 1) (pos 1) (pos 7) ∷ ruleOf (pos 1) (pos 3) (pos 5) ∷ []
 unfoldable pub crossed : List Rule
 crossed = ruleOf (pos 1) (pos 0) (pos 2) ∷ []
 
--- `unfolding marks` lets every definition compute that the verdicts on these use
+-- `unfolding marks` lets every definition compute that the markers and keys below use
 unfoldable pub marks : Unit {0}
-unfolding steps rules wide narrow same crossed oppositeBound oppositeOf breakable firstRule firstBroken verdictOf
+unfolding steps rules same oppositeBound oppositeOf breakable firstRule firstBroken
 marks = tt
-
--- document 01's verdicts on them, by computing
-pub same-marked : verdictOf hidden 3 (tableOf 3 rules) (tableOf 3 same) ≡ Equal
-unfolding marks
-same-marked = refl
-
-pub wide-marked : verdictOf hidden 3 (tableOf 3 rules) (tableOf 3 wide) ≡ Loose (ruleOf (pos 1) (pos 3) (pos 5))
-unfolding marks
-wide-marked = refl
-
-pub narrow-marked : verdictOf hidden 3 (tableOf 3 rules) (tableOf 3 narrow) ≡ Tight (ruleOf (pos 1) (pos 0) (pos 2))
-unfolding marks
-narrow-marked = refl
-
-pub crossed-marked : verdictOf hidden 3 (tableOf 3 rules) (tableOf 3 crossed) ≡ Loose (ruleOf (pos 1) (pos 3) (pos 5))
-unfolding marks
-crossed-marked = refl
 
 -- ---- what they mean
 

@@ -19,9 +19,10 @@ use Rattle.places.specs.declared.Place.the-variants.{At, Nowhere}
 use Rattle.places.specs.Numbering.{blockStart}
 use Rattle.rules.specs.declared.rule.Rule.{Rule}
 use Rattle.rules.specs.declared.rule.Rule.the-variants.{One, Two, Nothing}
-use Rattle.rules.specs.Literal.{quantityOf, negated}
+use Rattle.rules.specs.Literal.{quantityOf}
 use Rattle.rules.specs.Meaning.{boundOf, names}
 use Rattle.rules.specs.Steps.{oppositeOf, halvedOf}
+use Rattle.rules.proofs.Literals.{negated-quantity}
 use Rattle.tables.specs.Places.{ruleAt, placeOf, findPlace, HasPlace}
 use Rattle.tables.specs.Tables.{hasRule, putAt, putHalved, putRule}
 use Rattle.tables.specs.Meaning.{ruleIn, WordsWithin}
@@ -102,11 +103,7 @@ opposite-hasPlace n (One x c) u = omega arith
 opposite-hasPlace n (Two x y c) u = (omega (arith, u .0), omega (arith, u .1), λ e. u .2 (omega arith))
 opposite-hasPlace n (Nothing c) u = u
 
--- a literal with the other sign is of the same quantity
-negated-quantity : (x : ℕ) → quantityOf (negated x) ≡ quantityOf x
-negated-quantity x = omega arith
-
--- so the opposite names the same quantities
+-- and names the same quantities
 pub opposite-names : (q : ℕ) (r : Rule) → names q (oppositeOf r) ≡ names q r
 unfolding oppositeOf names
 opposite-names q (One x c) = rw (negated-quantity x)

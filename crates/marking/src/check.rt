@@ -10,13 +10,13 @@ use tables::reply::Reply;
 use tables::table;
 ghost use mathlib.Core.Path.{_≡_};
 ghost use Prim.Native.Nat.{_*_, _≤_};
-ghost use lib.ListN.{take};
+ghost use lib.ListN.{length, take};
 ghost use Rattle.rules.specs.Hidden.{hiddenIn};
 ghost use Rattle.rules.specs.Limits.{maxQuantities};
 ghost use Rattle.marking.specs.Marking.{namesHidden, anyNamesHidden, markChecks};
 
 // Whether a rule names a quantity of the set.
-fn is_naming(set: u32, rule: Rule) -> bool
+fn names_hidden(set: u32, rule: Rule) -> bool
     ensures { λ r. ⌜ r ≡ namesHidden (hiddenIn set) rule ⌝ }
 {
     match rule {
@@ -35,19 +35,16 @@ fn is_naming(set: u32, rule: Rule) -> bool
     }
 }
 
-// Whether a rule of the first `m` words, or of all where there are fewer, names a quantity of the set. A table has at most 2,048 words.
-fn is_any_naming(set: u32, script: &[i64], m: usize) -> bool
-    requires { ⌜ m ≤ 2 * (maxQuantities * maxQuantities) ⌝ }
+// Whether a rule of the first `m` words names a quantity of the set. A table has at most 2,048 words.
+fn any_names_hidden(set: u32, script: &[i64], m: usize) -> bool
+    requires { ⌜ (m ≤ length (now script)) × (m ≤ 2 * (maxQuantities * maxQuantities)) ⌝ }
     ensures { λ r. ⌜ r ≡ anyNamesHidden (hiddenIn set) 0 (take m (now (script .entry))) ⌝ }
 {
     let mut k = 0;
     while k < m {
-        if script.len() <= k {
-            return false;
-        }
         let w = script[k];
         if w < Sheet::NO_RULE {
-            if is_naming(set, place::rule_at(k as u32, w)) {
+            if names_hidden(set, place::rule_at(k as u32, w)) {
                 return true;
             }
         }
@@ -89,7 +86,7 @@ pub(crate) fn check(
     if !limit::is_table_in(script, m, Sheet::MAX_BOUND) {
         return Reply::Refused(Refusal::OutOfLimit { line: 0 });
     }
-    if is_any_naming(set, script, m) {
+    if any_names_hidden(set, script, m) {
         return Reply::Refused(Refusal::Mismatch);
     }
     Reply::Done

@@ -17,7 +17,7 @@ ghost use lib.ListN.{length};
 ghost use Rattle.keys.specs.Keys.{refuted};
 
 // The verdict where no integers satisfy the sheet: the script is equal if none satisfy it either, and else loose with no rule.
-fn without_sheet(
+fn unsatisfiable_sheet(
     n: usize,
     set: u32,
     sheet: &[i64],
@@ -49,7 +49,7 @@ fn verdict(
     ensures { λ r. ⌜ VerdictGiven n set (now (sheet .entry)) (now (script .entry)) (now (workspace .entry)) (now (values .entry)) r (now (workspace .exit)) (now (values .exit)) ⌝ }
 {
     if decide::decide(n, sheet, workspace) {
-        return without_sheet(n, set, sheet, script, workspace, values);
+        return unsatisfiable_sheet(n, set, sheet, script, workspace, values);
     }
     words::copy(workspace, sheet, table::size(n));
     key::hide_set(n, set, workspace);

@@ -7,7 +7,7 @@ ghost use Rattle.marking.specs.Verdicts.{verdictNumber, markingNumber, m
 pub enum Verdict {
     // 100: script and sheet allow the same
     Equal,
-    // 101: the script allows some that the sheet does not, with a rule of the key; a bare rule is none
+    // 101: the script allows some that the sheet does not, with a rule of the key; the trivial rule where the sheet allows nothing
     Loose(Rule),
     // 102: the script allows none that the sheet does not, and forbids some that it allows, with a rule of the script
     Tight(Rule),

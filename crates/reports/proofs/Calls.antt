@@ -26,7 +26,7 @@ use Rattle.writing.specs.declared.write.Writing.the-variants.{Text}
 use Rattle.writing.specs.declared.write.Writing.the-variants.{Refused as Writing·Refused}
 use Rattle.writing.specs.Writing.{writtenText, written}
 use Rattle.writing.specs.Promises.{maxWritten, TextWritten}
-use Rattle.writing.proofs.Promised.{reply-text}
+use Rattle.writing.proofs.Promised.{reply-text, text-same}
 use Rattle.reports.specs.Refusals.{refusalText}
 use Rattle.reports.specs.Reports.{tableReport}
 use Rattle.reports.specs.Promises.{SheetTable}
@@ -38,10 +38,6 @@ use Rattle.reports.proofs.Reports.{table-length}
 -- a text and a refusal are two replies
 text-refused : {m : ℕ} {f : Refusal} → Text m ≡ Writing·Refused f → ⊥
 text-refused e = let z : _≡_ {A = ℕ} 0 1 = cc in omega arith
-
--- texts of one reply have one length
-text-same : {m k : ℕ} → Text m ≡ Text k → m ≡ k
-text-same e = cc
 
 -- a table written where it serves, its hidden set is in its range, and the output has room
 module _ {n set : ℕ} {t : List ℤ} {out : List ℕ} {r : Writing} {out' : List ℕ} (w : TextWritten n set t out r out')

@@ -3,12 +3,10 @@ use mathlib.Core.Path.{_≡_, refl, sym, _∙_, ap}
 use mathlib.Core.Bool.{Bool, true, false}
 use mathlib.Core.List.{List, [], _∷_, _++_, append-assoc, append-nil}
 use Prim.Native.Nat.{ℕ, zero, suc, _+_, _*_, _^_, _≤_, _<_}
-use native.Mathlib.Nat.{mul-le-mul-left}
 use native.Mathlib.Omega.{arith}
 use lib.Dec.{eqb}
 use lib.IntN.{ℤ, pos}
 use lib.ListN.{length, take, drop, length-append}
-use lib.Pow.{pow-mono}
 use lib.Seq.{take-suc}
 use borrow.Author.Tests.{eqb-true, eqb-false}
 use Rattle.integers.proofs.Within.{within-word}
@@ -18,7 +16,6 @@ use Rattle.numerals.specs.Bytes.{newline, comma}
 use Rattle.numerals.specs.Decimal.{signedDecimal}
 use Rattle.rules.specs.declared.rule.Rule.{Rule}
 use Rattle.rules.specs.declared.refusal.Refusal.{Refusal}
-use Rattle.rules.specs.Hidden.{hiddenIn}
 use Rattle.rules.specs.Limits.{maxQuantities, maxBound}
 use Rattle.rules.specs.Refusal.{refusalNumber}
 use Rattle.tables.specs.Meaning.{ruleIn, Paper, WordsWithin}
@@ -30,9 +27,7 @@ use Rattle.writing.specs.Writing.{ruleLineText, countText}
 use Rattle.writing.proofs.Lines.{word-short, line-short}
 use Rattle.scripts.specs.declared.reply.Subject.{Subject}
 use Rattle.scripts.specs.declared.reply.Subject.the-variants.{Sheet as OfSheet, Script as OfScript, Both as OfBoth}
-use Rattle.scripts.specs.Meaning.{setIn}
-use Rattle.scripts.proofs.Hiddens.{list-count, count-most}
-use Rattle.scripts.proofs.Sheets.{Sheet}
+use Rattle.scripts.proofs.Sheets.{Sheet, limit-most}
 use Rattle.reports.specs.Refusals.{refusedKey, lineKey, lineOf}
 use Rattle.reports.specs.Marks.{
   verdictKey,
@@ -205,13 +200,7 @@ broken-short {n} {rules} {paper} {r} B f h g w =
 
 -- the bounds of a sheet's key are words
 pub key-words : (c : Contents) → Sheet c → maxBound * 2 ^ length (c .hiddens) < 2 ^ 63
-key-words c s =
-    let hidden = hiddenIn (setIn c) in
-    let most : length (c .hiddens) ≤ maxQuantities =
-    omega (arith, ap length (s .back), list-count hidden (c .count), count-most hidden (c .count), s .most) in
-    let limit : maxBound * 2 ^ length (c .hiddens) ≤ maxBound * 2 ^ maxQuantities =
-    mul-le-mul-left maxBound (pow-mono {i = length (c .hiddens)} {j = maxQuantities} most) in
-    omega arith
+key-words c s = omega (arith, limit-most c s)
 
 -- the name of a paper has at most 6 bytes
 name-short : (p : Subject) → length (paperName p) ≤ 6

@@ -11,9 +11,7 @@ use Rattle.rules.specs.Literal.{quantityOf, negated, literalOf}
 use Rattle.rules.specs.Meaning.{Assignment, literalValue, signedValue}
 use Rattle.rules.specs.Steps.{isNone}
 
-pub negated-negated : (x : ℕ) → negated (negated x) ≡ x
-negated-negated x = omega arith
-
+-- a literal with the other sign is of the same quantity
 pub negated-quantity : (x : ℕ) → quantityOf (negated x) ≡ quantityOf x
 negated-quantity x = omega arith
 

@@ -304,34 +304,6 @@ sum-sound z r s σ h k =
     (λ p q. sum-meaning σ z r s c p q .1
     (omega (linear, h .met, k .met, parts-add (termValue σ r) (termValue σ s), parts-add (boundOf r) (boundOf s)))))
 
--- nothing remains of two terms, or the rest cancels
-abbrev pub Cancels : Partner → Partner → Type 0
-Cancels (With x) (With y) = y ≡ negated x
-Cancels (With x) Alone = ⊥
-Cancels (With x) Absent = ⊥
-Cancels Alone (With y) = ⊥
-Cancels Alone Alone = Unit {0}
-Cancels Alone Absent = ⊥
-Cancels Absent q = ⊥
-
-cancels-bare : (p q : Partner) (c : ℤ) → Cancels p q → restRule p q c ≡ Nothing c
-unfolding restRule
-cancels-bare (With x) (With y) c h = rw (eq-eqb y (negated x) h)
-cancels-bare (With x) Alone c h = absurd h
-cancels-bare (With x) Absent c h = absurd h
-cancels-bare Alone (With y) c h = absurd h
-cancels-bare Alone Alone c h = refl
-cancels-bare Alone Absent c h = absurd h
-cancels-bare Absent q c h = absurd h
-
--- a bare sum is exact also where it is no word, so that no contradiction is lost
-pub bare-sum : (z : ℕ) (r s : Rule) → Cancels (partnerOf z r) (partnerOf (negated z) s)
-    → (σ : Assignment) → Meets σ (sumOver z r s) ↔ (pos 0 ≤ℤ (boundOf r +ℤ boundOf s))
-unfolding sumOver
-bare-sum z r s h σ =
-    rw (cancels-bare (partnerOf z r) (partnerOf (negated z) s) (boundOf r +ℤ boundOf s) h)
-    (bare-meaning σ (boundOf r +ℤ boundOf s))
-
 -- ---- the quantity that is summed over is gone
 
 -- what is left of a term names not quantity q

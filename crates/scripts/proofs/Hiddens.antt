@@ -6,20 +6,17 @@ use mathlib.Core.List.{List, [], _∷_}
 use Prim.Native.Nat.{ℕ, zero, suc, _+_, _-_, _*_, _/_, _%_, _^_, _≤_, _<_}
 use native.Mathlib.Nat.{div-div-eq-div-mul, pow-suc, two-pow-succ, div-one, zero-add}
 use native.Mathlib.Omega.{arith}
-use lib.Dec.{leb, eqb}
+use lib.Dec.{eqb}
 use lib.ListN.{length, length-append}
 use lib.Pow.{pow-mono}
-use borrow.Author.Tests.{leb-true, eqb-true, eqb-false, eq-eqb, ne-eqb, lt-ltb}
+use borrow.Author.Tests.{eqb-true, eqb-false, eq-eqb, ne-eqb, lt-ltb}
 use Rattle.rules.specs.Hidden.{hiddenIn, setWithin, setOf}
 use Rattle.tables.proofs.Tests.{both-true}
 use Rattle.lines.specs.Spelling.{IncreasingFrom, quantityWithin, allWithin}
+use Rattle.lines.proofs.Bits.{within-range}
 use Rattle.keys.specs.Keys.{hiddenCount}
 use Rattle.writing.specs.Writing.{hiddenFrom, hiddenList}
 use Rattle.writing.proofs.ListTexts.{hidden-last}
-
--- a quantity number that passes its test
-pub quantity-range : (n q : ℕ) → quantityWithin n q ≡ true → (1 ≤ q) × (q ≤ n)
-quantity-range n q e = let p = both-true (leb 1 q) (leb q n) e in (leb-true 1 q (p .0), leb-true q n (p .1))
 
 -- numbers of 1 to n that increase, the first being above p
 abbrev Above : ℕ → ℕ → List ℕ → Type 0
@@ -31,14 +28,14 @@ above : (p n : ℕ) (qs : List ℕ) → IncreasingFrom (suc p) qs → allWithin 
 above p n [] i w = tt
 above p n (q ∷ qs) i w =
     let a = both-true (quantityWithin n q) (allWithin n qs) w in
-    (omega arith, quantity-range n q (a .0) .1, above q n qs (i .1) (a .1))
+    (omega arith, within-range n q (a .0) .1, above q n qs (i .1) (a .1))
 
 -- of the whole list, whose numbers are from 1 on
 increasing-above : (n : ℕ) (qs : List ℕ) → IncreasingFrom 0 qs → allWithin n qs ≡ true → Above 0 n qs
 increasing-above n [] i w = tt
 increasing-above n (q ∷ qs) i w =
     let a = both-true (quantityWithin n q) (allWithin n qs) w in
-    let r = quantity-range n q (a .0) in
+    let r = within-range n q (a .0) in
     (r .0, r .1, above q n qs (i .1) (a .1))
 
 -- ---- the set is in its range

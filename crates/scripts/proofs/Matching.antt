@@ -18,7 +18,7 @@ use Rattle.rules.specs.declared.rule.Rule.{Rule}
 use Rattle.rules.specs.declared.rule.Rule.the-variants.{One, Two, Nothing}
 use Rattle.rules.specs.Hidden.{hiddenIn, isListed}
 use Rattle.rules.specs.Limits.{maxBound, noRule}
-use Rattle.rules.specs.Literal.{quantityOf, negated}
+use Rattle.rules.specs.Literal.{quantityOf}
 use Rattle.rules.specs.Meaning.{boundOf, names}
 use Rattle.rules.specs.Steps.{halvedOf}
 use Rattle.tables.specs.declared.reply.Reply.the-variants.{Done}
@@ -27,7 +27,7 @@ use Rattle.tables.specs.Tables.{hasRule, emptyTable, ruleReply, putAt, putHalve
 use Rattle.tables.specs.Meaning.{HoldsRule, NoneNames, NamesVisible}
 use Rattle.tables.proofs.Tests.{clash}
 use Rattle.tables.proofs.Places.{hasPlace-below, found-two, names-bound, place-names}
-use Rattle.tables.proofs.Putting.{one-accepted, two-accepted}
+use Rattle.tables.proofs.Putting.{different-quantities, one-accepted, two-accepted}
 use Rattle.tables.proofs.Lists.{put-length}
 use Rattle.lines.specs.Spelling.{lineWithin, writtenRules}
 use Rattle.lines.proofs.SetMembers.{list-members}
@@ -90,11 +90,8 @@ two-silent : (n q : ℕ) (t : List ℤ) (x y : ℕ) (c : ℤ) → blockStart n �
 unfolding putHalved putAt findPlace placeOf
 two-silent n q t x y c l d e =
     let p = two-accepted n x y c e in
-    let u : quantityOf x ≡ quantityOf y → ⊥ = λ h. different x y d (p .3) h in
+    let u : quantityOf x ≡ quantityOf y → ⊥ = different-quantities x y d (p .3) in
     rw (found-two x y u) (placed-silent n q t (Two x y c) l (p .0, p .1, u) (p .2))
-  where
-    different : (x y : ℕ) → (x ≡ y → ⊥) → (y ≡ negated x → ⊥) → quantityOf x ≡ quantityOf y → ⊥
-    different x y d e q = omega arith
 
 -- a doubled term names its quantity once
 doubled-names : (q x : ℕ) (c d : ℤ) → names q (Two x x c) ≡ names q (One x d)

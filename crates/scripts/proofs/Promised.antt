@@ -1,6 +1,5 @@
 -- What marking two texts promises, from what its steps answer: each way that it ends, and what the steps ask. Assumes nothing.
 use mathlib.Core.Path.{_≡_, refl, sym, _∙_}
-use mathlib.Core.Bool.{Bool}
 use mathlib.Core.List.{List, _++_}
 use mathlib.Core.Logic.{inl, inr}
 use Prim.Native.Nat.{ℕ, _≤_}
@@ -16,7 +15,7 @@ use Rattle.tables.specs.Tables.{tableSize}
 use Rattle.tables.proofs.Tests.{refused-done}
 use Rattle.tables.proofs.Sizes.{size-whole}
 use Rattle.keys.specs.Keys.{andThen}
-use Rattle.keys.specs.Promises.{Lent}
+use Rattle.keys.proofs.Promised.{untouched}
 use Rattle.reading.specs.declared.check.Checked.{Checked}
 use Rattle.reading.specs.declared.check.Checked.the-variants.{Passed}
 use Rattle.reading.specs.declared.check.Checked.the-variants.{Refused as Failed}
@@ -41,10 +40,6 @@ use Rattle.scripts.proofs.Judging.{done-room, refused-short, same-heade
 use Rattle.scripts.proofs.Pairs.{pair-reply, tables-marked}
 
 -- ---- refused, and nothing changed
-
--- words that no one touched
-untouched : (m : ℕ) (free : Bool) (t : List ℤ) → Lent m free t t
-untouched m free t = record { size = refl; rest = refl; kept = λ e. refl }
 
 -- a refusal that has its reason
 unchanged : (sheet script : List ℕ) (a b w v : List ℤ) (p : Subject) (f : Refusal)

@@ -33,6 +33,7 @@ use Rattle.keys.proofs.Checking.{lent-done, key-passed}
 use Rattle.numerals.specs.Decimal.{signedDecimal}
 use Rattle.numerals.proofs.Decimals.{signed-width}
 use Rattle.lines.specs.Spelling.{lineWithin, writtenRules}
+use Rattle.lines.proofs.Bits.{within-range}
 use Rattle.reading.specs.Texts.{Contents}
 use Rattle.reading.specs.Meaning.{FineLines, rulesOf}
 use Rattle.writing.specs.Writing.{hiddenList, writtenText}
@@ -40,7 +41,7 @@ use Rattle.writing.specs.Promises.{maxWritten}
 use Rattle.writing.proofs.Lengths.{longest}
 use Rattle.scripts.specs.Meaning.{setIn, tableIn}
 use Rattle.scripts.proofs.Rules.{rules-meaning, read-within}
-use Rattle.scripts.proofs.Hiddens.{quantity-range, set-range, list-back, list-count, count-most}
+use Rattle.scripts.proofs.Hiddens.{set-range, list-back, list-count, count-most}
 
 -- the key of contents
 abbrev pub keyIn : Contents → List ℤ
@@ -61,7 +62,7 @@ pub record Sheet (c : Contents) : Type 0 where
 pub fine-sheet : (c : Contents) → FineLines maxBound c → Sheet c
 unfolding lineWithin
 fine-sheet c f =
-    let n = quantity-range maxQuantities (c .count) (f .0 .within) in
+    let n = within-range maxQuantities (c .count) (f .0 .within) in
     let l = read-within (c .count) (c .written) (f .1 .1 .1) in
     let s = tableOf-length (c .count) (writtenRules (c .written)) in
     record {
@@ -135,7 +136,7 @@ key-bounds c s =
     rw (hidden-count c s) at (key-within (hiddenIn (setIn c)) (c .count) maxBound (tableIn c) (omega arith) b)
 
 -- whatever is hidden, at most this
-limit-most : (c : Contents) → Sheet c → maxBound * 2 ^ length (c .hiddens) ≤ maxBound * 2 ^ maxQuantities
+pub limit-most : (c : Contents) → Sheet c → maxBound * 2 ^ length (c .hiddens) ≤ maxBound * 2 ^ maxQuantities
 limit-most c s =
     let most : length (c .hiddens) ≤ maxQuantities = omega (arith, hidden-count c s, count-most (hiddenIn (setIn c)) (c .count)) in
     mul-le-mul-left maxBound (pow-mono {i = length (c .hiddens)} {j = maxQuantities} most)

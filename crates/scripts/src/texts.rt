@@ -15,7 +15,7 @@ ghost use Rattle.rules.specs.Limits.{maxQuantities};
 ghost use Rattle.scripts.specs.Marking.{roomChecks, headersReply};
 ghost use Rattle.scripts.specs.Promises.{TextsMarked};
 
-// Whether what is lent has words enough for `n` quantities: the sheet's table, the script's, the workspace, the assignment.
+// The first refusal of what is lent for `n` quantities, or done: the sheet's table, then the script's, the workspace, the assignment.
 fn check_room(n: usize, sheet: usize, script: usize, workspace: usize, values: usize) -> Reply
     requires { ⌜ (1 ≤ n) × (n ≤ maxQuantities) ⌝ }
     ensures { λ r. ⌜ r ≡ roomChecks n sheet script workspace values ⌝ }
@@ -36,7 +36,7 @@ fn check_room(n: usize, sheet: usize, script: usize, workspace: usize, values: u
     Reply::Done
 }
 
-// Whether a script has the sheet's n and hidden set.
+// The refusal of a script whose n or hidden set is not the sheet's, or done.
 fn check_headers(n: usize, hidden: u32, script_n: usize, script_hidden: u32) -> Reply
     ensures { λ r. ⌜ r ≡ headersReply n hidden «script_n» «script_hidden» ⌝ }
 {

@@ -1,6 +1,6 @@
 -- Places and terms go together one by one: each term of one or two different quantities of 1 to n has a place below 2n², and each such place is that of
 -- exactly one, which is `ruleAt`. Assumes nothing.
-use mathlib.Core.Path.{_≡_, refl, sym, _∙_, ap}
+use mathlib.Core.Path.{_≡_, refl, _∙_, ap}
 use mathlib.Core.Bool.{Bool, true, false, cond, _||_, or-true, or-comm}
 use mathlib.Core.Logic.{_⊎_, inl, inr}
 use Prim.Native.Nat.{ℕ, suc, _+_, _*_, _/_, _<_, _≤_}
@@ -81,17 +81,6 @@ hasPlace-found n (Nothing c) u = absurd u
 pub ruleAt-found : (k : ℕ) (c : ℤ) → findPlace (ruleAt k c) ≡ At k
 ruleAt-found k c =
     hasPlace-found (suc (blockOf k)) (ruleAt k c) (ruleAt-hasPlace (suc (blockOf k)) k c (block-ends k)) ∙ ap At (ruleAt-place k c)
-
--- a place below 2n² is that of exactly one term over n quantities, up to the order of its literals
-pub place-exactly-one : (n k : ℕ) (c : ℤ) → k < blockStart n
-    → (HasPlace n (ruleAt k c) × (findPlace (ruleAt k c) ≡ At k))
-    × ((r : Rule) → HasPlace n r → findPlace r ≡ At k → boundOf r ≡ c → inOrder r ≡ ruleAt k c)
-place-exactly-one n k c h = ((ruleAt-hasPlace n k c h, ruleAt-found k c), only)
-  where
-    only : (r : Rule) → HasPlace n r → findPlace r ≡ At k → boundOf r ≡ c → inOrder r ≡ ruleAt k c
-    only r u e b =
-        let same : placeOf r ≡ k = cc (hasPlace-found n r u) in
-        sym (ruleAt-inOrder n r u) ∙ rw (same, b)
 
 -- ---- which places name a quantity
 

@@ -117,8 +117,8 @@ halved-single (Two x y c) = go (eqb x y) refl
 halved-single (Nothing c) = tt
 
 -- literals that are neither alike nor opposite are of different quantities
-different : (x y : ℕ) → (x ≡ y → ⊥) → (y ≡ negated x → ⊥) → quantityOf x ≡ quantityOf y → ⊥
-different x y d e q = omega arith
+pub different-quantities : (x y : ℕ) → (x ≡ y → ⊥) → (y ≡ negated x → ⊥) → quantityOf x ≡ quantityOf y → ⊥
+different-quantities x y d e q = omega arith
 
 -- what it tells that a halved rule is accepted: it has a place and a bound, or it is bare and always met
 pub one-accepted : (n x : ℕ) (c : ℤ) → ruleReply n (One x c) ≡ Done → (x < 2 * n) × (hasRule c ≡ true)
@@ -152,7 +152,7 @@ single-put n t (One x c) σ l d e =
     let p = one-accepted n x c e in hasPlace-put n t (One x c) σ l (p .0) (p .1)
 single-put n t (Two x y c) σ l d e =
     let p = two-accepted n x y c e in
-    let u : quantityOf x ≡ quantityOf y → ⊥ = different x y d (p .3) in
+    let u : quantityOf x ≡ quantityOf y → ⊥ = different-quantities x y d (p .3) in
     rw (found-two x y u) (hasPlace-put n t (Two x y c) σ l (p .0, p .1, u) (p .2))
 single-put n t (Nothing c) σ l d e = (λ s. (s, nothing-accepted n c σ e), λ s. s .0)
 

@@ -1,5 +1,5 @@
 -- What it tells that a table serves n quantities, and when it does. Assumes nothing.
-use mathlib.Core.Path.{_≡_, refl}
+use mathlib.Core.Path.{_≡_, refl, _∙_}
 use mathlib.Core.Bool.{Bool, true, false, cond, _&&_}
 use Prim.Native.Nat.{ℕ, zero, suc, _*_, _≤_, _<_}
 use native.Mathlib.Nat.{mul-le-mul}
@@ -52,6 +52,10 @@ pub size-whole : (n : ℕ) → n ≤ maxQuantities → tableSize n ≡ blockStar
 unfolding tableSize blockStart
 size-whole zero h = refl
 size-whole (suc n) h = rw (le-leb 1 (suc n) (omega arith), le-leb (suc n) maxQuantities h)
+
+-- so whatever is that size is where the table's blocks end
+pub size-known : (n m : ℕ) → n ≤ maxQuantities → m ≡ tableSize n → m ≡ blockStart n
+size-known n m h e = e ∙ size-whole n h
 
 -- a table long enough for such an n serves it
 pub long-serves : (n words : ℕ) → 1 ≤ n → n ≤ maxQuantities → blockStart n ≤ words → serves n words ≡ true

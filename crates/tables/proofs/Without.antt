@@ -1,5 +1,5 @@
--- A table with the places of a quantity cleared is satisfied exactly by what meets the rules that do not name the quantity, whatever stands at
--- the quantity itself. Assumes nothing.
+-- A table with the places of a quantity cleared is satisfied exactly by what meets the rules that do not name the quantity. Assumes
+-- nothing.
 use mathlib.Core.Path.{_≡_, refl, _∙_}
 use mathlib.Core.Bool.{Bool, true, false, cond}
 use mathlib.Core.List.{List}
@@ -17,7 +17,6 @@ use Rattle.tables.specs.Places.{ruleAt}
 use Rattle.tables.specs.Tables.{hasRule, clearing, cleared}
 use Rattle.tables.specs.Meaning.{ruleIn, Satisfies, SatisfiesWithout}
 use Rattle.tables.proofs.Tests.{clash}
-use Rattle.tables.proofs.Values.{meets-named}
 
 -- the word of a cleared table
 pub cleared-word : (n q : ℕ) (t : List ℤ) (k : ℕ) → blockStart n ≤ length t → k < blockStart n → wordAt (cleared n q t) k ≡ clearing q k (wordAt t k)
@@ -51,15 +50,3 @@ cleared-meaning n q t σ l = (to, of)
           (go s k (p .inside) (rw (cleared-length n q t) at (p .there)) (names q (ruleIn t k)) refl
           (rw (cleared-word n q t k l (p .inside)) at (p .rule)));
     }
-
--- ---- a rule that does not name a quantity does not see it
-
--- two assignments differ at quantity q at most
-abbrev pub SameBut : ℕ → Assignment → Assignment → Type 0
-SameBut q σ τ = (p : ℕ) → (p ≡ q → ⊥) → σ p ≡ τ p
-
-pub without-same : (q n : ℕ) (t : List ℤ) (σ τ : Assignment) → SameBut q σ τ → SatisfiesWithout q n t σ → SatisfiesWithout q n t τ
-without-same q n t σ τ s w = record { each = λ k p e. meets-named σ τ (ruleIn t k) (other k e) (w .each k p e) }
-  where
-    other : (k : ℕ) → names q (ruleIn t k) ≡ false → (p : ℕ) → names p (ruleIn t k) ≡ true → σ p ≡ τ p
-    other k e p d = s p (λ same. clash (rw same at d) e)

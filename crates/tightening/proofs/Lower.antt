@@ -22,7 +22,7 @@ use Rattle.tables.proofs.Tests.{clash}
 use Rattle.tables.proofs.Without.{cleared-word}
 use Rattle.elimination.specs.Hiding.{pairWord, loneWord, bareBelow, anyBare, paired, contradicts, eliminated}
 use Rattle.elimination.proofs.TermWords.{quantity-cases, pair-apart, pair-first, pair-second, pair-sym, lone-at, pair-at}
-use Rattle.elimination.proofs.SumWords.{hasRule-mono}
+use Rattle.elimination.proofs.SumWords.{hasRule-mono, le-trans}
 use Rattle.elimination.proofs.PairedWords.{lone-elim, lone-lowered, lone-plus, lone-minus, lone-half, pair-elim, pair-lowered, pair-sum}
 use Rattle.elimination.proofs.Step.{paired-length, bare-clear, neither, anyBare-clear}
 use Rattle.keys.specs.Keys.{hideUpTo, keyOf, every, refutedUpTo}
@@ -68,10 +68,6 @@ sum-most w a b c d h k l = omega (linear, parts-add a b, parts-add c d)
 
 half-most : (w a b c d : ℤ) → w ≤ℤ half (a +ℤ b) → a ≤ℤ c → b ≤ℤ d → w ≤ℤ half (c +ℤ d)
 half-most w a b c d h k l = omega (linear, parts-add a b, parts-add c d, parts-half (a +ℤ b), parts-half (c +ℤ d))
-
--- orders chain
-le-trans : {a b c : ℤ} → a ≤ℤ b → b ≤ℤ c → a ≤ℤ c
-le-trans {a} {b} {c} h k = omega linear
 
 module _ (n j : ℕ) (u t : List ℤ) (l : blockStart n ≤ length u) (a : AtMost n u t) where
   -- pairing a quantity in the smaller one keeps it smaller,

@@ -133,7 +133,7 @@ refused-text : {f : Refusal} {m : ℕ} → Refused f ≡ Text m → ⊥
 refused-text e = let z : _≡_ {A = ℕ} 0 1 = cc in omega arith
 
 -- texts of one reply have one length
-text-same : {m k : ℕ} → Text m ≡ Text k → m ≡ k
+pub text-same : {m k : ℕ} → Text m ≡ Text k → m ≡ k
 text-same e = cc
 
 -- which the reply tells

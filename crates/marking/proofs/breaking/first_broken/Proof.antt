@@ -3,7 +3,8 @@
 use native.Mathlib.Omega.{arith}
 use denote.Ref.{now}
 use borrow.Author.Needs.{needs}
-use Rattle.marking.proofs.Finding.{size-known, half-room, half-back, half-halves, none-found, first-found}
+use Rattle.tables.proofs.Sizes.{size-known}
+use Rattle.marking.proofs.Finding.{half-room, half-back, half-halves, none-found, first-found}
 use Rattle.marking.proofs.breaking.first_broken.Statement.{statement}
 use Rattle.marking.proofs.breaking.first_broken.Tie as tie
 

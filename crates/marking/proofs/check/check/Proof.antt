@@ -8,11 +8,13 @@ use borrow.Author.Tests.{not-true, not-false}
 use Rattle.rules.specs.Hidden.{setWithin}
 use Rattle.rules.specs.declared.refusal.Refusal.the-variants.{Mismatch}
 use Rattle.tables.specs.declared.reply.Reply.the-variants.{Done, Refused}
+use Rattle.tables.proofs.Sizes.{serves-tells, size-known}
 use Rattle.keys.specs.Keys.{inSheetLimit}
 use Rattle.marking.specs.Marking.{markChecks}
 use Rattle.marking.proofs.Checking.{
   BothServe,
   both-small,
+  both-room,
   AllServe,
   limit-test,
   sheet-refused,
@@ -32,10 +34,11 @@ both : (c : tie.After-size) → let s = c .before .before .before .before .befor
     BothServe (s .args .n) (c .size .result) (now (s .args .sheet)) (now (s .args .script))
 both c = let second = c .before .before in
     let first = second .before .before in
+    let served = sym (first .serves .ensures) ∙ not-false _ (second .before .if1 .left) in
     record {
-      sheet-serves = sym (first .serves .ensures) ∙ not-false _ (second .before .if1 .left);
+      sheet-serves = served;
       script-serves = sym (second .serves2 .ensures) ∙ not-false _ (c .before .if2 .left);
-      size = c .size .ensures;
+      size = size-known _ _ (serves-tells _ _ served .most) (c .size .ensures);
     }
 
 -- past all lengths
@@ -59,12 +62,13 @@ script-test : (c : tie.After-is-table-in2) → let s = c .before .before .before
 script-test c = limit-test _ _ _ _ _ _ _ _ (all (c .before .before .before .before .before)) (c .is-table-in2 .ensures)
 
 -- past all limits
-names-tell : (c : tie.After-is-any-naming) → let s = c .before .before .before .before .before .before .before .before .before .before .before .before .before .before in
-    cond (c .is-any-naming .result) (Refused Mismatch) Done
+names-tell : (c : tie.After-any-names-hidden)
+    → let s = c .before .before .before .before .before .before .before .before .before .before .before .before .before .before in
+    cond (c .any-names-hidden .result) (Refused Mismatch) Done
     ≡ markChecks (s .args .n) (s .args .set) (now (s .args .sheet)) (now (s .args .script)) (s .args .workspace) (s .args .values)
 names-tell c = let script = c .before .before in let sheet = script .before .before in
     names-answered _ _ _ _ _ _ _ _ (all (sheet .before .before .before)) (set-inside (sheet .before))
-    (sheet-test sheet ∙ not-false _ (script .before .if6 .left)) (script-test script ∙ not-false _ (c .before .if7 .left)) (c .is-any-naming .ensures)
+    (sheet-test sheet ∙ not-false _ (script .before .if6 .left)) (script-test script ∙ not-false _ (c .before .if7 .left)) (c .any-names-hidden .ensures)
 
 serves-requires : tie.Need-serves-requires
 serves-requires c κs = search needs
@@ -112,8 +116,8 @@ returns-7 : tie.Need-returns-7
 returns-7 c =
     script-outside _ _ _ _ _ _ _ (all (c .before .before .before .before .before .before)) (script-test (c .before) ∙ not-true _ (c .if7 .taken))
 
-is-any-naming-requires : tie.Need-is-any-naming-requires
-is-any-naming-requires c κs = both-small _ _ _ _ (all (c .before .before .before .before .before .before) .both)
+any-names-hidden-requires : tie.Need-any-names-hidden-requires
+any-names-hidden-requires c κs = let b = all (c .before .before .before .before .before .before) .both in (both-room _ _ _ _ b, both-small _ _ _ _ b)
 
 returns-8 : tie.Need-returns-8
 returns-8 c = rw (c .if8 .taken) at (names-tell (c .before))
@@ -140,6 +144,6 @@ check-spec =
     returns-6
     is-table-in-requires-2
     returns-7
-    is-any-naming-requires
+    any-names-hidden-requires
     returns-8
     returns-9)

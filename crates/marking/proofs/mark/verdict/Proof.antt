@@ -60,8 +60,8 @@ decide-requires c κs =
     let p = c .before .pre in
     (sheet-fitting _ _ _ _ _ _ p, one-table _ _ _ _ _ _ p)
 
-without-sheet-requires : tie.Need-without-sheet-requires
-without-sheet-requires c κs =
+unsatisfiable-sheet-requires : tie.Need-unsatisfiable-sheet-requires
+unsatisfiable-sheet-requires c κs =
     let o = c .before .before in
     let d = o .before .before in
     (rw (d .decide .ensures .lent .size) (startOf d .pre), sym (d .decide .ensures .reply) ∙ o .if1 .taken)
@@ -75,7 +75,7 @@ same-length-2 c = search needs
 returns : tie.Need-returns
 returns c =
     let w = c .before .before in
-    verdict-without _ _ _ _ _ _ _ _ _ _ _ (w .before .before .before .before .before .decide .ensures) (w .without-sheet .ensures)
+    verdict-without _ _ _ _ _ _ _ _ _ _ _ (w .before .before .before .before .before .decide .ensures) (w .unsatisfiable-sheet .ensures)
 
 size-requires : tie.Need-size-requires
 size-requires c κs = search needs
@@ -163,7 +163,7 @@ verdict-spec =
     tie.close
     (tie.spec
     decide-requires
-    without-sheet-requires
+    unsatisfiable-sheet-requires
     same-length
     same-length-2
     returns

@@ -1,10 +1,12 @@
 -- `texts::check_headers` meets its contract. Assumes nothing.
-use Rattle.scripts.proofs.Rooms.{headers-alike, other-set, other-count}
+use mathlib.Core.Path.{sym}
+use Rattle.scripts.proofs.Judging.{same-headers}
+use Rattle.scripts.proofs.Rooms.{other-set, other-count}
 use Rattle.scripts.proofs.texts.check_headers.Statement.{statement}
 use Rattle.scripts.proofs.texts.check_headers.Tie as tie
 
 returns : tie.Need-returns
-returns c = headers-alike _ _ _ _ (c .before .if1 .taken) (c .if2 .taken)
+returns c = sym (same-headers _ _ _ _ (c .before .if1 .taken) (c .if2 .taken))
 
 returns-2 : tie.Need-returns-2
 returns-2 c = other-set _ _ _ _ (c .if2 .left)

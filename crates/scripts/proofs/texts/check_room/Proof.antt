@@ -1,6 +1,6 @@
 -- `texts::check_room` meets its contract: each test is the definition's, and twice a table's size is small. Assumes nothing.
 use borrow.Author.Needs.{needs}
-use Rattle.scripts.proofs.Rooms.{double-fits, sheet-short, script-short, workspace-short, values-short, room-done}
+use Rattle.scripts.proofs.Rooms.{double-fits, sheet-short, script-short, workspace-short, values-short, all-enough}
 use Rattle.scripts.proofs.texts.check_room.Statement.{statement}
 use Rattle.scripts.proofs.texts.check_room.Tie as tie
 
@@ -29,7 +29,7 @@ returns-4 c = let i = c .before in let e = i .before in let z = e .before .befor
 
 returns-5 : tie.Need-returns-5
 returns-5 c = let i = c .before in let e = i .before in let z = e .before .before in
-    room-done _ _ _ _ _ _ (z .before .pre) (z .size .ensures) (e .before .if1 .left) (e .if2 .left) (i .if3 .left) (c .if4 .left)
+    all-enough _ _ _ _ _ _ (z .before .pre) (z .size .ensures) (e .before .if1 .left) (e .if2 .left) (i .if3 .left) (c .if4 .left)
 
 pub check-room-spec : {M : Type 1} → statement M
 check-room-spec =

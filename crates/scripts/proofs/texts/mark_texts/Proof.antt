@@ -8,9 +8,9 @@ use lib.Seq.{length-take-le}
 use borrow.Author.Needs.{needs}
 use Rattle.places.specs.Numbering.{blockStart}
 use Rattle.tables.specs.declared.reply.Reply.the-variants.{Done}
+use Rattle.tables.proofs.Sizes.{size-known}
 use Rattle.reading.specs.Meaning.{Passes}
 use Rattle.scripts.specs.Marking.{roomChecks, headersReply}
-use Rattle.scripts.proofs.Rooms.{sized}
 use Rattle.scripts.proofs.Promised.{BothPass, both-range, sheet-fill, script-fill}
 use Rattle.scripts.proofs.Endings.{sheet-ends, script-ends, both-pass, room-ends, headers-end, marking-ends}
 use Rattle.scripts.proofs.texts.mark_texts.Statement.{statement}
@@ -157,7 +157,7 @@ sheet-front : (c : tie.After-size) → let f = c .before .before .before .before
 sheet-front c =
     let f = c .before .before .before .before .before in
     let e = f .before .before in
-    let p = sized _ _ (both-range _ _ _ _ _ _ _ _ _ _ (passes (scriptKnown (roomKnown e)))) (c .size .ensures) in
+    let p = size-known _ _ (both-range _ _ _ _ _ _ _ _ _ _ (passes (scriptKnown (roomKnown e))) .1) (c .size .ensures) in
     let h = sheet-room e .1 in
     let k = f .fill .kept .1 .1 .1 .1 .0 in
     omega arith
@@ -167,7 +167,7 @@ script-front : (c : tie.After-size) → let f = c .before .before in c .size .re
 script-front c =
     let f = c .before .before in
     let e = f .before .before .before .before .before in
-    let p = sized _ _ (both-range _ _ _ _ _ _ _ _ _ _ (passes (scriptKnown (roomKnown e)))) (c .size .ensures) in
+    let p = size-known _ _ (both-range _ _ _ _ _ _ _ _ _ _ (passes (scriptKnown (roomKnown e))) .1) (c .size .ensures) in
     let h = script-room e .1 in
     let k = f .fill2 .kept .1 .1 .1 .1 .0 in
     omega arith

@@ -1,10 +1,10 @@
--- `mark::without_sheet` meets its contract: the decision on the script in the workspace, then the values. Assumes nothing.
+-- `mark::unsatisfiable_sheet` meets its contract: the decision on the script in the workspace, then the values. Assumes nothing.
 use borrow.Author.Needs.{needs}
 use Rattle.keys.proofs.Promised.{decided-layered}
 use Rattle.marking.proofs.Opposed.{script-fitting}
 use Rattle.marking.proofs.Promised.{one-table, without-equal, without-loose}
-use Rattle.marking.proofs.mark.without_sheet.Statement.{statement}
-use Rattle.marking.proofs.mark.without_sheet.Tie as tie
+use Rattle.marking.proofs.mark.unsatisfiable_sheet.Statement.{statement}
+use Rattle.marking.proofs.mark.unsatisfiable_sheet.Tie as tie
 
 decide-requires : tie.Need-decide-requires
 decide-requires c κs =
@@ -43,8 +43,8 @@ returns-2 c =
     let p = d .before .before .pre in
     without-loose _ _ _ _ _ _ _ _ _ (p .0) (p .1) (rw (o .if1 .left) at (d .decide .ensures)) (f .fill .ensures) (c .trivial .ensures)
 
-pub without-sheet-spec : {M : Type 1} → statement M
-without-sheet-spec =
+pub unsatisfiable-sheet-spec : {M : Type 1} → statement M
+unsatisfiable-sheet-spec =
     tie.close
     (tie.spec
     decide-requires

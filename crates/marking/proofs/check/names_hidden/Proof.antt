@@ -1,9 +1,9 @@
--- `check::is_naming` meets its contract: the literals' quantities are looked up in the set, one after the other. Assumes nothing.
+-- `check::names_hidden` meets its contract: the literals' quantities are looked up in the set, one after the other. Assumes nothing.
 use mathlib.Core.Path.{sym}
 use borrow.Author.Needs.{needs}
 use Rattle.marking.specs.Marking.{namesHidden}
-use Rattle.marking.proofs.check.is_naming.Statement.{statement}
-use Rattle.marking.proofs.check.is_naming.Tie as tie
+use Rattle.marking.proofs.check.names_hidden.Statement.{statement}
+use Rattle.marking.proofs.check.names_hidden.Tie as tie
 
 enum-known-rule : tie.Need-enum-known-rule
 enum-known-rule c = search needs
@@ -51,8 +51,8 @@ returns-4 : tie.Need-returns-4
 unfolding namesHidden
 returns-4 c = rw (c .enum-told .given .1)
 
-pub is-naming-spec : {M : Type 1} → statement M
-is-naming-spec =
+pub names-hidden-spec : {M : Type 1} → statement M
+names-hidden-spec =
     tie.close
     (tie.spec
     enum-known-rule

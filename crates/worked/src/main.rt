@@ -1,6 +1,8 @@
-// Runs worked examples of the sources: rules are put into a table and printed, then the reply to the key call, then the key. The stored output is
-// written from the sources' own numbers.
+// Runs the numbering of terms, then worked examples of the sources: rules are put into a table and printed, then the reply to the key call, then the key. The
+// stored output is written from the sources' own numbers.
 mod meets;
+mod numbering;
+mod printing;
 mod scope;
 mod sheet;
 mod slides;
@@ -14,6 +16,7 @@ fn run(table: &mut [i64]) {
 }
 
 fn main() {
+    numbering::run();
     let mut table = [0; sheet::PLACES];
     run(&mut table);
 }

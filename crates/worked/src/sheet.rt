@@ -1,4 +1,5 @@
 // The steps of an example: a heading, an empty table, rules put in, the key.
+use crate::printing;
 use rules::rule::Rule;
 use rules::sheet::Sheet;
 

@@ -1,4 +1,5 @@
 // Prints the numbering of terms for three quantities, from place to term and back, and the halvings of document 01.
+use crate::printing;
 use places::Place;
 use rules::rule::Rule;
 
@@ -25,7 +26,8 @@ fn print_half(c: i64) {
     printing::print_text(b"\n");
 }
 
-fn main() {
+// All of these.
+pub(crate) fn run() {
     printing::print_text(b"place term place\n");
     let mut place: u32 = 0;
     while place < 18 {

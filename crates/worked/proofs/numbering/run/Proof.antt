@@ -1,8 +1,8 @@
--- `numbering::main` is safe and ends: the loop's measure is the places left. Assumes nothing.
+-- `numbering::run` is safe and ends: the loop's measure is the places left. Assumes nothing.
 use Prim.Native.Nat.{_-_, _≤_}
 use borrow.Author.Needs.{needs}
-use Rattle.numbering.proofs.main.Statement.{statement}
-use Rattle.numbering.proofs.main.Tie as tie
+use Rattle.worked.proofs.numbering.run.Statement.{statement}
+use Rattle.worked.proofs.numbering.run.Tie as tie
 
 abbrev Inv-loop : tie.InvT-loop
 Inv-loop place₀ place = place ≤ 18
@@ -46,8 +46,8 @@ print-half-requires-4 c κs = search needs
 returns : tie.Need-returns Inv-loop μ-loop
 returns c = search needs
 
-pub main-spec : {M : Type 1} → statement M
-main-spec =
+pub run-spec : {M : Type 1} → statement M
+run-spec =
     tie.close
     (tie.spec
     Inv-loop

@@ -81,7 +81,7 @@ uint32_t acornsled_assignment(size_t n, const int64_t *table, size_t table_lengt
 /*
  * Marks a script against a sheet, both as texts: 100, 101 or 102, or the refusal's number alone, 1, 2, 3, 4 or 7. The sheet
  * is read first, then the script, then the two are held against each other. Nothing but the texts is lent and nothing is
- * changed; the call takes some 66 KiB of the stack.
+ * changed; the call takes some 68 KiB of the stack.
  */
 uint32_t acornsled_mark(const uint8_t *sheet, size_t sheet_length, const uint8_t *script, size_t script_length);
 

@@ -1,0 +1,131 @@
+/*
+ * How much of the stack each call takes. A call is made on a thread of its own, whose stack is filled with one byte
+ * beforehand, on papers of 32 quantities with a rule at every place that they may have; the bytes that have changed are
+ * counted, the thread's own beginning included. Prints a line for each call, and first one for a thread that calls nothing.
+ */
+#define _POSIX_C_SOURCE 200809L
+
+#include "acornsled.h"
+
+#include <pthread.h>
+#include <stdio.h>
+#include <stdlib.h>
+#include <string.h>
+
+#define N ACORNSLED_MOST_QUANTITIES
+#define WORDS (2 * N * N)
+#define STACK (1 << 20)
+#define FILLED 0xA5
+
+static uint8_t stack[STACK] __attribute__((aligned(4096)));
+static int64_t table[WORDS], workspace[WORDS], values[N];
+static char sheet[ACORNSLED_MOST_BYTES], script[ACORNSLED_MOST_BYTES];
+static uint8_t out[67703];
+static size_t sheet_length, script_length, quantities, value;
+static uint32_t hidden, answer;
+
+static void *call_nothing(void *unused)
+{
+    return unused;
+}
+
+static void *call_read(void *unused)
+{
+    answer = acornsled_read((uint8_t *)sheet, sheet_length, table, WORDS, &quantities, &hidden, &value);
+    return unused;
+}
+
+static void *call_write(void *unused)
+{
+    answer = acornsled_write(N, hidden, table, WORDS, out, sizeof out, &value);
+    return unused;
+}
+
+static void *call_assignment(void *unused)
+{
+    answer = acornsled_assignment(N, table, WORDS, workspace, WORDS, values, N, &value);
+    return unused;
+}
+
+static void *call_key(void *unused)
+{
+    answer = acornsled_key(N, hidden, table, WORDS, workspace, WORDS, &value);
+    return unused;
+}
+
+static void *call_mark(void *unused)
+{
+    answer = acornsled_mark((uint8_t *)sheet, sheet_length, (uint8_t *)script, script_length);
+    return unused;
+}
+
+/* The bytes of the stack that a thread with this call changes. */
+static size_t taken(void *(*call)(void *))
+{
+    pthread_attr_t attributes;
+    pthread_t thread;
+    memset(stack, FILLED, STACK);
+    if (pthread_attr_init(&attributes) != 0 || pthread_attr_setstack(&attributes, stack, STACK) != 0 ||
+        pthread_create(&thread, &attributes, call, NULL) != 0 || pthread_join(thread, NULL) != 0) {
+        fputs("stack: no thread\n", stderr);
+        exit(2);
+    }
+    pthread_attr_destroy(&attributes);
+    size_t untouched = 0;
+    while (untouched < STACK && stack[untouched] == FILLED) {
+        untouched++;
+    }
+    return STACK - untouched;
+}
+
+/* Writes the rules of one paper, of every `step`-th quantity, and answers their end; counts them. */
+static char *rules_of(char *at, int step, int bound, int *count)
+{
+    for (int q = step; q <= N; q += step) {
+        at += sprintf(at, "rule=+%d:%d\nrule=-%d:%d\n", q, bound, q, bound);
+        *count += 2;
+        for (int p = step; p < q; p += step) {
+            at += sprintf(at, "rule=+%d+%d:%d\nrule=+%d-%d:%d\n", p, q, bound, p, q, bound);
+            at += sprintf(at, "rule=-%d+%d:%d\nrule=-%d-%d:%d\n", p, q, bound, p, q, bound);
+            *count += 4;
+        }
+    }
+    return at;
+}
+
+/* Writes a paper on which the odd quantities are hidden; answers its length. */
+static size_t paper(char *text, int step, int bound)
+{
+    static char rules[ACORNSLED_MOST_BYTES];
+    int count = 0;
+    *rules_of(rules, step, bound, &count) = '\0';
+    char *at = text + sprintf(text, "quantities=%d\nhidden=1", N);
+    for (int q = 3; q <= N; q += 2) {
+        at += sprintf(at, ",%d", q);
+    }
+    return (size_t)(at + sprintf(at, "\nrules=%d\n%s", count, rules) - text);
+}
+
+/* Makes the call and prints what it took; its answer must be the one that is due, for a refusal takes less. */
+static void measure(const char *name, void *(*call)(void *), uint32_t due)
+{
+    size_t bytes = taken(call);
+    if (answer != due) {
+        fprintf(stderr, "stack: %s answered %u\n", name, (unsigned)answer);
+        exit(1);
+    }
+    printf("stack: %s took %zu bytes\n", name, bytes);
+}
+
+int main(void)
+{
+    sheet_length = paper(sheet, 1, 1000);
+    script_length = paper(script, 2, 999);
+    measure("a thread alone", call_nothing, ACORNSLED_DONE);
+    measure("acornsled_read", call_read, ACORNSLED_DONE);
+    measure("acornsled_write", call_write, ACORNSLED_DONE);
+    measure("acornsled_assignment", call_assignment, ACORNSLED_DONE);
+    measure("acornsled_key", call_key, ACORNSLED_DONE);
+    measure("acornsled_mark", call_mark, ACORNSLED_TIGHT);
+    return 0;
+}

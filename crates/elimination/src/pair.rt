@@ -16,6 +16,15 @@ ghost use Rattle.elimination.specs.Promises.{Addable, Ready, Row, TwosPa
 // The words of a row: one for each literal.
 const ROW: usize = 2 * Sheet::MAX_QUANTITIES;
 
+// Puts the sums in at the place `at` of two literals, given the bounds of each with the quantity and + and with it and -.
+fn pair_two(table: &mut [i64], at: usize, plus_x: i64, minus_x: i64, plus_y: i64, minus_y: i64)
+    requires { ⌜ (at < length (now table)) × Addable «plus_x» × Addable «minus_x» × Addable «plus_y» × Addable «minus_y» ⌝ }
+    ensures { λ _. ⌜ now (table .exit) ≡ set (now (table .entry)) at (withSum «plus_x» «minus_y» (withSum «minus_x» «plus_y» (wordAt (now (table .entry)) at))) ⌝ }
+{
+    let w = table[at];
+    table[at] = word::with_sum(plus_x, minus_y, word::with_sum(minus_x, plus_y, w));
+}
+
 // Puts the sums in at the terms of quantity `b + 1` with each lower quantity past the first `from`.
 fn pair_twos(table: &mut [i64], b: usize, from: usize, plus: &[i64], minus: &[i64])
     requires { ⌜ (b < maxQuantities) × (from ≤ b) × (blockStart (suc b) ≤ length (now table)) × Row (suc b) (now plus) × Row (suc b) (now minus) ⌝ }
@@ -31,10 +40,8 @@ fn pair_twos(table: &mut [i64], b: usize, from: usize, plus: &[i64], minus: &[i6
     while x < y {
         let plus_x = plus[x];
         let minus_x = minus[x];
-        let v = table[at];
-        table[at] = word::with_sum(plus_x, minus_y, word::with_sum(minus_x, plus_y, v));
-        let w = table[at + 1];
-        table[at + 1] = word::with_sum(plus_x, minus_not_y, word::with_sum(minus_x, plus_not_y, w));
+        pair_two(table, at, plus_x, minus_x, plus_y, minus_y);
+        pair_two(table, at + 1, plus_x, minus_x, plus_not_y, minus_not_y);
         at = at + 2;
         x = x + 1;
     }
@@ -83,7 +90,7 @@ fn pair_block(table: &mut [i64], b: usize, from: usize, plus: &[i64], minus: &[i
     pair_places(table, b, from, plus, minus, p, m);
 }
 
-// Puts the sums in, block after block.
+// Puts in, at the places of quantities past the first `from`, every sum of the rows `plus` and `minus` and of the bounds `p` and `m`, block after block.
 pub fn pair_blocks(
     n: usize,
     table: &mut [i64],

@@ -1,4 +1,4 @@
-// The operations on a bound that is a signed 64-bit word. Each answers for every pair of words.
+// The operations on a bound that is a signed 64-bit word. Each answers for every word or pair of words.
 ghost use mathlib.Core.Path.{_≡_};
 ghost use lib.IntN.{natAbs, _+ℤ_};
 ghost use Rattle.integers.specs.Bound.{half, oppositeBound, smaller, saturated, totalOf};

@@ -1,5 +1,5 @@
 -- What the contracts promise, from the definitions: a text checked, and a text read into a table, which then holds what the text writes. Assumes nothing.
-use mathlib.Core.Path.{_≡_, refl, sym, subst, subst₂}
+use mathlib.Core.Path.{_≡_, refl, sym, _∙_, ap, subst, subst₂}
 use mathlib.Core.List.{List, [], _++_}
 use mathlib.Core.Logic.{_↔_}
 use Prim.Native.Nat.{ℕ, _<_}
@@ -11,9 +11,9 @@ use Rattle.places.specs.Numbering.{blockStart}
 use Rattle.rules.specs.declared.refusal.Refusal.{Refusal}
 use Rattle.rules.specs.Limits.{maxBound}
 use Rattle.rules.specs.Meaning.{Assignment}
-use Rattle.tables.specs.Tables.{tableOf}
+use Rattle.tables.specs.Tables.{tableOf, smallestAt}
 use Rattle.tables.specs.Meaning.{Satisfies, MeetsAll}
-use Rattle.tables.proofs.Lists.{tableOf-length, tableOf-meaning}
+use Rattle.tables.proofs.Lists.{tableOf-length, tableOf-meaning, tableOf-smallest}
 use Rattle.lines.specs.Spelling.{writtenRules}
 use Rattle.lines.specs.Lines.{accepted}
 use Rattle.reading.specs.declared.read.Reading.{Reading}
@@ -27,12 +27,16 @@ use Rattle.reading.proofs.FineRules.{all-accepted}
 use Rattle.reading.proofs.Replies.{reading-refused, reading-accepted}
 use Rattle.reading.proofs.Numbers.{returns-refused, refused-returns, returns-accepted, accepted-returns, zero-accepted}
 
+-- a word of the front
+front-word : (n : ℕ) (a v : List ℤ) → length a ≡ blockStart n → (k : ℕ) → k < blockStart n → wordAt (a ++ v) k ≡ wordAt a k
+front-word n a v e k h = List·getD-append a v (pos 0) k (omega arith)
+
 -- words past the table of n quantities do not matter
 front-satisfied : (n : ℕ) (a v : List ℤ) (σ : Assignment) → length a ≡ blockStart n → Satisfies n (a ++ v) σ ↔ Satisfies n a σ
 front-satisfied n a v σ e = (to, of)
   where
     same : (k : ℕ) → k < blockStart n → wordAt (a ++ v) k ≡ wordAt a k
-    same k h = List·getD-append a v (pos 0) k (omega arith)
+    same = front-word n a v e
 
     to : Satisfies n (a ++ v) σ → Satisfies n a σ
     to s = record {
@@ -89,6 +93,14 @@ module _ (s : List ℕ) (t : List ℤ) where
       let m = tableOf-meaning (c .count) rs σ (all-accepted (c .count) (c .written) (p .fine .1 .1 .1)) in
       rw (h .table) (λ z. m .0 (f .0 z), λ z. f .1 (m .1 z))
 
+  reading-smallest : (n set : ℕ) → readReply s (length t) ≡ Accepted n set → (c : Contents) → Spells maxBound s c
+      → (k : ℕ) → k < blockStart (c .count) → wordAt (readTable s t) k ≡ smallestAt k (writtenRules (c .written))
+  reading-smallest n set e c p k l =
+      let rs = writtenRules (c .written) in
+      ap (λ (u : List ℤ). wordAt u k) (held n set e c p .table)
+      ∙ front-word (c .count) (tableOf (c .count) rs) (drop (blockStart (c .count)) t) (tableOf-length (c .count) rs) k l
+      ∙ tableOf-smallest (c .count) rs k l
+
   -- the table stays where the number is not 0
   kept : (readingNumber (readReply s (length t)) ≡ 0 → ⊥) → readTable s t ≡ t
   kept h = go (readReply s (length t)) refl h
@@ -107,6 +119,7 @@ module _ (s : List ℕ) (t : List ℤ) where
     accepted = λ n set. let w = reading-accepted s (length t) n set in
         (λ z. w .0 (returns-accepted (readReply s (length t)) n set z), λ z. accepted-returns (readReply s (length t)) n set (w .1 z));
     filled = λ z c p. let a = zero-accepted (readReply s (length t)) z in held (a .count) (a .set) (a .is) c p .table;
+    smallest = λ z. let a = zero-accepted (readReply s (length t)) z in reading-smallest (a .count) (a .set) (a .is);
     meaning = λ z. let a = zero-accepted (readReply s (length t)) z in reading-meaning (a .count) (a .set) (a .is);
     kept = kept;
   })

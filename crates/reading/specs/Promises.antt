@@ -2,16 +2,17 @@
 use mathlib.Core.Path.{_≡_}
 use mathlib.Core.Logic.{_↔_}
 use mathlib.Core.List.{List, [], _∷_, _++_}
-use Prim.Native.Nat.{ℕ}
+use Prim.Native.Nat.{ℕ, _<_}
 use lib.IntN.{ℤ}
 use lib.ListN.{length, drop}
+use Rattle.words.specs.Change.{wordAt}
 use Rattle.places.specs.Numbering.{blockStart}
 use Rattle.rules.specs.declared.refusal.Refusal.{Refusal}
 use Rattle.rules.specs.Hidden.{setOf}
 use Rattle.rules.specs.Limits.{maxBound}
 use Rattle.rules.specs.Refusal.{refusalNumber, refusalValues}
 use Rattle.rules.specs.Meaning.{Assignment}
-use Rattle.tables.specs.Tables.{tableOf}
+use Rattle.tables.specs.Tables.{tableOf, smallestAt}
 use Rattle.tables.specs.Meaning.{Satisfies, MeetsAll}
 use Rattle.lines.specs.Spelling.{writtenRules}
 use Rattle.reading.specs.declared.check.Checked.{Checked}
@@ -38,6 +39,9 @@ pub record ReadInto (s : List ℕ) (table : List ℤ) (r : Reading) (table' : Li
   -- the table of a text that is accepted is that of the rules it writes, put in; words past it stay, and on a refusal all do
   pub filled : readingNumber r ≡ 0 → (c : Contents) → Spells maxBound s c
       → table' ≡ tableOf (c .count) (writtenRules (c .written)) ++ drop (blockStart (c .count)) table
+  -- so each place holds the smallest bound that rules of the text have there, in whatever order they stand
+  pub smallest : readingNumber r ≡ 0 → (c : Contents) → Spells maxBound s c
+      → (k : ℕ) → k < blockStart (c .count) → wordAt table' k ≡ smallestAt k (writtenRules (c .written))
   pub meaning : readingNumber r ≡ 0 → (c : Contents) → Spells maxBound s c
       → (σ : Assignment) → Satisfies (c .count) table' σ ↔ MeetsAll σ (writtenRules (c .written))
   pub kept : (readingNumber r ≡ 0 → ⊥) → table' ≡ table

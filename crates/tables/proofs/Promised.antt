@@ -22,8 +22,9 @@ use Rattle.tables.specs.declared.reply.Reply.the-variants.{Done, Refused
 use Rattle.tables.specs.Places.{ruleAt}
 use Rattle.tables.specs.Tables.{tableSize, emptyTable, serves, hasRule, ruleReply, putReply, putHalved, putRule, clearReply, cleared}
 use Rattle.tables.specs.Meaning.{Satisfies}
+use Rattle.rules.proofs.Refusals.{refusal-number}
 use Rattle.tables.specs.Promises.{Emptied, Put, Cleared, AtPlace}
-use Rattle.tables.proofs.Tests.{refused-done, clash}
+use Rattle.tables.proofs.Tests.{clash}
 use Rattle.tables.proofs.Sizes.{serves-tells}
 use Rattle.tables.proofs.Places.{ruleAt-bound, ruleAt-found, ruleAt-hasPlace}
 use Rattle.tables.proofs.Putting.{accepted-put}
@@ -32,7 +33,7 @@ use Rattle.tables.proofs.Without.{cleared-meaning}
 -- ---- emptied
 
 pub emptied-refused : (n : ℕ) (t : List ℤ) → serves n (length t) ≡ false → Emptied n t (Refused Size) t
-emptied-refused n t e = record { reply = rw e; table = refl; meaning = λ d. absurd (refused-done d) }
+emptied-refused n t e = record { reply = rw e; table = refl; meaning = λ d. absurd (refusal-number Size d) }
 
 -- the empty table in front asks nothing, whatever follows it
 no-rules : (n : ℕ) (v : List ℤ) (σ : Assignment) → Satisfies n (emptyTable n ++ v) σ
@@ -55,11 +56,11 @@ emptied-done n t u e f = record { reply = rw e; table = filled; meaning = λ d �
 
 pub put-refused-size : (n : ℕ) (r : Rule) (t : List ℤ) → serves n (length t) ≡ false → Put n r t (Refused Size) t
 unfolding putReply
-put-refused-size n r t e = record { reply = rw e; table = refl; meaning = λ d. absurd (refused-done d) }
+put-refused-size n r t e = record { reply = rw e; table = refl; meaning = λ d. absurd (refusal-number Size d) }
 
 pub put-refused : (n : ℕ) (r : Rule) (t : List ℤ) (a : Reply) (f : Refusal) → serves n (length t) ≡ true → a ≡ ruleReply n (halvedOf r) → a ≡ Refused f → Put n r t a t
 unfolding putReply
-put-refused n r t a f e q d = record { reply = rw (e, q); table = rw d; meaning = λ g. absurd (refused-done (sym d ∙ g)) }
+put-refused n r t a f e q d = record { reply = rw (e, q); table = rw d; meaning = λ g. absurd (refusal-number f (rw d at g)) }
 
 pub put-done : (n : ℕ) (r h : Rule) (t u : List ℤ) → serves n (length t) ≡ true → Done ≡ ruleReply n (halvedOf r) → h ≡ halvedOf r → u ≡ putHalved t h → Put n r t Done u
 unfolding putReply putRule
@@ -76,12 +77,12 @@ put-done n r h t u e q d f = record {
 
 pub cleared-refused-size : (n q : ℕ) (t : List ℤ) → serves n (length t) ≡ false → Cleared n q t (Refused Size) t
 unfolding clearReply
-cleared-refused-size n q t e = record { reply = rw e; table = refl; meaning = λ d. absurd (refused-done d) }
+cleared-refused-size n q t e = record { reply = rw e; table = refl; meaning = λ d. absurd (refusal-number Size d) }
 
 pub cleared-refused-limit : (n q : ℕ) (t : List ℤ) → serves n (length t) ≡ true → (q < 1) ⊎ (n < q) → Cleared n q t (Refused (OutOfLimit 0)) t
 unfolding clearReply
-cleared-refused-limit n q t e (inl h) = record { reply = rw (e, lt-leb 1 q h); table = refl; meaning = λ d. absurd (refused-done d) }
-cleared-refused-limit n q t e (inr h) = record { reply = rw (e, le-leb 1 q (omega arith), lt-leb q n h); table = refl; meaning = λ d. absurd (refused-done d) }
+cleared-refused-limit n q t e (inl h) = record { reply = rw (e, lt-leb 1 q h); table = refl; meaning = λ d. absurd (refusal-number (OutOfLimit 0) d) }
+cleared-refused-limit n q t e (inr h) = record { reply = rw (e, le-leb 1 q (omega arith), lt-leb q n h); table = refl; meaning = λ d. absurd (refusal-number (OutOfLimit 0) d) }
 
 pub cleared-done : (n q : ℕ) (t u : List ℤ) → serves n (length t) ≡ true → 1 ≤ q → q ≤ n → u ≡ cleared n q t → Cleared n q t Done u
 unfolding clearReply

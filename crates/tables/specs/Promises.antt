@@ -14,26 +14,26 @@ use Rattle.rules.specs.Meaning.{Assignment, Meets, boundOf}
 use Rattle.tables.specs.Places.{ruleAt, findPlace, HasPlace}
 use Rattle.tables.specs.declared.reply.Reply.{Reply}
 use Rattle.tables.specs.declared.reply.Reply.the-variants.{Done, Refused}
-use Rattle.tables.specs.Tables.{emptyTable, serves, isDone, putReply, putRule, clearReply, cleared, wordsInLimit}
+use Rattle.tables.specs.Tables.{emptyTable, serves, isDone, replyNumber, putReply, putRule, clearReply, cleared, wordsInLimit}
 use Rattle.tables.specs.Meaning.{Satisfies, SatisfiesWithout, WordsWithin}
 
 -- no rules: the first 2n² words are the empty table's, and every assignment satisfies it
 pub record Emptied (n : ℕ) (before : List ℤ) (r : Reply) (after : List ℤ) : Type 0 where
   pub reply : r ≡ cond (serves n (length before)) Done (Refused Size)
   pub table : after ≡ cond (isDone r) (emptyTable n ++ drop (blockStart n) before) before
-  pub meaning : r ≡ Done → (σ : Assignment) → Satisfies n after σ
+  pub meaning : replyNumber r ≡ 0 → (σ : Assignment) → Satisfies n after σ
 
 -- a rule put in: satisfied exactly by what satisfied the table before and meets the rule
 pub record Put (n : ℕ) (rule : Rule) (before : List ℤ) (r : Reply) (after : List ℤ) : Type 0 where
   pub reply : r ≡ putReply n (length before) rule
   pub table : after ≡ cond (isDone r) (putRule before rule) before
-  pub meaning : r ≡ Done → (σ : Assignment) → Satisfies n after σ ↔ (Satisfies n before σ × Meets σ rule)
+  pub meaning : replyNumber r ≡ 0 → (σ : Assignment) → Satisfies n after σ ↔ (Satisfies n before σ × Meets σ rule)
 
 -- every place that names quantity q cleared: satisfied exactly by what meets the rules before that do not name it
 pub record Cleared (n q : ℕ) (before : List ℤ) (r : Reply) (after : List ℤ) : Type 0 where
   pub reply : r ≡ clearReply n (length before) q
   pub table : after ≡ cond (isDone r) (cleared n q before) before
-  pub meaning : r ≡ Done → (σ : Assignment) → Satisfies n after σ ↔ SatisfiesWithout q n before σ
+  pub meaning : replyNumber r ≡ 0 → (σ : Assignment) → Satisfies n after σ ↔ SatisfiesWithout q n before σ
 
 -- the answer whether words are in a limit
 pub record InLimit (m : ℕ) (B : ℤ) (t : List ℤ) (r : Bool) : Type 0 where

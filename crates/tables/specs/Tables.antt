@@ -7,6 +7,7 @@ use lib.Dec.{leb, ltb, eqb}
 use lib.IntN.{ℤ, pos, negℤ}
 use lib.ListN.{replicate, getD}
 use lib.Signed.{ltZ, leZ}
+use Rattle.integers.specs.Bound.{smaller}
 use Rattle.words.specs.Change.{change, lowered}
 use Rattle.places.specs.declared.Place.{Place}
 use Rattle.places.specs.declared.Place.the-variants.{At, Nowhere}
@@ -83,6 +84,16 @@ AllAccepted n (r ∷ rs) = (ruleReply n (halvedOf r) ≡ Done) × AllAccepted n 
 -- the empty table with a list of rules put in
 abbrev pub tableOf : ℕ → List Rule → List ℤ
 tableOf n rs = putAll (emptyTable n) rs
+
+-- is a place the k-th?
+abbrev pub isAt : ℕ → Place → Bool
+isAt k (At j) = eqb k j
+isAt k Nowhere = false
+
+-- the smallest bound that rules of a list have at a place, a doubled term halved; the no-rule word where none has that place
+unfoldable pub smallestAt : ℕ → List Rule → ℤ
+smallestAt k [] = noRule
+smallestAt k (r ∷ rs) = cond (isAt k (findPlace (halvedOf r))) (smaller (boundOf (halvedOf r)) (smallestAt k rs)) (smallestAt k rs)
 
 -- as a change: the no-rule word at each place that names quantity q
 abbrev pub clearing : ℕ → ℕ → ℤ → ℤ

@@ -1,12 +1,10 @@
 -- `pair::pair_twos` meets its contract. The loop's invariant: the sums are put in at the places before `at`, which is that of the literal x. The
 -- measure is the literals left. Assumes nothing.
-use mathlib.Core.Path.{_≡_, refl, _∙_, ap}
+use mathlib.Core.Path.{_≡_, refl, _∙_}
 use Prim.Native.Nat.{suc, _+_, _-_, _*_, _≤_, _<_}
 use native.Mathlib.Omega.{arith}
 use lib.IntN.{ℤ}
-use lib.ListN.{length, set, length-set}
-use mir.Syntax.{w64}
-use mir.Val.{toZ, ofZ}
+use lib.ListN.{length, set}
 use denote.Ref.{now}
 use Rattle.integers.proofs.Parts.{held-value}
 use Rattle.words.specs.Change.{wordAt, change, startingAt}
@@ -106,122 +104,71 @@ inside : (c : tie.In-loop Inv-loop μ-loop) → let l = c .before in let s = l .
 inside c = let l = c .before in let s = l .before .before .before .before .before in
     omega (arith, blockStart-suc (s .args .b), small-start (suc (s .args .b)) (omega arith))
 
-mul-v : tie.Need-mul-v Inv-loop μ-loop
-mul-v c = let i = inside (c .before .before) in omega arith
-
-slice-copy-out-v : tie.Need-slice-copy-out-v Inv-loop μ-loop
-slice-copy-out-v c = let i = inside (c .before .before) in omega arith
-
-with-sum-requires : tie.Need-with-sum-requires Inv-loop μ-loop
-with-sum-requires c κs =
-    let l = c .before .before .before .before in
-    let y = l .before .before .before .before in
-    let s = y .before in (
-      row-held (suc (s .args .b)) (now (s .args .minus)) (l .loop .x) (s .pre .4) (omega arith) (c .before .minus-x .given),
-      row-held (suc (s .args .b)) (now (s .args .plus)) (2 * s .args .b) (s .pre .3) (omega arith) (y .plus-y .given),
-    )
-
-with-sum-requires-2 : tie.Need-with-sum-requires-2 Inv-loop μ-loop
-with-sum-requires-2 c κs =
-    let l = c .before .before .before .before .before in
+pair-two-requires : tie.Need-pair-two-requires Inv-loop μ-loop
+pair-two-requires c κs =
+    let x = c .before in
+    let l = x .before .before .before in
     let y = l .before .before .before in
     let s = y .before .before in (
-      row-held (suc (s .args .b)) (now (s .args .plus)) (l .loop .x) (s .pre .3) (omega arith) (c .before .before .before .plus-x .given),
+      let i = inside (x .before .before) in omega arith,
+      row-held (suc (s .args .b)) (now (s .args .plus)) (l .loop .x) (s .pre .3) (omega arith) (x .before .plus-x .given),
+      row-held (suc (s .args .b)) (now (s .args .minus)) (l .loop .x) (s .pre .4) (omega arith) (x .minus-x .given),
+      row-held (suc (s .args .b)) (now (s .args .plus)) (2 * s .args .b) (s .pre .3) (omega arith) (y .before .plus-y .given),
       row-held (suc (s .args .b)) (now (s .args .minus)) (2 * s .args .b) (s .pre .4) (omega arith) (y .minus-y .given),
     )
 
-mul-w : tie.Need-mul-w Inv-loop μ-loop
-mul-w c = let i = inside (c .before .before .before .before .before) in omega arith
+add-pair-two : tie.Need-add-pair-two Inv-loop μ-loop
+add-pair-two c = let i = inside (c .before .before .before .before .before .before) in omega arith
 
-slice-set-from-w : tie.Need-slice-set-from-w Inv-loop μ-loop
-slice-set-from-w c = let i = inside (c .before .before .before .before .before) in omega arith
-
-add-w : tie.Need-add-w Inv-loop μ-loop
-add-w c = let i = inside (c .before .before .before .before .before) in omega arith
-
-mul-w-2 : tie.Need-mul-w-2 Inv-loop μ-loop
-mul-w-2 c = let i = inside (c .before .before .before .before .before) in omega arith
-
-slice-copy-out-w : tie.Need-slice-copy-out-w Inv-loop μ-loop
-slice-copy-out-w c = let i = inside (c .before .before .before .before .before) in rw (length-set) (i .0)
-
-with-sum-requires-3 : tie.Need-with-sum-requires-3 Inv-loop μ-loop
-with-sum-requires-3 c κs =
-    let x = c .before .before .before .before in
+pair-two-requires-2 : tie.Need-pair-two-requires-2 Inv-loop μ-loop
+pair-two-requires-2 c κs =
+    let o = c .before .before in
+    let x = o .before .before in
     let l = x .before .before .before in
-    let y = l .before .before in
-    let s = y .before .before .before in (
-      row-held (suc (s .args .b)) (now (s .args .minus)) (l .loop .x) (s .pre .4) (omega arith) (x .minus-x .given),
-      row-held (suc (s .args .b)) (now (s .args .plus)) (2 * s .args .b + 1) (s .pre .3) (omega arith) (y .plus-not-y .given),
-    )
-
-with-sum-requires-4 : tie.Need-with-sum-requires-4 Inv-loop μ-loop
-with-sum-requires-4 c κs =
-    let x = c .before .before .before .before .before .before in
-    let l = x .before .before in
     let y = l .before in
     let s = y .before .before .before .before in (
-      row-held (suc (s .args .b)) (now (s .args .plus)) (l .loop .x) (s .pre .3) (omega arith) (x .plus-x .given),
+      let i = inside (x .before .before) in let k = o .pair-two .kept .0 in omega arith,
+      row-held (suc (s .args .b)) (now (s .args .plus)) (l .loop .x) (s .pre .3) (omega arith) (x .before .plus-x .given),
+      row-held (suc (s .args .b)) (now (s .args .minus)) (l .loop .x) (s .pre .4) (omega arith) (x .minus-x .given),
+      row-held (suc (s .args .b)) (now (s .args .plus)) (2 * s .args .b + 1) (s .pre .3) (omega arith) (y .before .plus-not-y .given),
       row-held (suc (s .args .b)) (now (s .args .minus)) (2 * s .args .b + 1) (s .pre .4) (omega arith) (y .minus-not-y .given),
     )
 
--- the words written are those of the definition
-first : (c : tie.After-with-sum2 Inv-loop μ-loop) → let l = c .before .before .before .before .before .before in let s = l .before .before .before .before .before in
-    toZ w64 (ofZ w64 (c .with-sum2 .result))
-    ≡ onTwo (wordAt (now (s .args .plus))) (wordAt (now (s .args .minus))) (l .loop .x) (2 * s .args .b) (wordAt (l .loop .table) (l .loop .at))
+-- what both calls put in is that of the definition
+first : (c : tie.After-pair-two Inv-loop μ-loop) → let l = c .before .before .before .before .before in let s = l .before .before .before .before .before in
+    c .pair-two .last .0 ≡ set (l .loop .table) (l .loop .at)
+    (onTwo (wordAt (now (s .args .plus))) (wordAt (now (s .args .minus))) (l .loop .x) (2 * s .args .b) (wordAt (l .loop .table) (l .loop .at)))
 unfolding onTwo
 first c =
-    let v = c .before .before in
-    let l = v .before .before .before .before in
+    let x = c .before .before in
+    let l = x .before .before .before in
     let y = l .before .before .before in
     let s = y .before .before in
     rw (
-      held-value {z = c .with-sum2 .result} (c .with-sum2 .ok),
-      c .with-sum2 .ensures,
-      held-value {z = c .before .with-sum .result} (c .before .with-sum .ok),
-      c .before .with-sum .ensures,
-      held-value {z = wordAt (now (s .args .plus)) (l .loop .x)} (v .before .before .plus-x .given),
-      held-value {z = wordAt (now (s .args .minus)) (l .loop .x)} (v .before .minus-x .given),
+      held-value {z = wordAt (now (s .args .plus)) (l .loop .x)} (x .before .plus-x .given),
+      held-value {z = wordAt (now (s .args .minus)) (l .loop .x)} (x .minus-x .given),
       held-value {z = wordAt (now (s .args .plus)) (2 * s .args .b)} (y .before .plus-y .given),
       held-value {z = wordAt (now (s .args .minus)) (2 * s .args .b)} (y .minus-y .given),
-      held-value {z = wordAt (l .loop .table) (l .loop .at)} (v .v .given),
-    )
+    ) at (c .pair-two .ensures)
 
-second : (c : tie.After-with-sum4 Inv-loop μ-loop)
-    → let u = c .before .before .before in
-    let l = u .before .before .before .before .before .before in
+second : (c : tie.After-pair-two2 Inv-loop μ-loop)
+    → let o = c .before .before .before in
+    let l = o .before .before .before .before .before in
     let s = l .before .before .before .before .before in
-    toZ w64 (ofZ w64 (c .with-sum4 .result))
-    ≡ onTwo (wordAt (now (s .args .plus))) (wordAt (now (s .args .minus))) (l .loop .x) (2 * s .args .b + 1)
-    (wordAt (set (l .loop .table) (l .loop .at) (toZ w64 (ofZ w64 (u .with-sum2 .result)))) (l .loop .at + 1))
+    c .pair-two2 .last .0 ≡ set (o .pair-two .last .0) (l .loop .at + 1)
+    (onTwo (wordAt (now (s .args .plus))) (wordAt (now (s .args .minus))) (l .loop .x) (2 * s .args .b + 1) (wordAt (o .pair-two .last .0) (l .loop .at + 1)))
 unfolding onTwo
 second c =
-    let w = c .before .before in
-    let u = w .before in
-    let v = u .before .before in
-    let l = v .before .before .before .before in
+    let x = c .before .before .before .before .before in
+    let l = x .before .before .before in
     let y = l .before in
     let s = y .before .before .before .before in
     rw (
-      held-value {z = c .with-sum4 .result} (c .with-sum4 .ok),
-      c .with-sum4 .ensures,
-      held-value {z = c .before .with-sum3 .result} (c .before .with-sum3 .ok),
-      c .before .with-sum3 .ensures,
-      held-value {z = wordAt (now (s .args .plus)) (l .loop .x)} (v .before .before .plus-x .given),
-      held-value {z = wordAt (now (s .args .minus)) (l .loop .x)} (v .before .minus-x .given),
+      held-value {z = wordAt (now (s .args .plus)) (l .loop .x)} (x .before .plus-x .given),
+      held-value {z = wordAt (now (s .args .minus)) (l .loop .x)} (x .minus-x .given),
       held-value {z = wordAt (now (s .args .plus)) (2 * s .args .b + 1)} (y .before .plus-not-y .given),
       held-value {z = wordAt (now (s .args .minus)) (2 * s .args .b + 1)} (y .minus-not-y .given),
-      held-value {z = wordAt (set (l .loop .table) (l .loop .at) (toZ w64 (ofZ w64 (u .with-sum2 .result)))) (l .loop .at + 1)} (w .w .given),
-    )
-
-add-t34 : tie.Need-add-t34 Inv-loop μ-loop
-add-t34 c = let i = inside (c .before .before .before .before .before .before .before .before) in omega arith
-
-mul-t27 : tie.Need-mul-t27 Inv-loop μ-loop
-mul-t27 c = let i = inside (c .before .before .before .before .before .before .before .before) in omega arith
-
-slice-set-from-table : tie.Need-slice-set-from-table Inv-loop μ-loop
-slice-set-from-table c = let i = inside (c .before .before .before .before .before .before .before .before) in rw (length-set) (i .0)
+    ) at (c .pair-two2 .ensures)
 
 add-at-3 : tie.Need-add-at-3 Inv-loop μ-loop
 add-at-3 c = let i = inside (c .before .before .before .before .before .before .before .before) in omega arith
@@ -234,18 +181,18 @@ loop-less c = omega arith
 
 loop-again : tie.Need-loop-again Inv-loop μ-loop
 loop-again c =
-    let k = c .before .before .before .before .before .before .before .before in
+    let d = c .before in
+    let o = d .before .before .before in
+    let k = o .before .before .before .before in
     let l = k .before .loop in
-    let s = k .before .before .before .before .before .before in
-    let u = c .before .before .before in (
+    let s = k .before .before .before .before .before .before in (
       omega arith,
       omega arith,
       omega arith,
-      rw (length-set, length-set) (l .inv .3),
-      λ p m. rw (second c)
-          (twos-more (s .args .from) (wordAt (now (s .args .plus))) (wordAt (now (s .args .minus))) p m (s .args .b) (l .x) (l .at) (now (s .args .table)) (l .table)
-          (set (l .table) (l .at) (toZ w64 (ofZ w64 (u .with-sum2 .result))))
-          (l .inv .0) (omega arith) (l .inv .2) (inside k .2) (l .inv .4 p m) (ap (λ (z : ℤ). set (l .table) (l .at) z) (first u))),
+      d .pair-two2 .kept .0 ∙ o .pair-two .kept .0 ∙ l .inv .3,
+      λ p m. second d
+          ∙ twos-more (s .args .from) (wordAt (now (s .args .plus))) (wordAt (now (s .args .minus))) p m (s .args .b) (l .x) (l .at) (now (s .args .table)) (l .table)
+          (o .pair-two .last .0) (l .inv .0) (omega arith) (l .inv .2) (inside k .2) (l .inv .4 p m) (first o),
     )
 
 same-length : tie.Need-same-length Inv-loop μ-loop
@@ -286,20 +233,9 @@ pair-twos-spec =
     shared-slice-copy-out-plus-x
     mul-minus-x
     shared-slice-copy-out-minus-x
-    mul-v
-    slice-copy-out-v
-    with-sum-requires
-    with-sum-requires-2
-    mul-w
-    slice-set-from-w
-    add-w
-    mul-w-2
-    slice-copy-out-w
-    with-sum-requires-3
-    with-sum-requires-4
-    add-t34
-    mul-t27
-    slice-set-from-table
+    pair-two-requires
+    add-pair-two
+    pair-two-requires-2
     add-at-3
     add-x
     loop-less

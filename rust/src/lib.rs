@@ -10,6 +10,9 @@
 //!
 //! What a script is worth is decided by the same two ways as a sheet's meaning, and no key is made for it (`marking`); it
 //! is held against the tightest tables of both papers in ordinary Rust (`plain_mark`).
+//!
+//! Beside the judge stand what the hosts share (`held`), the host of a sitting (`sitting`), and the trial of wrong programs
+//! on the crates' proofs (`wrong`).
 
 pub mod brute;
 pub mod calls;
@@ -19,6 +22,7 @@ pub mod damage;
 pub mod document;
 pub mod due;
 pub mod graph;
+pub mod held;
 pub mod lent;
 pub mod library;
 pub mod marking;
@@ -30,8 +34,10 @@ pub mod plain_text;
 pub mod random;
 pub mod run;
 pub mod sheets;
+pub mod sitting;
 #[cfg(feature = "plain")]
 mod stand_in;
 pub mod state;
 pub mod sys;
 pub mod text;
+pub mod wrong;

@@ -25,9 +25,7 @@ pub fn key(n: usize, hidden: u32, table: &mut [i64], workspace: &mut [i64]) -> R
     if !step::eliminate(n, workspace) {
         return NO_ASSIGNMENT;
     }
-    for k in (0..n).filter(|k| (hidden >> k) & 1 == 1) {
-        step::hide(n, table, k);
-    }
+    step::hide(n, table, (0..n).filter(|k| (hidden >> k) & 1 == 1));
     DONE
 }
 

@@ -2,44 +2,48 @@
 //! `plain_text` and both tables tightened once as in `plain`; a verdict is then a comparison of the words that name no
 //! hidden quantity. No key is made.
 
-use crate::library::{Header, Marker, DONE, EQUAL, LOOSE, MISMATCH, TIGHT};
-use crate::meaning::{size, MOST_QUANTITIES, NO_RULE};
+use crate::library::{Header, Marker, Reply, EQUAL, LOOSE, MISMATCH, TIGHT};
+use crate::meaning::NO_RULE;
 use crate::plain::tight::tighten;
-use crate::plain_text;
+use crate::plain_text::parser::Parser;
 
-/// A text's header and its table.
+/// What a text says, its rules in a table that is just large enough.
 struct Paper {
     header: Header,
-    table: [i64; size(MOST_QUANTITIES)],
+    table: Vec<i64>,
 }
 
 /// The number of the verdict, or of the first refusal.
 pub fn mark(sheet: &[u8], script: &[u8]) -> u32 {
-    let mut papers = [Paper::UNREAD; 2];
-    for (paper, text) in papers.iter_mut().zip([sheet, script]) {
-        let reply = plain_text::read(text, &mut paper.table, &mut paper.header);
-        if reply != DONE {
-            return reply.number;
-        }
-    }
-    let [sheet, script] = &mut papers;
+    verdict(sheet, script).unwrap_or_else(|refusal| refusal.number)
+}
+
+/// The number where both texts are read.
+fn verdict(sheet: &[u8], script: &[u8]) -> Result<u32, Reply> {
+    let mut sheet = Paper::read(sheet)?;
+    let mut script = Paper::read(script)?;
     if sheet.header != script.header || script.names_hidden() {
-        return MISMATCH;
+        return Ok(MISMATCH);
     }
     let n = sheet.header.quantities;
-    match (tighten(n, &mut sheet.table), tighten(n, &mut script.table)) {
+    Ok(match (tighten(n, &mut sheet.table), tighten(n, &mut script.table)) {
         (false, false) => EQUAL,
         (false, true) => LOOSE,
         (true, false) => TIGHT,
-        (true, true) if script.exceeds(sheet) => LOOSE,
-        (true, true) if sheet.exceeds(script) => TIGHT,
+        (true, true) if script.exceeds(&sheet) => LOOSE,
+        (true, true) if sheet.exceeds(&script) => TIGHT,
         (true, true) => EQUAL,
-    }
+    })
 }
 
 impl Paper {
-    const UNREAD: Paper =
-        Paper { header: Header { quantities: 0, hidden: 0 }, table: [NO_RULE; size(MOST_QUANTITIES)] };
+    /// The text read into a table of its own, or its refusal.
+    fn read(text: &[u8]) -> Result<Paper, Reply> {
+        let said = Parser::sheet(text)?;
+        let mut table = vec![NO_RULE; 2 * said.n * said.n];
+        said.put(&mut table);
+        Ok(Paper { header: Header { quantities: said.n, hidden: said.hidden }, table })
+    }
 
     fn names_hidden(&self) -> bool {
         self.places().any(|(place, visible)| !visible && self.table[place] != NO_RULE)

@@ -1,7 +1,7 @@
 //! The two calls on texts in ordinary Rust: what the library's times are measured against. It is written for its speed
 //! and shares nothing with `text`, so that a slip in one shows against the other.
 
-mod parser;
+pub(crate) mod parser;
 mod place;
 mod printer;
 
@@ -20,9 +20,7 @@ pub fn read(text: &[u8], table: &mut [i64], header: &mut Header) -> Reply {
         return too_short(words);
     }
     table[..words].fill(NO_RULE);
-    for (place, bound) in sheet.rules {
-        table[place] = table[place].min(bound);
-    }
+    sheet.put(table);
     *header = Header { quantities: sheet.n, hidden: sheet.hidden };
     DONE
 }

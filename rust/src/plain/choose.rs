@@ -6,8 +6,9 @@ use crate::meaning::NO_RULE;
 /// Chooses from the last quantity to the first. The rules on each that were there at its turn name later quantities only,
 /// and their sums have left room; the integer nearest to 0 keeps all of them in range.
 pub fn values(n: usize, table: &[i64], values: &mut [i64]) {
+    let mut rows = Rows::EMPTY;
     for k in (0..n).rev() {
-        let rows = Rows::gather(n, table, k, k + 1);
+        rows.gather(n, table, k, k + 1);
         let (low, high) = room(n, &rows, k, values);
         values[k] = 0.clamp(low, high);
     }

@@ -15,31 +15,35 @@ pub struct Rows {
 }
 
 impl Rows {
-    /// The rules on k alone or with a quantity from `first` on.
-    pub fn gather(n: usize, table: &[i64], k: usize, first: usize) -> Rows {
+    /// Rows of no quantity. They are made once for many eliminations, whose work then grows with n alone.
+    pub const EMPTY: Rows = Rows {
+        plus: [NO_RULE; 2 * MOST_QUANTITIES],
+        minus: [NO_RULE; 2 * MOST_QUANTITIES],
+        plus_alone: NO_RULE,
+        minus_alone: NO_RULE,
+    };
+
+    /// Gathers the rules on k alone or with a quantity from `first` on; what is at the literals of others is left.
+    pub fn gather(&mut self, n: usize, table: &[i64], k: usize, first: usize) {
         let own = &table[2 * k * k..2 * (k + 1) * (k + 1)];
-        let mut rows = Rows {
-            plus: [NO_RULE; 2 * MOST_QUANTITIES],
-            minus: [NO_RULE; 2 * MOST_QUANTITIES],
-            plus_alone: own[0],
-            minus_alone: own[1],
-        };
+        (self.plus_alone, self.minus_alone) = (own[0], own[1]);
         for (x, pair) in own[2..].chunks_exact(2).enumerate().skip(2 * first) {
-            rows.plus[x] = pair[0];
-            rows.minus[x] = pair[1];
+            self.plus[x] = pair[0];
+            self.minus[x] = pair[1];
         }
+        self.plus[2 * k..2 * k + 2].fill(NO_RULE);
+        self.minus[2 * k..2 * k + 2].fill(NO_RULE);
         for r in first.max(k + 1)..n {
             let four = &table[2 * r * r + 2 + 4 * k..][..4];
-            rows.plus[2 * r..2 * r + 2].copy_from_slice(&four[..2]);
-            rows.minus[2 * r..2 * r + 2].copy_from_slice(&four[2..]);
+            self.plus[2 * r..2 * r + 2].copy_from_slice(&four[..2]);
+            self.minus[2 * r..2 * r + 2].copy_from_slice(&four[2..]);
         }
-        rows
     }
 
-    /// Is a bare 0 <= c with c below 0 among the sums?
-    pub fn contradict(&self) -> bool {
-        let cancelled = (0..self.plus.len()).map(|x| sum(self.plus[x], self.minus[x ^ 1]));
-        sum(self.plus_alone, self.minus_alone) < 0 || cancelled.min() < Some(0)
+    /// Is a bare 0 <= c with c below 0 among the sums of what was gathered?
+    pub fn contradict(&self, n: usize, first: usize) -> bool {
+        let cancelled = (2 * first..2 * n).map(|x| sum(self.plus[x], self.minus[x ^ 1]));
+        sum(self.plus_alone, self.minus_alone) < 0 || cancelled.min().is_some_and(|least| least < 0)
     }
 
     /// Puts every sum in that lands in a place of quantities from `first` on. Places that name the quantity itself keep
@@ -79,9 +83,10 @@ impl Rows {
 /// Takes all quantities away in increasing number and leaves the rules on each as they stand at its turn; false at the
 /// first contradiction.
 pub fn eliminate(n: usize, table: &mut [i64]) -> bool {
+    let mut rows = Rows::EMPTY;
     (0..n).all(|k| {
-        let rows = Rows::gather(n, table, k, k + 1);
-        let possible = !rows.contradict();
+        rows.gather(n, table, k, k + 1);
+        let possible = !rows.contradict(n, k + 1);
         if possible {
             rows.add(n, table, k + 1);
         }
@@ -89,12 +94,16 @@ pub fn eliminate(n: usize, table: &mut [i64]) -> bool {
     })
 }
 
-/// Hides quantity k: its sums go in, then its places are emptied.
-pub fn hide(n: usize, table: &mut [i64], k: usize) {
-    Rows::gather(n, table, k, 0).add(n, table, 0);
-    table[2 * k * k..2 * (k + 1) * (k + 1)].fill(NO_RULE);
-    for r in k + 1..n {
-        table[2 * r * r + 2 + 4 * k..][..4].fill(NO_RULE);
+/// Hides each of these quantities in turn: its sums go in, then its places are emptied.
+pub fn hide(n: usize, table: &mut [i64], hidden: impl Iterator<Item = usize>) {
+    let mut rows = Rows::EMPTY;
+    for k in hidden {
+        rows.gather(n, table, k, 0);
+        rows.add(n, table, 0);
+        table[2 * k * k..2 * (k + 1) * (k + 1)].fill(NO_RULE);
+        for r in k + 1..n {
+            table[2 * r * r + 2 + 4 * k..][..4].fill(NO_RULE);
+        }
     }
 }
 

@@ -7,9 +7,10 @@ use crate::meaning::MOST_QUANTITIES;
 /// their own bounds; false at the first contradiction. A pairing at most doubles the largest magnitude, and so does the
 /// end: from a sheet's limits all sums fit.
 pub fn tighten(n: usize, table: &mut [i64]) -> bool {
+    let mut rows = Rows::EMPTY;
     for k in 0..n {
-        let rows = Rows::gather(n, table, k, 0);
-        if rows.contradict() {
+        rows.gather(n, table, k, 0);
+        if rows.contradict(n, 0) {
             return false;
         }
         rows.add(n, table, 0);

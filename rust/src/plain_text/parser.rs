@@ -18,6 +18,15 @@ pub struct Parsed {
     pub rules: Vec<(usize, i64)>,
 }
 
+impl Parsed {
+    /// Puts the rules into a table, which keeps the smaller bound of each place.
+    pub fn put(&self, table: &mut [i64]) {
+        for &(place, bound) in &self.rules {
+            table[place] = table[place].min(bound);
+        }
+    }
+}
+
 impl Parser<'_> {
     pub fn sheet(text: &[u8]) -> Result<Parsed, Reply> {
         if text.len() > MOST_BYTES {

@@ -16,7 +16,11 @@ use Rattle.elimination.specs.Promises.{Addable}
 pub sum-fits : (a b : ℤ) → Addable a → Addable b → hasRule a ≡ true → hasRule b ≡ true → SFits w64 (a +ℤ b)
 sum-fits a b h k p q = sum-word {A = 4611686018427387903} {B = 4611686018427387903} (omega arith) (h p) (k q)
 
--- a word that is addable is so read back from its bits
+-- the test of a word read back from its bits is that of the word,
+pub held-rule : {w : ℤ} {b : Bool} → SFits w64 w → hasRule (toZ w64 (ofZ w64 w)) ≡ b → hasRule w ≡ b
+held-rule f e = rw (word-value f) at e
+
+-- and it is addable where the word is
 pub adds-held : (w : ℤ) → SFits w64 w → Addable w → Addable (toZ w64 (ofZ w64 w))
 adds-held w f h = rw (word-value f) h
 

@@ -1,5 +1,6 @@
 -- Hiding one quantity is exact over the integers: the table after it is satisfied exactly where some integer for the quantity satisfies the table
--- before. The same of pairing alone, upwards through the quantities, for finding an assignment. Assumes nothing.
+-- before. Pairing alone changes nothing of what satisfies the table; upwards through the quantities it is exact too, for finding an assignment.
+-- Assumes nothing.
 use mathlib.Core.Path.{_≡_, refl, sym, _∙_}
 use mathlib.Core.Bool.{Bool, true, false}
 use mathlib.Core.List.{List}
@@ -7,15 +8,14 @@ use mathlib.Core.Logic.{_↔_, Iff·trans, _⊎_, inl, inr}
 use Prim.Native.Nat.{ℕ, suc, _+_, _-_, _*_, _/_, _≤_, _<_}
 use native.Mathlib.Omega.{arith}
 use lib.Dec.{eqb, ltb}
-use lib.IntN.{ℤ, _+ℤ_}
+use lib.IntN.{ℤ}
 use lib.ListN.{length}
-use lib.Signed.{_≤ℤ_}
 use borrow.Author.Tests.{eqb-true, eqb-false, eq-eqb, ne-eqb, ltb-true, ltb-false}
 use Rattle.words.proofs.Change.{change-length}
 use Rattle.places.specs.Numbering.{blockStart}
 use Rattle.rules.specs.Literal.{quantityOf}
 use Rattle.rules.specs.Meaning.{Assignment, literalValue}
-use Rattle.tables.specs.Tables.{hasRule, clearing, cleared}
+use Rattle.tables.specs.Tables.{clearing, cleared}
 use Rattle.tables.specs.Meaning.{Satisfies, joined, SheetAllows}
 use Rattle.tables.proofs.Tests.{clash}
 use Rattle.tables.proofs.Without.{cleared-meaning}
@@ -23,9 +23,9 @@ use Rattle.elimination.specs.Hiding.{pairWord, loneWord, paired, contrad
 use Rattle.elimination.specs.Choosing.{chosen}
 use Rattle.elimination.proofs.Projection.{own-sums, sums-own}
 use Rattle.elimination.specs.Magnitude.{Past}
-use Rattle.elimination.proofs.TermWords.{pair-sym, pair-apart}
+use Rattle.elimination.proofs.TermWords.{pair-apart}
 use Rattle.elimination.proofs.Terms.{TermsMet, Others, OwnOf, satisfies-met, without-met, met-some, sums-some, met-own, met-join, literal-agree, met-agree, own-agree, sums-agree}
-use Rattle.elimination.proofs.Step.{SumsOf, Adds, paired-length, pair-early, lone-early, step-lower, step-met, step-clear, step-sums}
+use Rattle.elimination.proofs.Step.{SumsOf, Adds, paired-length, step-lower, step-met, step-clear, step-sums}
 
 -- ---- literals
 
@@ -100,6 +100,24 @@ sums-keep In s i j t σ τ has range same value sums =
     m : ℤ
     m = loneWord t (2 * j + 1)
 
+-- ---- pairing alone
+
+-- what satisfies a table satisfies it with the sums of a quantity put in, and no bare sum is a contradiction
+pub paired-kept : (from n j : ℕ) (t : List ℤ) (σ : Assignment) → blockStart n ≤ length t → j < n → Satisfies n t σ
+    → Satisfies n (paired from n j t) σ × (contradicts from n j t ≡ false)
+paired-kept from n j t σ l h s =
+    let met = satisfies-met n t σ l .0 s in (
+      satisfies-met n (paired from n j t) σ (rw (paired-length from n j t) l) .1
+          (step-met from n j t (Past 0 n) σ l (λ x i. i .1) met (met-sums (Past 0 n) n j t σ h (λ x i. i) met)),
+      step-clear from n j t σ (met-sums (Others from n j) n j t σ h (λ x i. (omega arith, i .1)) met),
+    )
+
+-- and what satisfies it with the sums put in satisfied it before
+pub paired-only : (from n j : ℕ) (t : List ℤ) (σ : Assignment) → blockStart n ≤ length t → Satisfies n (paired from n j t) σ → Satisfies n t σ
+paired-only from n j t σ l s =
+    satisfies-met n t σ l .1
+    (step-lower from n j t (Past 0 n) σ l (λ x i. i .1) (satisfies-met n (paired from n j t) σ (rw (paired-length from n j t) l) .0 s))
+
 -- ---- hiding one quantity
 
 -- the table keeps its length
@@ -143,7 +161,7 @@ eliminate-exact n j B t σ a h c = Iff·trans (eliminated-met n j t σ (a .room)
             (joined-own j σ (λ q. v)) (step-sums 0 n j B t σ a h m c)
 
     of : SheetAllows (eqb (suc j)) (Satisfies n t) σ → TermsMet (Others 0 n j) (paired 0 n j t) σ
-    of s = step-met 0 n j t σ (a .room)
+    of s = step-met 0 n j t In σ (a .room) (λ x i. i .1)
         (met-agree In t τ σ same (met-some In (Past 0 n) t τ (λ x i. (i .0, i .1)) met))
         (sums-agree In (literalValue τ) (literalValue σ) (pairWord t (2 * j)) (pairWord t (2 * j + 1)) (loneWord t (2 * j)) (loneWord t (2 * j + 1))
         (λ x i. literal-agree τ σ x (same x i))
@@ -160,8 +178,7 @@ eliminate-exact n j B t σ a h c = Iff·trans (eliminated-met n j t σ (a .room)
 
 -- where one is, nothing satisfied the table
 pub eliminate-none : (n j : ℕ) (t : List ℤ) (σ : Assignment) → blockStart n ≤ length t → j < n → contradicts 0 n j t ≡ true → Satisfies n t σ → ⊥
-eliminate-none n j t σ l h c s =
-    clash c (step-clear 0 n j t σ (met-sums (Others 0 n j) n j t σ h (λ x i. (i .0, i .1)) (satisfies-met n t σ l .0 s)))
+eliminate-none n j t σ l h c s = clash c (paired-kept 0 n j t σ l h s .1)
 
 -- ---- upwards: the sums of quantity j + 1 on the quantities after it alone
 
@@ -172,56 +189,6 @@ upward-room n j B t σ a h c m =
     sums-some (Past (suc j) n) (Others (suc j) n j) (literalValue σ) (pairWord t (2 * j)) (pairWord t (2 * j + 1)) (loneWord t (2 * j)) (loneWord t (2 * j + 1))
     (past-others n j)
     (step-sums (suc j) n j B t σ a h (met-some (Others (suc j) n j) (Past (suc j) n) (paired (suc j) n j t) σ (others-past n j) m) c)
-
--- what satisfies a table satisfies it with the sums put in, and no bare sum is a contradiction
-pub upward-met : (n j : ℕ) (t : List ℤ) (σ : Assignment) → blockStart n ≤ length t → j < n → Satisfies n t σ
-    → Satisfies n (paired (suc j) n j t) σ × (contradicts (suc j) n j t ≡ false)
-upward-met n j t σ l h s =
-    (satisfies-met n u σ (rw (paired-length (suc j) n j t) l) .1 (record { one = one-of; two = two-of }), step-clear (suc j) n j t σ sums)
-  where
-    u : List ℤ
-    u = paired (suc j) n j t
-
-    met : TermsMet (Past 0 n) t σ
-    met = satisfies-met n t σ l .0 s
-
-    sums : SumsOf (Others (suc j) n j) j t σ
-    sums = met-sums (Others (suc j) n j) n j t σ h (λ x i. (omega arith, i .1)) met
-
-    after : TermsMet (Others (suc j) n j) u σ
-    after = step-met (suc j) n j t σ l (met-some (Others (suc j) n j) (Past 0 n) t σ (λ x i. (omega arith, i .1)) met) sums
-
-    late : (x : ℕ) → Past 0 n x → ltb x (2 * suc j) ≡ false → Others (suc j) n j x
-    late x a e = past-others n j x (ltb-false x (2 * suc j) e, a .1)
-
-    one-of : (x : ℕ) → Past 0 n x → hasRule (loneWord u x) ≡ true → literalValue σ x ≤ℤ loneWord u x
-    one-of x a = go (ltb x (2 * suc j)) refl
-      where
-        go : (b : Bool) → ltb x (2 * suc j) ≡ b → hasRule (loneWord u x) ≡ true → literalValue σ x ≤ℤ loneWord u x
-        go true e r =
-            let early = lone-early (suc j) n j t x l (a .1) (ltb-true x (2 * suc j) e) in
-            rw early (met .one x a (rw early at r))
-        go false e r = after .one x (late x a e) r
-
-    two-of : (x y : ℕ) → Past 0 n x → Past 0 n y → hasRule (pairWord u x y) ≡ true → (literalValue σ x +ℤ literalValue σ y) ≤ℤ pairWord u x y
-    two-of x y a b = go (ltb x (2 * suc j)) refl (ltb y (2 * suc j)) refl
-      where
-        kept : pairWord u x y ≡ pairWord t x y → hasRule (pairWord u x y) ≡ true → (literalValue σ x +ℤ literalValue σ y) ≤ℤ pairWord u x y
-        kept early r = rw early (met .two x y a b (rw early at r))
-
-        go : (c : Bool) → ltb x (2 * suc j) ≡ c → (d : Bool) → ltb y (2 * suc j) ≡ d → hasRule (pairWord u x y) ≡ true
-            → (literalValue σ x +ℤ literalValue σ y) ≤ℤ pairWord u x y
-        go true e d f r = kept (pair-early (suc j) n j t x y l (a .1) (b .1) (ltb-true x (2 * suc j) e)) r
-        go false e true f r =
-            kept (pair-sym u x y ∙ pair-early (suc j) n j t y x l (b .1) (a .1) (ltb-true y (2 * suc j) f) ∙ pair-sym t y x) r
-        go false e false f r = after .two x y (late x a e) (late y b f) r
-
--- and what satisfies it with the sums put in satisfied it before
-pub upward-lower : (n j : ℕ) (t : List ℤ) (σ : Assignment) → blockStart n ≤ length t → Satisfies n (paired (suc j) n j t) σ → Satisfies n t σ
-upward-lower n j t σ l s =
-    satisfies-met n t σ l .1
-    (step-lower (suc j) n j t (Past 0 n) σ l (λ x i. i .1)
-    (satisfies-met n (paired (suc j) n j t) σ (rw (paired-length (suc j) n j t) l) .0 s))
 
 -- where the table is met on the quantities after and every sum holds, the chosen integer meets it on the quantity too
 pub upward-choose : (n j : ℕ) (t : List ℤ) (σ : Assignment) → j < n → TermsMet (Past (suc j) n) t σ

@@ -3,7 +3,6 @@
 use mathlib.Core.Path.{_≡_, refl}
 use mathlib.Core.Bool.{Bool, true, false, cond}
 use mathlib.Core.List.{List}
-use mathlib.Core.Logic.{_↔_}
 use Prim.Native.Nat.{ℕ, suc, _+_, _*_, _≤_, _<_}
 use native.Mathlib.Omega.{arith}
 use lib.IntN.{ℤ, pos}
@@ -28,74 +27,46 @@ use Rattle.elimination.proofs.Step.{paired-length}
 
 -- ---- bounds by terms
 
--- every bound of a table on terms whose literals are all In is at most B in magnitude
-pub record TermsWithin (In : ℕ → Type 0) (B : ℕ) (t : List ℤ) : Type 0 where
-  pub one : (x : ℕ) → In x → hasRule (loneWord t x) ≡ true → Within (pos B) (loneWord t x)
-  pub two : (x y : ℕ) → In x → In y → hasRule (pairWord t x y) ≡ true → Within (pos B) (pairWord t x y)
-
--- a limit for some literals is one for fewer, and every larger one is one
-pub terms-mono : {In Out : ℕ → Type 0} {B C : ℕ} {t : List ℤ} → ((x : ℕ) → Out x → In x) → B ≤ C → TermsWithin In B t → TermsWithin Out C t
-terms-mono f l w = record {
-  one = λ x i r. within-mono l (w .one x (f x i) r);
-  two = λ x y i k r. within-mono l (w .two x y (f x i) (f y k) r);
+-- a limit for all words is one for the bounds of a quantity
+pub words-own : (from n j B : ℕ) (t : List ℤ) → blockStart n ≤ length t → j < n → WordsWithin (blockStart n) (pos B) t → OwnWithin (Past from n) j B t
+words-own from n j B t l h w = record {
+  plus = λ x i r. pair-within n (pos B) t (2 * j) x l w (omega arith) (i .1) r;
+  minus = λ x i r. pair-within n (pos B) t (2 * j + 1) x l w (omega arith) (i .1) r;
+  plus-alone = λ r. lone-within n (pos B) t (2 * j) l w (omega arith) r;
+  minus-alone = λ r. lone-within n (pos B) t (2 * j + 1) l w (omega arith) r;
 }
 
--- where it is a limit for the quantity's own literals too, it is one for its bounds
-pub terms-own : {In Out : ℕ → Type 0} {j B : ℕ} {t : List ℤ} → ((x : ℕ) → Out x → In x) → In (2 * j) → In (2 * j + 1) → TermsWithin In B t → OwnWithin Out j B t
-terms-own {In} {Out} {j} f a b w = record {
-  plus = λ x i r. w .two (2 * j) x a (f x i) r;
-  minus = λ x i r. w .two (2 * j + 1) x b (f x i) r;
-  plus-alone = λ r. w .one (2 * j) a r;
-  minus-alone = λ r. w .one (2 * j + 1) b r;
-}
-
--- a limit for all literals of n quantities is one for all words
-pub words-terms : (n B : ℕ) (t : List ℤ) → blockStart n ≤ length t → WordsWithin (blockStart n) (pos B) t ↔ TermsWithin (Past 0 n) B t
-words-terms n B t l = (to, of)
+-- and one for all terms is one for all words
+terms-words : (n B : ℕ) (t : List ℤ) → ((x : ℕ) → Past 0 n x → hasRule (loneWord t x) ≡ true → Within (pos B) (loneWord t x))
+    → ((x y : ℕ) → Past 0 n x → Past 0 n y → hasRule (pairWord t x y) ≡ true → Within (pos B) (pairWord t x y))
+    → WordsWithin (blockStart n) (pos B) t
+terms-words n B t one two = record { each = λ k h g r. go k h (isOne k) refl r }
   where
-    to : WordsWithin (blockStart n) (pos B) t → TermsWithin (Past 0 n) B t
-    to w = record {
-      one = λ x i r. lone-within n (pos B) t x l w (i .1) r;
-      two = λ x y i k r. pair-within n (pos B) t x y l w (i .1) (k .1) r;
-    }
-
-    go : TermsWithin (Past 0 n) B t → (k : ℕ) → k < blockStart n → (b : Bool) → isOne k ≡ b → hasRule (wordAt t k) ≡ true → Within (pos B) (wordAt t k)
-    go w k h true e = rw (lone-at t k e) at (w .one (higherAt k) (omega arith, at-below n k h))
-    go w k h false e =
+    go : (k : ℕ) → k < blockStart n → (b : Bool) → isOne k ≡ b → hasRule (wordAt t k) ≡ true → Within (pos B) (wordAt t k)
+    go k h true e = rw (lone-at t k e) at (one (higherAt k) (omega arith, at-below n k h))
+    go k h false e =
         let g = at-below n k h in
-        rw (pair-at t k e) at (w .two (lowerAt k) (higherAt k) (omega arith, omega (arith, at-lower k e)) (omega arith, g))
-
-    of : TermsWithin (Past 0 n) B t → WordsWithin (blockStart n) (pos B) t
-    of w = record { each = λ k h g r. go w k h (isOne k) refl r }
+        rw (pair-at t k e) at (two (lowerAt k) (higherAt k) (omega arith, omega (arith, at-lower k e)) (omega arith, g))
 
 -- ---- pairing
 
--- bounds after a step are bounds from before it or sums of two of the quantity's own
-pub step-within : (from n j A B C : ℕ) (t : List ℤ) (In : ℕ → Type 0) → blockStart n ≤ length t → ((x : ℕ) → In x → x < 2 * n) → B ≤ C → A + A ≤ C
-    → OwnWithin In j A t → TermsWithin In B t → TermsWithin In C (paired from n j t)
-step-within from n j A B C t In l b p q o w = record {
-  one = λ x i. lone-elim from n j t l (λ (u : ℤ). hasRule u ≡ true → Within (pos C) u) x (b x i) (λ r. within-mono p (w .one x i r))
-      (λ f d e r. within-mono q (within-add (o .plus x i d) (o .minus-alone e)))
-      (λ f d e r. within-mono q (within-add (o .minus x i d) (o .plus-alone e)))
-      (λ f d e r. within-mono q (within-half (within-add (o .plus x i d) (o .minus x i e))));
-  two = λ x y i k. pair-elim from n j t l (λ (u : ℤ). hasRule u ≡ true → Within (pos C) u) x y (b x i) (b y k) (λ r. within-mono p (w .two x y i k r))
-      (λ f g d e r. within-mono q (within-add (o .plus x i d) (o .minus y k e)))
-      (λ f g d e r. within-mono q (within-add (o .plus y k d) (o .minus x i e)));
-}
-
--- so in layers: where the rules of quantity j + 1 with later ones are within A and those of later ones alone within B, these are then within C
-pub upward-within : (n j A B C : ℕ) (t : List ℤ) → blockStart n ≤ length t → B ≤ C → A + A ≤ C
-    → OwnWithin (Past (suc j) n) j A t → TermsWithin (Past (suc j) n) B t → TermsWithin (Past (suc j) n) C (paired (suc j) n j t)
-upward-within n j A B C t l p q o w = step-within (suc j) n j A B C t (Past (suc j) n) l (λ x i. i .1) p q o w
-
--- one step at most doubles the largest magnitude
+-- bounds after a step are bounds from before it or sums of two of the quantity's own, so one step at most doubles the largest magnitude
 pub paired-within : (from n j B : ℕ) (t : List ℤ) → blockStart n ≤ length t → j < n
     → WordsWithin (blockStart n) (pos B) t → WordsWithin (blockStart n) (pos (B + B)) (paired from n j t)
 paired-within from n j B t l h w =
-    let v = words-terms n B t l .0 w in
-    words-terms n (B + B) (paired from n j t) (omega (arith, paired-length from n j t)) .1
-    (step-within from n j B B (B + B) t (Past 0 n) l (λ x i. i .1) (omega arith) (omega arith)
-    (terms-own (λ x i. i) (omega arith, omega arith) (omega arith, omega arith) v) v)
+    terms-words n (B + B) (paired from n j t)
+    (λ x i. lone-elim from n j t l (λ (u : ℤ). hasRule u ≡ true → Within (pos (B + B)) u) x (i .1)
+    (λ r. within-mono (omega arith) (lone-within n (pos B) t x l w (i .1) r))
+    (λ f d e r. within-add (o .plus x i d) (o .minus-alone e))
+    (λ f d e r. within-add (o .minus x i d) (o .plus-alone e))
+    (λ f d e r. within-half (within-add (o .plus x i d) (o .minus x i e))))
+    (λ x y i k. pair-elim from n j t l (λ (u : ℤ). hasRule u ≡ true → Within (pos (B + B)) u) x y (i .1) (k .1)
+    (λ r. within-mono (omega arith) (pair-within n (pos B) t x y l w (i .1) (k .1) r))
+    (λ f g d e r. within-add (o .plus x i d) (o .minus y k e))
+    (λ f g d e r. within-add (o .plus y k d) (o .minus x i e)))
+  where
+    o : OwnWithin (Past 0 n) j B t
+    o = words-own 0 n j B t l h w
 
 -- ---- clearing
 

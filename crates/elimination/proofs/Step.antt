@@ -121,22 +121,23 @@ step-lower from n j t In σ l b m = record {
       (pair-lowered from n j t l x y (b x i) (b y k)) r (m .two x y i k);
 }
 
--- where the sums hold, the step keeps what is met, and no bare sum is a contradiction
-pub step-met : (from n j : ℕ) (t : List ℤ) (σ : Assignment) → blockStart n ≤ length t → TermsMet (Others from n j) t σ
-    → SumsOf (Others from n j) j t σ → TermsMet (Others from n j) (paired from n j t) σ
-step-met from n j t σ l m s = record {
-  one = λ x i. lone-elim from n j t l (λ (w : ℤ). hasRule w ≡ true → literalValue σ x ≤ℤ w) x (i .1) (m .one x i)
+-- where the sums hold, the step keeps what is met
+pub step-met : (from n j : ℕ) (t : List ℤ) (In : ℕ → Type 0) (σ : Assignment) → blockStart n ≤ length t → ((x : ℕ) → In x → x < 2 * n)
+    → TermsMet In t σ → SumsOf In j t σ → TermsMet In (paired from n j t) σ
+step-met from n j t In σ l b m s = record {
+  one = λ x i. lone-elim from n j t l (λ (w : ℤ). hasRule w ≡ true → literalValue σ x ≤ℤ w) x (b x i) (m .one x i)
       (λ a c d r. s .plus-lone x i c d)
       (λ a c d r. s .minus-lone x i c d)
       (λ a c d r. half-order (literalValue σ x) (pairWord t (2 * j) x +ℤ pairWord t (2 * j + 1) x) .1 (s .both x x i i c d));
-  two = λ x y i k. pair-elim from n j t l (λ (w : ℤ). hasRule w ≡ true → (literalValue σ x +ℤ literalValue σ y) ≤ℤ w) x y (i .1) (k .1) (m .two x y i k)
-      (λ a b c d r. s .both x y i k c d)
-      (λ a b c d r. turned (literalValue σ y) (literalValue σ x) (pairWord t (2 * j) y +ℤ pairWord t (2 * j + 1) x) (s .both y x k i c d));
+  two = λ x y i k. pair-elim from n j t l (λ (w : ℤ). hasRule w ≡ true → (literalValue σ x +ℤ literalValue σ y) ≤ℤ w) x y (b x i) (b y k) (m .two x y i k)
+      (λ a e c d r. s .both x y i k c d)
+      (λ a e c d r. turned (literalValue σ y) (literalValue σ x) (pairWord t (2 * j) y +ℤ pairWord t (2 * j + 1) x) (s .both y x k i c d));
 }
   where
     turned : (a b c : ℤ) → (a +ℤ b) ≤ℤ c → (b +ℤ a) ≤ℤ c
     turned a b c h = omega (linear, parts-add a b, parts-add b a)
 
+-- and no bare sum is a contradiction
 pub step-clear : (from n j : ℕ) (t : List ℤ) (σ : Assignment) → SumsOf (Others from n j) j t σ → contradicts from n j t ≡ false
 unfolding contradicts positivePart negativePart
 step-clear from n j t σ s =

@@ -16,43 +16,44 @@ use Rattle.tables.specs.Tables.{tableSize}
 use Rattle.tables.proofs.Tests.{clash}
 use Rattle.tables.proofs.Sizes.{size-whole}
 use Rattle.keys.specs.Keys.{every, refuted}
-use Rattle.keys.specs.Reducing.{reduceUpTo, contradictsUpTo, fillDown, Fits}
-use Rattle.keys.specs.Promises.{Reduced, Decided}
+use Rattle.keys.specs.Reducing.{pairUpTo, clashUpTo, fillDown, Fits}
+use Rattle.keys.specs.Promises.{AllPaired, Decided}
 use Rattle.keys.proofs.Several.{refuted-true, refuted-false}
 use Rattle.keys.proofs.Copying.{SameTable, copied, same-back, same-satisfies, same-fits}
 use Rattle.keys.proofs.Fitting.{hide-ample}
-use Rattle.keys.proofs.Reducing.{reduceUpTo-length, reduce-only, reduce-unsatisfiable}
-use Rattle.keys.proofs.Room.{reduce-closed}
+use Rattle.keys.proofs.Pairing.{pair-room, pair-only, clash-unsatisfiable}
+use Rattle.keys.proofs.Room.{reduced-closed}
 use Rattle.keys.proofs.Filling.{filled-satisfies}
 
 -- where no contradiction is met, the values read back satisfy the table
-pub reduced-satisfies : (n : ℕ) (t values : List ℤ) (f : Fits n t) → n ≤ length values → contradictsUpTo n n t ≡ false
-    → Satisfies n t (assignmentOf (fillDown n (reduceUpTo n n t) n values))
+pub reduced-satisfies : (n : ℕ) (t values : List ℤ) (f : Fits n t) → n ≤ length values → clashUpTo true n n t ≡ false
+    → Satisfies n t (assignmentOf (fillDown n (pairUpTo true n n t) n values))
 reduced-satisfies n t values f h e =
-    reduce-only n n t (assignmentOf (fillDown n (reduceUpTo n n t) n values)) (f .grows .room)
-    (filled-satisfies n (reduceUpTo n n t) values h (omega (arith, reduceUpTo-length n n t, f .grows .room)) (reduce-closed n n t f (omega arith) e))
+    pair-only true n n t (assignmentOf (fillDown n (pairUpTo true n n t) n values)) (f .grows .room)
+    (filled-satisfies n (pairUpTo true n n t) values h (pair-room true n n t (f .grows .room)) (reduced-closed n n t f (omega arith) e))
 
-satisfiable : (n : ℕ) (t : List ℤ) → Fits n t → contradictsUpTo n n t ≡ false → Satisfiable n t
-satisfiable n t f e =
+-- so some integers do
+reduced-satisfiable : (n : ℕ) (t : List ℤ) → Fits n t → clashUpTo true n n t ≡ false → Satisfiable n t
+reduced-satisfiable n t f e =
     let s = reduced-satisfies n t (replicate n (pos 0)) f (omega (arith, length-replicate n (pos 0))) e in record { assignment = _; satisfies = s }
 
--- both decisions are the same, also of a copy of the table
-pub reduced-refuted : (n : ℕ) (t u : List ℤ) → SameTable n t u → Fits n t → contradictsUpTo n n u ≡ refuted n t
-reduced-refuted n t u same f = go (contradictsUpTo n n u) refl (refuted n t) refl
+-- a decision that is true only where no integers satisfy the table, and false only where some do, is document 01's
+pub decides-refuted : (n : ℕ) (t : List ℤ) (b : Bool) → Fits n t → (b ≡ true → Unsatisfiable n t) → (b ≡ false → Satisfiable n t) → b ≡ refuted n t
+decides-refuted n t b f none some = go b refl (refuted n t) refl
   where
-    g : Fits n u
-    g = same-fits n t u same f
-
-    go : (a : Bool) → contradictsUpTo n n u ≡ a → (b : Bool) → refuted n t ≡ b → a ≡ b
+    go : (a : Bool) → b ≡ a → (c : Bool) → refuted n t ≡ c → a ≡ c
     go true d true e = refl
-    go true d false e =
-        let s = refuted-false n t (f .grows .room) (hide-ample every n t f) e in
-        absurd (reduce-unsatisfiable n n u (s .assignment) (omega arith) (g .grows .room) d (same-satisfies n t u (s .assignment) same (s .satisfies)))
-    go false d true e =
-        let s = satisfiable n u g d in
-        absurd (refuted-true n t (hide-ample every n t f) e (s .assignment)
-        (same-satisfies n u t (s .assignment) (same-back n t u same) (s .satisfies)))
+    go true d false e = let s = refuted-false n t (f .grows .room) (hide-ample every n t f) e in absurd (none d (s .assignment) (s .satisfies))
+    go false d true e = let s = some d in absurd (refuted-true n t (hide-ample every n t f) e (s .assignment) (s .satisfies))
     go false d false e = refl
+
+-- so is that of a table reduced, also of a copy of it
+pub reduced-refuted : (n : ℕ) (t u : List ℤ) → SameTable n t u → Fits n t → clashUpTo true n n u ≡ refuted n t
+reduced-refuted n t u same f =
+    decides-refuted n t (clashUpTo true n n u) f
+    (λ d σ s. clash-unsatisfiable true n n u σ (omega arith) (same .theirs) d (same-satisfies n t u σ same s))
+    (λ d. let s = reduced-satisfiable n u (same-fits n t u same f) d in
+    record { assignment = s .assignment; satisfies = same-satisfies n u t (s .assignment) (same-back n t u same) (s .satisfies) })
 
 -- the decision is true exactly when no integers satisfy the table
 pub refuted-exactly : (n : ℕ) (t : List ℤ) → Fits n t → (refuted n t ≡ true) ↔ Unsatisfiable n t
@@ -74,7 +75,7 @@ copy-fits n m t w u f l d e =
 
 -- a copy reduced decides the table
 pub copy-decides : (n m : ℕ) (t w u w' : List ℤ) (r : Bool) → Fits n t → blockStart n ≤ length w → m ≡ tableSize n → u ≡ change m (copying t) w
-    → length w' ≡ length w → Reduced n u r w' → Decided n t w r w'
+    → length w' ≡ length w → AllPaired true n u r w' → Decided n t w r w'
 copy-decides n m t w u w' r f l d e g p = record {
   reply = same;
   meaning = rw same (refuted-exactly n t f);

@@ -23,7 +23,7 @@ use Rattle.elimination.proofs.Growth.{eliminated-within}
 use Rattle.elimination.proofs.Unnamed.{eliminated-unnamed-within, unnamed-eliminated}
 use Rattle.keys.specs.Keys.{hideUpTo, keyOf, hiddenCount, inSheetLimit}
 use Rattle.keys.specs.Reducing.{Grows, Fits}
-use Rattle.keys.proofs.Several.{AmpleUpTo, hideUpTo-length}
+use Rattle.keys.proofs.Several.{Ample, AmpleUpTo, hideUpTo-length}
 
 -- limits that each step raises do not fall
 pub limit-rises : (n : ℕ) (limit reach : ℕ → ℕ) → ((j : ℕ) → j < n → (reach j ≤ limit j) × (limit j + reach j ≤ limit (suc j)))
@@ -37,6 +37,15 @@ limit-rises n limit reach step a (suc b) h g = go (ltb b a) refl (limit-rises n 
 
 pub words-mono : (m B C : ℕ) (t : List ℤ) → B ≤ C → WordsWithin m (pos B) t → WordsWithin m (pos C) t
 words-mono m B C t h w = record { each = λ k a b r. within-mono h (w .each k a b r) }
+
+-- in a table within a limit on the way, bounds add
+pub limit-ample : (n m : ℕ) (t u : List ℤ) (f : Fits n t) → m ≤ n → length u ≡ length t → WordsWithin (blockStart n) (pos (f .limit m)) u → Ample n u
+limit-ample n m t u f h e w = record {
+  room = omega (arith, f .grows .room);
+  words = words-mono (blockStart n) (f .limit m) 4611686018427387903 u
+      (omega (arith, limit-rises n (f .limit) (f .reach) (f .grows .step) m n h (omega arith), f .last)) w;
+  fits = omega arith;
+}
 
 -- a quantity that no rule names stays so
 hide-unnamed : (hidden : ℕ → Bool) (n m i : ℕ) (t : List ℤ) → m ≤ n → blockStart n ≤ length t → Unnamed n i t → Unnamed n i (hideUpTo hidden n m t)
@@ -113,15 +122,13 @@ grows-hide hidden n limit reach t f = record {
     go j h (inl e) = let s = f .step j h in inl (omega (arith, s .1))
     go j h (inr v) = inr v
 
+-- so bounds add at every turn,
 pub hide-ample : (hidden : ℕ → Bool) (n : ℕ) (t : List ℤ) → Fits n t → AmpleUpTo hidden n t
-hide-ample hidden n t f j h = record {
-  room = omega (arith, hideUpTo-length hidden n j t, f .grows .room);
-  words = words-mono (blockStart n) (f .limit j) 4611686018427387903 (hideUpTo hidden n j t)
-      (omega (arith, limit-rises n (f .limit) (f .reach) (f .grows .step) j n (omega arith) (omega arith), f .last))
-      (hide-within hidden n j (f .limit) t (omega arith) (grows-hide hidden n (f .limit) (f .reach) t (f .grows)));
-  fits = omega arith;
-}
+hide-ample hidden n t f j h =
+    limit-ample n j t (hideUpTo hidden n j t) f (omega arith) (hideUpTo-length hidden n j t)
+    (hide-within hidden n j (f .limit) t (omega arith) (grows-hide hidden n (f .limit) (f .reach) t (f .grows)))
 
+-- and the table is ready for the next
 pub hide-ready : (hidden : ℕ → Bool) (n j : ℕ) (t : List ℤ) → Fits n t → j < n → Ready n j (hideUpTo hidden n j t)
 hide-ready hidden n j t f h = let a = hide-ample hidden n t f j h in record { most = f .most; one = h; room = a .room; words = a .words }
 

@@ -1,8 +1,9 @@
--- The laws of keys: several quantities hidden, 'no assignment', sums that fit, values read back; what the calls' proofs share; two sheets of document 01 and the
--- frauds on named sheets.
+-- The laws of keys: several quantities hidden, all paired, 'no assignment', sums that fit, values read back; what the calls' proofs share; two sheets of
+-- document 01 and the frauds on named sheets.
 pub mod Several
 pub mod Fitting
-pub mod Reducing
+pub mod Pairing
+pub mod Growing
 pub mod Layers
 pub mod Room
 pub mod Filling

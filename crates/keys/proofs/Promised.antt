@@ -21,12 +21,12 @@ use Rattle.tables.proofs.Tests.{refused-done, clash}
 use Rattle.tables.specs.Meaning.{assignmentOf}
 use Rattle.elimination.specs.Hiding.{paired, eliminated}
 use Rattle.keys.specs.Keys.{every, hideUpTo, keyOf, refuted, orNoAssignment, keyChecks, keyReply, assignmentChecks, assignmentReply}
-use Rattle.keys.specs.Reducing.{reduceUpTo, fillDown, Fits, Layered}
+use Rattle.keys.specs.Reducing.{pairUpTo, fillDown, Fits, Layered}
 use Rattle.keys.specs.Promises.{Lent, Keyed, Assigned, Decided}
 use Rattle.keys.proofs.Several.{key-exact, key-visible, refuted-false}
 use Rattle.keys.proofs.Fitting.{hide-ample, key-within}
 use Rattle.keys.proofs.Copying.{SameTable, copied, same-back, same-satisfies, same-fits}
-use Rattle.keys.proofs.Layers.{reduce-layered}
+use Rattle.keys.proofs.Layers.{reduced-layered}
 use Rattle.keys.proofs.Filling.{fillDown-length, fillDown-rest, filled-range}
 use Rattle.keys.proofs.Deciding.{reduced-satisfies, reduced-refuted}
 use Rattle.keys.proofs.Checking.{then-passed, then-refused, key-tells, key-told, assignment-tells, assignment-told}
@@ -159,7 +159,7 @@ assignment-none n t w v w' e d = record {
 -- the table that the values are read from
 pub decided-layered : (n : ℕ) (t w w' : List ℤ) (r : Bool) → Fits n t → blockStart n ≤ length w → r ≡ false → Decided n t w r w' → Layered n w'
 decided-layered n t w w' r f l e d =
-    rw (d .words e) (reduce-layered n (change (blockStart n) (copying t) w)
+    rw (d .words e) (reduced-layered n (change (blockStart n) (copying t) w)
     (same-fits n t (change (blockStart n) (copying t) w) (copied n t w (f .grows .room) l) f))
 
 pub assignment-done : (n : ℕ) (t w v w' v' : List ℤ) → assignmentChecks n t (length w) (length v) ≡ Done → Decided n t w false w' → v' ≡ fillDown n w' n v
@@ -170,19 +170,19 @@ assignment-done n t w v w' v' e d k =
     let u : List ℤ = change (blockStart n) (copying t) w in
     let same : SameTable n t u = copied n t w (p .0 .served .room) (p .0 .long) in
     let f : Fits n u = same-fits n t u same (p .2) in
-    let filled : v' ≡ fillDown n (reduceUpTo n n u) n v = k ∙ rw (d .words refl) in
+    let filled : v' ≡ fillDown n (pairUpTo true n n u) n v = k ∙ rw (d .words refl) in
     let s = reduced-satisfies n u v f (p .1) (reduced-refuted n t u same (p .2) ∙ sym (d .reply)) in
     record {
       reply = reply;
       told = assignment-told n (length w) (length v) t _ reply;
       lent = d .lent;
       written = record {
-        size = rw filled (fillDown-length n n (reduceUpTo n n u) v);
-        rest = rw filled (fillDown-rest n n (reduceUpTo n n u) v (omega arith));
+        size = rw filled (fillDown-length n n (pairUpTo true n n u) v);
+        rest = rw filled (fillDown-rest n n (pairUpTo true n n u) v (omega arith));
         kept = λ c. clash refl c;
       };
-      meaning = λ c. rw filled (same-satisfies n u t (assignmentOf (fillDown n (reduceUpTo n n u) n v)) (same-back n t u same) s);
-      range = λ c i h. rw filled (filled-range n (reduceUpTo n n u) v (reduce-layered n u f) (p .1) i h);
+      meaning = λ c. rw filled (same-satisfies n u t (assignmentOf (fillDown n (pairUpTo true n n u) n v)) (same-back n t u same) s);
+      range = λ c i h. rw filled (filled-range n (pairUpTo true n n u) v (reduced-layered n u f) (p .1) i h);
       none = λ c. (λ g. absurd (zero-five g), λ z. absurd (z _ (same-satisfies n u t _ (same-back n t u same) s)));
     }
   where

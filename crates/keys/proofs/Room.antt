@@ -15,9 +15,9 @@ use Rattle.elimination.specs.Magnitude.{Past}
 use Rattle.elimination.proofs.Terms.{TermsMet}
 use Rattle.elimination.proofs.Step.{SumsOf, neither, pair-early, lone-early, step-lower}
 use Rattle.elimination.proofs.Exact.{upward-room}
-use Rattle.keys.specs.Reducing.{reduceUpTo, contradictsUpTo, Fits}
-use Rattle.keys.proofs.Reducing.{room-kept}
-use Rattle.keys.proofs.Layers.{reduce-ample}
+use Rattle.keys.specs.Reducing.{pairUpTo, clashUpTo, Fits}
+use Rattle.keys.proofs.Pairing.{pair-room}
+use Rattle.keys.proofs.Growing.{pair-ample}
 
 -- the sums of each of the first m quantities follow from the rules of later ones
 abbrev pub Closed : ℕ → ℕ → List ℤ → Type 0
@@ -48,18 +48,18 @@ sums-kept n j i t σ l h g s = record {
     minus-alone : loneWord after (2 * i + 1) ≡ loneWord t (2 * i + 1)
     minus-alone = lone-early (suc j) n j t (2 * i + 1) l (omega arith) (omega arith)
 
-pub reduce-closed : (n m : ℕ) (t : List ℤ) (f : Fits n t) → m ≤ n → contradictsUpTo n m t ≡ false → Closed n m (reduceUpTo n m t)
-unfolding reduceUpTo contradictsUpTo
-reduce-closed n zero t f h e = λ i g. let z : ⊥ = omega arith in absurd z
-reduce-closed n (suc j) t f h e =
-    let p = neither (contradictsUpTo n j t) (contradicts (suc j) n j (reduceUpTo n j t)) .0 e in
-    λ i g σ. go (reduce-closed n j t f (omega arith) (p .0)) (p .1) i g σ (ltb i j) refl
+pub reduced-closed : (n m : ℕ) (t : List ℤ) (f : Fits n t) → m ≤ n → clashUpTo true n m t ≡ false → Closed n m (pairUpTo true n m t)
+unfolding pairUpTo clashUpTo
+reduced-closed n zero t f h e = λ i g. let z : ⊥ = omega arith in absurd z
+reduced-closed n (suc j) t f h e =
+    let p = neither (clashUpTo true n j t) (contradicts (suc j) n j (pairUpTo true n j t)) .0 e in
+    λ i g σ. go (reduced-closed n j t f (omega arith) (p .0)) (p .1) i g σ (ltb i j) refl
   where
     u : List ℤ
-    u = reduceUpTo n j t
+    u = pairUpTo true n j t
 
     l : blockStart n ≤ length u
-    l = room-kept n j t (f .grows .room)
+    l = pair-room true n j t (f .grows .room)
 
     go : Closed n j u → contradicts (suc j) n j u ≡ false → (i : ℕ) → i < suc j → (σ : Assignment) → (b : Bool) → ltb i j ≡ b
         → TermsMet (Past (suc i) n) (paired (suc j) n j u) σ → SumsOf (Past (suc i) n) i (paired (suc j) n j u) σ
@@ -69,4 +69,4 @@ reduce-closed n (suc j) t f h e =
     go ih c i g σ false d m =
         let k : i ≡ j = omega (arith, ltb-false i j d) in
         rw k (sums-kept n j j u σ l (omega arith) (omega arith)
-        (upward-room n j 4611686018427387903 u σ (reduce-ample n j t f (omega arith)) (omega arith) c (rw k at m)))
+        (upward-room n j 4611686018427387903 u σ (pair-ample true n j t f (omega arith)) (omega arith) c (rw k at m)))

@@ -18,7 +18,7 @@ use Rattle.tables.specs.Tables.{isDone, replyNumber, replyValues}
 use Rattle.tables.specs.Meaning.{Satisfies, Satisfiable, Unsatisfiable, SheetAllows, NamesVisible, assignmentOf, WordsWithin}
 use Rattle.elimination.specs.Magnitude.{valueLimit}
 use Rattle.keys.specs.Keys.{keyOf, hiddenCount, refuted, keyChecks, keyReply, keyValues, assignmentChecks, assignmentReply, assignmentValues, freesWorkspace}
-use Rattle.keys.specs.Reducing.{reduceUpTo, contradictsUpTo}
+use Rattle.keys.specs.Reducing.{pairUpTo, clashUpTo}
 
 -- a lent slice of which the first m words are the program's choice where `free`, and stay where not; words past them always stay
 pub record Lent (m : ℕ) (free : Bool) (before after : List ℤ) : Type 0 where
@@ -52,15 +52,15 @@ pub record Assigned (n : ℕ) (table workspace values : List ℤ) (r : Reply) (w
   pub range : replyNumber r ≡ 0 → (k : ℕ) → k < n → Within valueLimit (wordAt values' k)
   pub none : assignmentChecks n table (length workspace) (length values) ≡ Done → (replyNumber r ≡ 5) ↔ Unsatisfiable n table
 
--- a table reduced: whether a contradiction is met, and where not, every word; where one is, the table's words are free
-pub record Reduced (n : ℕ) (before : List ℤ) (r : Bool) (after : List ℤ) : Type 0 where
-  pub reply : r ≡ contradictsUpTo n n before
-  pub table : r ≡ false → after ≡ reduceUpTo n n before
+-- all quantities paired: whether a contradiction is met, and where not, every word; where one is, the table's words are free
+pub record AllPaired (later : Bool) (n : ℕ) (before : List ℤ) (r : Bool) (after : List ℤ) : Type 0 where
+  pub reply : r ≡ clashUpTo later n n before
+  pub table : r ≡ false → after ≡ pairUpTo later n n before
   pub lent : Lent (blockStart n) true before after
 
 -- 'no assignment' decided of a table: true exactly when no integers satisfy it. Where some do, the workspace has its copy of the table reduced
 pub record Decided (n : ℕ) (table workspace : List ℤ) (r : Bool) (workspace' : List ℤ) : Type 0 where
   pub reply : r ≡ refuted n table
   pub meaning : (r ≡ true) ↔ Unsatisfiable n table
-  pub words : r ≡ false → workspace' ≡ reduceUpTo n n (change (blockStart n) (copying table) workspace)
+  pub words : r ≡ false → workspace' ≡ pairUpTo true n n (change (blockStart n) (copying table) workspace)
   pub lent : Lent (blockStart n) true workspace workspace'

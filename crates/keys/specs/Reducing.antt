@@ -1,7 +1,7 @@
--- How the program decides 'no assignment' in one table, reads an assignment back, and why its sums fit. Quantity after quantity is paired, of its
--- rules those alone whose other quantity is a later one, and nothing is cleared. So the places of each quantity with later ones stay as they were at
--- its turn.
-use mathlib.Core.Bool.{Bool, false, _||_}
+-- All quantities of a table paired, one after the other, with nothing cleared: how the program decides 'no assignment' in one table, and why its sums fit.
+-- Where `later`, of each quantity's rules those alone take part whose other quantity is a later one: the table is reduced. The places of each quantity
+-- with later ones then stay as they were at its turn, and an assignment is read back from them. Where not, all rules take part, as least bounds need.
+use mathlib.Core.Bool.{Bool, false, cond, _||_}
 use mathlib.Core.Path.{_≡_}
 use mathlib.Core.Logic.{_⊎_}
 use mathlib.Core.List.{List}
@@ -12,18 +12,22 @@ use Rattle.places.specs.Numbering.{blockStart}
 use Rattle.rules.specs.Limits.{maxQuantities}
 use Rattle.tables.specs.Meaning.{WordsWithin}
 use Rattle.elimination.specs.Hiding.{paired, contradicts}
-use Rattle.elimination.specs.Magnitude.{Past, OwnWithin, Unnamed}
+use Rattle.elimination.specs.Magnitude.{addLimit, Past, OwnWithin, Unnamed}
 use Rattle.elimination.specs.Choosing.{choice}
 
--- the first m quantities of n paired, of each the rules with later quantities alone
-unfoldable pub reduceUpTo : ℕ → ℕ → List ℤ → List ℤ
-reduceUpTo n zero t = t
-reduceUpTo n (suc j) t = paired (suc j) n j (reduceUpTo n j t)
+-- quantity j + 1 is paired with the quantities past the first so many
+abbrev pub pairedFrom : Bool → ℕ → ℕ
+pairedFrom later j = cond later (suc j) 0
+
+-- the first m quantities of n paired
+unfoldable pub pairUpTo : Bool → ℕ → ℕ → List ℤ → List ℤ
+pairUpTo later n zero t = t
+pairUpTo later n (suc j) t = paired (pairedFrom later j) n j (pairUpTo later n j t)
 
 -- pairing them meets a contradiction
-unfoldable pub contradictsUpTo : ℕ → ℕ → List ℤ → Bool
-contradictsUpTo n zero t = false
-contradictsUpTo n (suc j) t = contradictsUpTo n j t || contradicts (suc j) n j (reduceUpTo n j t)
+unfoldable pub clashUpTo : Bool → ℕ → ℕ → List ℤ → Bool
+clashUpTo later n zero t = false
+clashUpTo later n (suc j) t = clashUpTo later n j t || contradicts (pairedFrom later j) n j (pairUpTo later n j t)
 
 -- ---- an assignment, read back from a reduced table: values for the quantities of n, the last first
 
@@ -50,10 +54,11 @@ pub record Fits (n : ℕ) (t : List ℤ) : Type 0 where
   pub grows : Grows n limit reach t
   pub last : limit n < 2 ^ 62
 
--- a reduced table: the rules of each quantity are within its reach, and the reaches add up to the limit at the end
+-- a reduced table: its words add, the rules of each quantity are within its reach, and the reaches add up to the limit at the end
 pub record Layered (n : ℕ) (t : List ℤ) : Type 0 where
   pub most : n ≤ maxQuantities
   pub room : blockStart n ≤ length t
+  pub words : WordsWithin (blockStart n) addLimit t
   pub limit : ℕ → ℕ
   pub reach : ℕ → ℕ
   pub own : (j : ℕ) → j < n → OwnWithin (Past (suc j) n) j (reach j) t

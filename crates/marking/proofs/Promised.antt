@@ -29,7 +29,7 @@ use Rattle.tables.proofs.Limits.{wordsInLimit-within}
 use Rattle.tables.proofs.Meanings.{table-allows-visible, script-visible}
 use Rattle.tables.proofs.Tests.{refused-done, clash}
 use Rattle.keys.specs.Keys.{keyOf, refuted, assignmentChecks}
-use Rattle.keys.specs.Reducing.{reduceUpTo, fillDown}
+use Rattle.keys.specs.Reducing.{pairUpTo, fillDown}
 use Rattle.keys.specs.Promises.{Lent, Decided}
 use Rattle.keys.proofs.Copying.{copied, holds-same, same-unnamed}
 use Rattle.keys.proofs.Deciding.{refuted-exactly}
@@ -152,7 +152,7 @@ without-loose n set sheet script w v r w' v' m e d k t =
     u : List ℤ
     u = change (blockStart n) (copying script) w
 
-    zeros : (j : ℕ) → suc j ≤ n → hiddenIn set (suc j) ≡ true → wordAt (fillDown n (reduceUpTo n n u) n v) j ≡ pos 0
+    zeros : (j : ℕ) → suc j ≤ n → hiddenIn set (suc j) ≡ true → wordAt (fillDown n (pairUpTo true n n u) n v) j ≡ pos 0
     zeros j h g =
         let same = copied n script w (m .sized .script-room) (one-table n set sheet script (length w) (length v) m) in
         unnamed-zero n u v j (same .theirs) h (m .values-room)

@@ -30,13 +30,13 @@ use Rattle.tables.proofs.Places.{ruleAt-hasPlace, hasPlace-below}
 use Rattle.tables.proofs.Sizes.{serves-tells, long-serves}
 use Rattle.tables.proofs.Tests.{clash}
 use Rattle.elimination.specs.Magnitude.{Unnamed}
-use Rattle.keys.specs.Reducing.{reduceUpTo, contradictsUpTo, fillDown, Fits, Layered}
-use Rattle.keys.specs.Promises.{Reduced}
+use Rattle.keys.specs.Reducing.{pairUpTo, clashUpTo, fillDown, Fits, Layered}
+use Rattle.keys.specs.Promises.{AllPaired}
 use Rattle.keys.proofs.Copying.{SameTable, copied, same-back, same-unnamed, same-satisfies, same-fits}
 use Rattle.keys.proofs.Deciding.{reduced-satisfies}
 use Rattle.keys.proofs.Filling.{fillDown-length, fillDown-rest, filled-range}
-use Rattle.keys.proofs.Layers.{reduce-layered}
-use Rattle.keys.proofs.Reducing.{reduceUpTo-length, reduce-unsatisfiable}
+use Rattle.keys.proofs.Layers.{reduced-layered}
+use Rattle.keys.proofs.Pairing.{pairUpTo-length, clash-unsatisfiable}
 use Rattle.marking.specs.Promises.{RuleBreakable, RuleBroken}
 use Rattle.marking.proofs.Breakable.{opposed-bound, opposed-satisfies}
 use Rattle.marking.proofs.Puts.{put-lowers, put-unnamed, opposite-hasPlace, opposite-names}
@@ -114,13 +114,13 @@ module _ (n : ℕ) (t : List ℤ) (r : Rule) (w v : List ℤ) (p : RuleBreakable
   satisfied σ = rw (p .is) (opposed-satisfies n t (p .place) (p .bound) (p .room) (p .inside) (p .small) σ)
 
   -- some assignment does, so no contradiction is met
-  clear : contradictsUpTo n n opposed ≡ false
-  clear = go (contradictsUpTo n n opposed) refl
+  clear : clashUpTo true n n opposed ≡ false
+  clear = go (clashUpTo true n n opposed) refl
     where
-      go : (b : Bool) → contradictsUpTo n n opposed ≡ b → b ≡ false
+      go : (b : Bool) → clashUpTo true n n opposed ≡ b → b ≡ false
       go true e =
           let σ = p .breaks .assignment in
-          absurd (reduce-unsatisfiable n n opposed σ (omega arith) (same .theirs) e
+          absurd (clash-unsatisfiable true n n opposed σ (omega arith) (same .theirs) e
           (same-satisfies n (putRule t (oppositeOf r)) opposed σ same (satisfied σ .1 (p .breaks .satisfies, p .breaks .broken))))
       go false e = refl
 
@@ -147,34 +147,34 @@ module _ (n : ℕ) (t : List ℤ) (r : Rule) (w v : List ℤ) (p : RuleBreakable
   opposed-fits x e = rw e fits
 
   -- it is reduced to the end
-  reduced : (x w' : List ℤ) (b : Bool) → x ≡ opposed → Reduced n x b w' → w' ≡ reduceUpTo n n opposed
-  reduced x w' b e q = q .table (q .reply ∙ rw e clear) ∙ ap (reduceUpTo n n) e
+  reduced : (x w' : List ℤ) (b : Bool) → x ≡ opposed → AllPaired true n x b w' → w' ≡ pairUpTo true n n opposed
+  reduced x w' b e q = q .table (q .reply ∙ rw e clear) ∙ ap (pairUpTo true n n) e
 
   -- so that values can be read back from it
-  pub opposed-layered : (x w' : List ℤ) (b : Bool) → x ≡ opposed → Reduced n x b w' → Layered n w'
-  opposed-layered x w' b e q = rw (reduced x w' b e q) (reduce-layered n opposed fits)
+  pub opposed-layered : (x w' : List ℤ) (b : Bool) → x ≡ opposed → AllPaired true n x b w' → Layered n w'
+  opposed-layered x w' b e q = rw (reduced x w' b e q) (reduced-layered n opposed fits)
 
   -- and these satisfy the table and break the rule
-  pub opposed-broken : (x w' v' : List ℤ) (b : Bool) → x ≡ opposed → Reduced n x b w' → v' ≡ fillDown n w' n v → RuleBroken n t r w v w' v'
+  pub opposed-broken : (x w' v' : List ℤ) (b : Bool) → x ≡ opposed → AllPaired true n x b w' → v' ≡ fillDown n w' n v → RuleBroken n t r w v w' v'
   opposed-broken x w' v' b e q k =
-      let filled : v' ≡ fillDown n (reduceUpTo n n opposed) n v = k ∙ rw (reduced x w' b e q) in
+      let filled : v' ≡ fillDown n (pairUpTo true n n opposed) n v = k ∙ rw (reduced x w' b e q) in
       let s = satisfied (assignmentOf v') .0 (same-satisfies n opposed (putRule t (oppositeOf r)) (assignmentOf v')
       (same-back n (putRule t (oppositeOf r)) opposed same) (rw filled (reduced-satisfies n opposed v fits (p .values-room) clear))) in
       record {
         lent = record {
-          size = rw (reduced x w' b e q) (reduceUpTo-length n n opposed ∙ put-length copy (oppositeOf r) ∙ change-length (blockStart n) (copying t) w);
+          size = rw (reduced x w' b e q) (pairUpTo-length true n n opposed ∙ put-length copy (oppositeOf r) ∙ change-length (blockStart n) (copying t) w);
           rest = q .lent .rest ∙ rw e (put-rest n copy (oppositeOf r) placed ∙ change-drop (blockStart n) (copying t) w);
           kept = λ c. clash refl c;
         };
         written = record {
-          size = rw filled (fillDown-length n n (reduceUpTo n n opposed) v);
-          rest = rw filled (fillDown-rest n n (reduceUpTo n n opposed) v (omega arith));
+          size = rw filled (fillDown-length n n (pairUpTo true n n opposed) v);
+          rest = rw filled (fillDown-rest n n (pairUpTo true n n opposed) v (omega arith));
           kept = λ c. clash refl c;
         };
         shown = record {
           satisfies = s .0;
           broken = s .1;
           zero = λ j h u g. rw filled (unnamed-zero n opposed v j (same .theirs) h (p .values-room) (unnamed j u g));
-          range = λ i h. rw filled (filled-range n (reduceUpTo n n opposed) v (reduce-layered n opposed fits) (p .values-room) i h);
+          range = λ i h. rw filled (filled-range n (pairUpTo true n n opposed) v (reduced-layered n opposed fits) (p .values-room) i h);
         };
       }

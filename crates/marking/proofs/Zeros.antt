@@ -18,9 +18,9 @@ use Rattle.elimination.specs.Hiding.{pairWord, loneWord}
 use Rattle.elimination.specs.Choosing.{withUpper, withUppers, boundedBy, chosen, choice}
 use Rattle.elimination.specs.Magnitude.{Unnamed}
 use Rattle.elimination.proofs.Unnamed.{unnamed-lone, unnamed-pair}
-use Rattle.keys.specs.Reducing.{reduceUpTo, fillDown}
-use Rattle.keys.proofs.Layers.{reduce-unnamed}
-use Rattle.keys.proofs.Reducing.{room-kept}
+use Rattle.keys.specs.Reducing.{pairUpTo, fillDown}
+use Rattle.keys.proofs.Pairing.{pair-room}
+use Rattle.keys.proofs.Growing.{pair-unnamed}
 use Rattle.keys.proofs.Filling.{fillDown-length}
 
 -- ---- the choice without a bound
@@ -82,6 +82,6 @@ filled-zero n (suc m) t values i l h g p q u = go (eqb i j) refl (λ r. filled-z
 
 -- a quantity that no rule of a table names is 0 in the assignment read back from the table reduced
 pub unnamed-zero : (n : ℕ) (t values : List ℤ) (j : ℕ) → blockStart n ≤ length t → j < n → n ≤ length values → Unnamed n j t
-    → wordAt (fillDown n (reduceUpTo n n t) n values) j ≡ pos 0
+    → wordAt (fillDown n (pairUpTo true n n t) n values) j ≡ pos 0
 unnamed-zero n t values j l h g u =
-    filled-zero n n (reduceUpTo n n t) values j (room-kept n n t l) (omega arith) g (omega arith) h (reduce-unnamed n n j t (omega arith) l u)
+    filled-zero n n (pairUpTo true n n t) values j (pair-room true n n t l) (omega arith) g (omega arith) h (pair-unnamed true n n j t (omega arith) l u)

@@ -63,7 +63,7 @@ fn break_rule(n: usize, table: &[i64], rule: Rule, workspace: &mut [i64], values
 {
     words::copy(workspace, table, table::size(n));
     table::put(n, workspace, rule.opposite());
-    decide::reduce(n, workspace);
+    decide::pair_all(n, workspace, true);
     assignment::fill(n, workspace, values);
 }
 

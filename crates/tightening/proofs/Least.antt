@@ -4,9 +4,10 @@ use mathlib.Core.Path.{_≡_, refl, _∙_}
 use mathlib.Core.Bool.{Bool, true, false}
 use mathlib.Core.List.{List}
 use mathlib.Core.Logic.{_↔_}
-use Prim.Native.Nat.{ℕ, _*_, _<_}
+use Prim.Native.Nat.{ℕ, _*_, _≤_, _<_}
 use native.Mathlib.Omega.{arith}
 use lib.IntN.{ℤ, pos, _+ℤ_}
+use lib.ListN.{length}
 use lib.Signed.{ltZ, _≤ℤ_, _<ℤ_}
 use Rattle.integers.proofs.Parts.{linear, positivePart, negativePart, parts-add, ltZ-true, ltZ-false}
 use Rattle.words.specs.Change.{wordAt}
@@ -18,63 +19,51 @@ use Rattle.rules.specs.Meaning.{Assignment, literalValue, Meets}
 use Rattle.tables.specs.Places.{ruleAt}
 use Rattle.tables.specs.Tables.{hasRule}
 use Rattle.tables.specs.Meaning.{Satisfies, Satisfiable, Breaks}
-use Rattle.tables.proofs.Tests.{clash}
 use Rattle.elimination.specs.Hiding.{withSum, pairWord, loneWord}
 use Rattle.elimination.proofs.TermWords.{lone-at, pair-at}
 use Rattle.elimination.proofs.SumWords.{hasRule-mono, withSum-word, withSum-sum, withSum-elim}
 use Rattle.keys.specs.Keys.{every, refuted}
-use Rattle.keys.specs.Reducing.{Fits}
+use Rattle.keys.specs.Reducing.{pairUpTo, clashUpTo, Fits}
 use Rattle.keys.proofs.Several.{refuted-false}
 use Rattle.keys.proofs.Fitting.{hide-ample}
-use Rattle.tightening.specs.Tightening.{pairUpTo, clashUpTo, strengthening, strengthened, tightened}
-use Rattle.tightening.proofs.Growing.{pair-room}
-use Rattle.tightening.proofs.Sound.{clash-unsatisfiable}
+use Rattle.keys.proofs.Pairing.{pair-room, clash-unsatisfiable}
+use Rattle.keys.proofs.Deciding.{decides-refuted}
+use Rattle.tightening.specs.Tightening.{strengthening, strengthened, tightened}
 use Rattle.tightening.proofs.Lower.{clear-refuted}
 use Rattle.tightening.proofs.Reaching.{Reaches, paired-terms, lone-reached, pair-reached}
 
 -- ---- contradictions
 
--- where no contradiction is met, neither is one by hiding,
-clear-all : (n : ℕ) (t : List ℤ) → Fits n t → clashUpTo n n t ≡ false → refuted n t ≡ false
+-- where no contradiction is met, neither is one by hiding, so some integers satisfy the table
+clear-satisfiable : (n : ℕ) (t : List ℤ) → Fits n t → clashUpTo false n n t ≡ false → Satisfiable n t
 unfolding refuted
-clear-all n t f e = clear-refuted n n t (omega arith) (f .grows .room) e
-
--- so some integers satisfy the table
-clear-satisfiable : (n : ℕ) (t : List ℤ) → Fits n t → clashUpTo n n t ≡ false → Satisfiable n t
-clear-satisfiable n t f e = refuted-false n t (f .grows .room) (hide-ample every n t f) (clear-all n t f e)
+clear-satisfiable n t f e = refuted-false n t (f .grows .room) (hide-ample every n t f) (clear-refuted n n t (omega arith) (f .grows .room) e)
 
 -- both decisions are the same
-pub clash-refuted : (n : ℕ) (t : List ℤ) → Fits n t → clashUpTo n n t ≡ refuted n t
-clash-refuted n t f = go (clashUpTo n n t) refl (refuted n t) refl
-  where
-    go : (a : Bool) → clashUpTo n n t ≡ a → (b : Bool) → refuted n t ≡ b → a ≡ b
-    go true d true e = refl
-    go true d false e =
-        let s = refuted-false n t (f .grows .room) (hide-ample every n t f) e in
-        absurd (clash-unsatisfiable n n t (s .assignment) (omega arith) (f .grows .room) d (s .satisfies))
-    go false d true e = clash e (clear-all n t f d)
-    go false d false e = refl
+pub clash-refuted : (n : ℕ) (t : List ℤ) → Fits n t → clashUpTo false n n t ≡ refuted n t
+clash-refuted n t f =
+    decides-refuted n t (clashUpTo false n n t) f
+    (λ d σ s. clash-unsatisfiable false n n t σ (omega arith) (f .grows .room) d s)
+    (clear-satisfiable n t f)
 
 -- ---- words
 
--- a word of the tightest table is one of the paired table, strengthened
-tightened-word : (n : ℕ) (t : List ℤ) (k : ℕ) → Fits n t → k < blockStart n
-    → wordAt (tightened n t) k ≡ strengthening (pairUpTo n n t) k (wordAt (pairUpTo n n t) k)
-unfolding tightened strengthened
-tightened-word n t k f h = change-below (blockStart n) (strengthening (pairUpTo n n t)) (pairUpTo n n t) k h (omega (arith, pair-room n n t (f .grows .room)))
+-- a word of a table strengthened
+strengthened-word : (n : ℕ) (u : List ℤ) (k : ℕ) → blockStart n ≤ length u → k < blockStart n → wordAt (strengthened n u) k ≡ strengthening u k (wordAt u k)
+unfolding strengthened
+strengthened-word n u k l h = change-below (blockStart n) (strengthening u) u k h (omega arith)
 
--- at the place of one literal it is the same,
-tightened-lone : (n : ℕ) (t : List ℤ) (k : ℕ) → Fits n t → k < blockStart n → isOne k ≡ true
-    → wordAt (tightened n t) k ≡ loneWord (pairUpTo n n t) (higherAt k)
+-- at the place of one literal is the same,
+strengthened-lone : (n : ℕ) (u : List ℤ) (k : ℕ) → blockStart n ≤ length u → k < blockStart n → isOne k ≡ true
+    → wordAt (strengthened n u) k ≡ loneWord u (higherAt k)
 unfolding strengthening
-tightened-lone n t k f h e = tightened-word n t k f h ∙ rw (e, lone-at (pairUpTo n n t) k e)
+strengthened-lone n u k l h e = strengthened-word n u k l h ∙ rw (e, lone-at u k e)
 
--- and at that of two it has the sum of their bounds alone put in
-tightened-pair : (n : ℕ) (t : List ℤ) (k : ℕ) → Fits n t → k < blockStart n → isOne k ≡ false
-    → wordAt (tightened n t) k
-    ≡ withSum (loneWord (pairUpTo n n t) (lowerAt k)) (loneWord (pairUpTo n n t) (higherAt k)) (pairWord (pairUpTo n n t) (lowerAt k) (higherAt k))
+-- and at that of two has the sum of their bounds alone put in
+strengthened-pair : (n : ℕ) (u : List ℤ) (k : ℕ) → blockStart n ≤ length u → k < blockStart n → isOne k ≡ false
+    → wordAt (strengthened n u) k ≡ withSum (loneWord u (lowerAt k)) (loneWord u (higherAt k)) (pairWord u (lowerAt k) (higherAt k))
 unfolding strengthening
-tightened-pair n t k f h e = tightened-word n t k f h ∙ rw (e, pair-at (pairUpTo n n t) k e)
+strengthened-pair n u k l h e = strengthened-word n u k l h ∙ rw (e, pair-at u k e)
 
 -- ---- least bounds
 
@@ -115,13 +104,13 @@ two-meaning σ k c e = rw e (λ m. m .met, λ h. record { met = h })
 
 -- where pairing meets no contradiction, each word of the tightest table is the least bound of its term: smaller bounds are broken, and where the word is
 -- no rule, every bound is
-pub tightened-least : (n : ℕ) (t : List ℤ) → Fits n t → clashUpTo n n t ≡ false → (k : ℕ) → k < blockStart n → (c : ℤ) → hasRule c ≡ true
+pub tightened-least : (n : ℕ) (t : List ℤ) → Fits n t → clashUpTo false n n t ≡ false → (k : ℕ) → k < blockStart n → (c : ℤ) → hasRule c ≡ true
     → (c <ℤ wordAt (tightened n t) k) ↔ Breaks (Satisfies n t) (ruleAt k c)
-unfolding positivePart negativePart
+unfolding tightened positivePart negativePart
 tightened-least n t f clear k h c held = go (isOne k) refl
   where
     u : List ℤ
-    u = pairUpTo n n t
+    u = pairUpTo false n n t
 
     x : ℕ
     x = lowerAt k
@@ -161,12 +150,15 @@ tightened-least n t f clear k h c held = go (isOne k) refl
         (λ p q r. let a = m .one x (omega arith, omega (arith, inside)) p in let b = m .one y (omega arith, inside) q in
         omega (linear, parts-add (literalValue τ x) (literalValue τ y), parts-add (loneWord u x) (loneWord u y)))
 
-    go : (b : Bool) → isOne k ≡ b → (c <ℤ wordAt (tightened n t) k) ↔ Breaks (Satisfies n t) (ruleAt k c)
+    room : blockStart n ≤ length u
+    room = pair-room false n n t (f .grows .room)
+
+    go : (b : Bool) → isOne k ≡ b → (c <ℤ wordAt (strengthened n u) k) ↔ Breaks (Satisfies n t) (ruleAt k c)
     go true e =
-        rw (tightened-lone n t k f h e)
+        rw (strengthened-lone n u k room h e)
         (least n t (loneWord u y) c (ruleAt k c) (λ τ. literalValue τ y) held (λ τ. one-meaning τ k c e)
         (λ τ z. paired-terms n t f τ z .one y (omega arith, inside)) one)
     go false e =
-        rw (tightened-pair n t k f h e)
+        rw (strengthened-pair n u k room h e)
         (least n t (withSum (loneWord u x) (loneWord u y) (pairWord u x y)) c (ruleAt k c) (λ τ. literalValue τ x +ℤ literalValue τ y) held
         (λ τ. two-meaning τ k c e) (kept e) (two e))

@@ -26,9 +26,9 @@ use Rattle.elimination.proofs.SumWords.{hasRule-mono, le-trans}
 use Rattle.elimination.proofs.PairedWords.{lone-elim, lone-lowered, lone-plus, lone-minus, lone-half, pair-elim, pair-lowered, pair-sum}
 use Rattle.elimination.proofs.Step.{paired-length, bare-clear, neither, anyBare-clear}
 use Rattle.keys.specs.Keys.{hideUpTo, keyOf, every, refutedUpTo}
+use Rattle.keys.specs.Reducing.{pairUpTo, clashUpTo}
 use Rattle.keys.proofs.Several.{hideUpTo-length}
-use Rattle.tightening.specs.Tightening.{pairUpTo, clashUpTo}
-use Rattle.tightening.proofs.Growing.{pair-room}
+use Rattle.keys.proofs.Pairing.{pair-room}
 
 -- u is at most t: where t holds a rule, so does u, with a bound at most t's
 pub record AtMost (n : ℕ) (u t : List ℤ) : Type 0 where
@@ -159,19 +159,19 @@ cleared-most n q u t l a = record { each = λ k h. rw (cleared-word n q t k l h)
 -- ---- one after the other
 
 -- a table paired is at most the table with any quantities hidden
-hide-most : (hidden : ℕ → Bool) (n m : ℕ) (t : List ℤ) → m ≤ n → blockStart n ≤ length t → AtMost n (pairUpTo n m t) (hideUpTo hidden n m t)
+hide-most : (hidden : ℕ → Bool) (n m : ℕ) (t : List ℤ) → m ≤ n → blockStart n ≤ length t → AtMost n (pairUpTo false n m t) (hideUpTo hidden n m t)
 unfolding pairUpTo hideUpTo eliminated
 hide-most hidden n zero t h l = record { each = λ k b r. ≤ℤ-refl (wordAt t k) }
 hide-most hidden n (suc j) t h l = go (hide-most hidden n j t (omega arith) l) (hidden (suc j))
   where
     u : List ℤ
-    u = pairUpTo n j t
+    u = pairUpTo false n j t
 
     v : List ℤ
     v = hideUpTo hidden n j t
 
     room : blockStart n ≤ length u
-    room = pair-room n j t l
+    room = pair-room false n j t l
 
     go : AtMost n u v → (b : Bool) → AtMost n (paired 0 n j u) (cond b (cleared n (suc j) (paired 0 n j v)) v)
     go a true =
@@ -180,17 +180,17 @@ hide-most hidden n (suc j) t h l = go (hide-most hidden n j t (omega arith) l) (
     go a false = lowered-most n j u v room a
 
 -- and so at most every key
-pub key-most : (hidden : ℕ → Bool) (n : ℕ) (t : List ℤ) → blockStart n ≤ length t → AtMost n (pairUpTo n n t) (keyOf hidden n t)
+pub key-most : (hidden : ℕ → Bool) (n : ℕ) (t : List ℤ) → blockStart n ≤ length t → AtMost n (pairUpTo false n n t) (keyOf hidden n t)
 unfolding keyOf
 key-most hidden n t l = hide-most hidden n n t (omega arith) l
 
 -- where pairing meets no contradiction, hiding every quantity meets none
-pub clear-refuted : (n m : ℕ) (t : List ℤ) → m ≤ n → blockStart n ≤ length t → clashUpTo n m t ≡ false → refutedUpTo n m t ≡ false
+pub clear-refuted : (n m : ℕ) (t : List ℤ) → m ≤ n → blockStart n ≤ length t → clashUpTo false n m t ≡ false → refutedUpTo n m t ≡ false
 unfolding clashUpTo refutedUpTo
 clear-refuted n zero t h l e = refl
 clear-refuted n (suc j) t h l e =
-    let p = neither (clashUpTo n j t) (contradicts 0 n j (pairUpTo n j t)) .0 e in
+    let p = neither (clashUpTo false n j t) (contradicts 0 n j (pairUpTo false n j t)) .0 e in
     neither (refutedUpTo n j t) (contradicts 0 n j (hideUpTo every n j t)) .1 (
       clear-refuted n j t (omega arith) l (p .0),
-      contradicts-most n j (pairUpTo n j t) (hideUpTo every n j t) (pair-room n j t l) (hide-most every n j t (omega arith) l) (omega arith) (p .1),
+      contradicts-most n j (pairUpTo false n j t) (hideUpTo every n j t) (pair-room false n j t l) (hide-most every n j t (omega arith) l) (omega arith) (p .1),
     )

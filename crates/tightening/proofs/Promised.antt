@@ -4,28 +4,42 @@ use mathlib.Core.Bool.{Bool, true, false}
 use mathlib.Core.List.{List}
 use mathlib.Core.Logic.{_↔_}
 use Prim.Native.Nat.{ℕ}
+use native.Mathlib.Omega.{arith}
 use lib.IntN.{ℤ}
+use lib.ListN.{length, drop}
+use Rattle.words.proofs.Change.{change-length, change-drop}
+use Rattle.places.specs.Numbering.{blockStart}
 use Rattle.tables.specs.Meaning.{Unsatisfiable}
 use Rattle.tables.proofs.Tests.{clash}
 use Rattle.keys.specs.Keys.{refuted}
-use Rattle.keys.specs.Reducing.{Fits}
+use Rattle.keys.specs.Reducing.{pairUpTo, Fits}
+use Rattle.keys.specs.Promises.{AllPaired}
 use Rattle.keys.proofs.Deciding.{refuted-exactly}
-use Rattle.tightening.specs.Tightening.{pairUpTo, strengthened, tightened}
-use Rattle.tightening.specs.Promises.{Adding, AllPaired, Tightened}
-use Rattle.tightening.proofs.Growing.{paired-adding}
+use Rattle.keys.proofs.Growing.{pair-ample}
+use Rattle.tightening.specs.Tightening.{strengthened, tightened}
+use Rattle.tightening.specs.Promises.{Adding, Tightened}
 use Rattle.tightening.proofs.Least.{clash-refuted, tightened-least}
-use Rattle.tightening.proofs.Steps.{strengthen-rest, strengthen-length}
 
 -- the words of a table paired without a contradiction add
-pub clear-adding : (n : ℕ) (t u : List ℤ) → Fits n t → AllPaired n t false u → Adding n u
-clear-adding n t u f p = rw (p .table refl) (paired-adding n t f)
+pub clear-adding : (n : ℕ) (t u : List ℤ) → Fits n t → AllPaired false n t false u → Adding n u
+clear-adding n t u f p =
+    let a = pair-ample false n n t f (omega arith) in rw (p .table refl) (record { most = f .most; room = a .room; words = a .words })
+
+-- strengthening keeps the table's length, and the words past it
+strengthen-length : (n : ℕ) (t : List ℤ) → length (strengthened n t) ≡ length t
+unfolding strengthened
+strengthen-length n t = change-length (blockStart n) _ t
+
+strengthen-rest : (n : ℕ) (t : List ℤ) → drop (blockStart n) (strengthened n t) ≡ drop (blockStart n) t
+unfolding strengthened
+strengthen-rest n t = change-drop (blockStart n) _ t
 
 -- the answer tells whether no integers satisfy the table
 answer-tells : (n : ℕ) (t : List ℤ) (r : Bool) → Fits n t → r ≡ refuted n t → (r ≡ true) ↔ Unsatisfiable n t
 answer-tells n t r f e = rw e (refuted-exactly n t f)
 
 -- with a contradiction met, no integers satisfy the table
-pub tightened-none : (n : ℕ) (t u : List ℤ) → Fits n t → AllPaired n t true u → Tightened n t true u
+pub tightened-none : (n : ℕ) (t u : List ℤ) → Fits n t → AllPaired false n t true u → Tightened n t true u
 tightened-none n t u f p = record {
   reply = same;
   none = answer-tells n t true f same;
@@ -38,7 +52,7 @@ tightened-none n t u f p = record {
     same = p .reply ∙ clash-refuted n t f
 
 -- with none, the strengthened table is the tightest
-pub tightened-some : (n : ℕ) (t u v : List ℤ) → Fits n t → AllPaired n t false u → v ≡ strengthened n u → Tightened n t false v
+pub tightened-some : (n : ℕ) (t u v : List ℤ) → Fits n t → AllPaired false n t false u → v ≡ strengthened n u → Tightened n t false v
 unfolding tightened
 tightened-some n t u v f p e = record {
   reply = same;
@@ -55,5 +69,5 @@ tightened-some n t u v f p e = record {
     same : false ≡ refuted n t
     same = p .reply ∙ clash-refuted n t f
 
-    made : v ≡ strengthened n (pairUpTo n n t)
+    made : v ≡ strengthened n (pairUpTo false n n t)
     made = e ∙ rw (p .table refl)

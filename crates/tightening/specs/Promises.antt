@@ -16,7 +16,7 @@ use Rattle.tables.specs.Meaning.{Satisfies, Unsatisfiable, Breaks, WordsWithin}
 use Rattle.elimination.specs.Magnitude.{addLimit}
 use Rattle.keys.specs.Keys.{refuted}
 use Rattle.keys.specs.Promises.{Lent}
-use Rattle.tightening.specs.Tightening.{pairUpTo, clashUpTo, tightened, gatheringLone}
+use Rattle.tightening.specs.Tightening.{tightened, gatheringLone}
 
 -- a table over n quantities whose words add
 pub record Adding (n : ℕ) (t : List ℤ) : Type 0 where
@@ -33,12 +33,6 @@ pub record LoneGatherable (n : ℕ) (table row : List ℤ) : Type 0 where
 -- these bounds gathered
 pub record LoneGathered (n : ℕ) (table before after : List ℤ) : Type 0 where
   pub row : after ≡ change (2 * n) (gatheringLone table) before
-
--- every quantity paired with all others: whether a contradiction is met, and where not, every word; where one is, the table's words are free
-pub record AllPaired (n : ℕ) (before : List ℤ) (r : Bool) (after : List ℤ) : Type 0 where
-  pub reply : r ≡ clashUpTo n n before
-  pub table : r ≡ false → after ≡ pairUpTo n n before
-  pub lent : Lent (blockStart n) true before after
 
 -- a table made the tightest, and whether no integers satisfy it. Where some do, each word is the least bound of its term: a bound is smaller exactly where
 -- some assignment that satisfies the table breaks it, and where the word is no rule, every bound is broken. Where none do, the table's words are free

@@ -4,7 +4,7 @@ use rules::sheet::Sheet;
 ghost use mathlib.Core.Path.{_≡_};
 ghost use Rattle.keys.specs.Reducing.{Fits};
 ghost use Rattle.tightening.specs.Tightening.{strengthened};
-ghost use Rattle.tightening.specs.Promises.{Adding, LoneGatherable, LoneGathered, AllPaired, Tightened};
+ghost use Rattle.tightening.specs.Promises.{Adding, LoneGatherable, LoneGathered, Tightened};
 
 // The words of a row: one for each literal.
 const ROW: usize = 2 * Sheet::MAX_QUANTITIES;
@@ -33,27 +33,12 @@ fn strengthen(n: usize, table: &mut [i64])
     elimination::pair::pair_blocks(n, table, 0, &row, &row, Sheet::NO_RULE, Sheet::NO_RULE);
 }
 
-// Pairs each of `n` quantities with all others, and answers whether a contradiction is met, at which it stops.
-fn pair_all(n: usize, table: &mut [i64]) -> bool
-    requires { ⌜ Fits n (now table) ⌝ }
-    ensures { λ r. ⌜ AllPaired n (now (table .entry)) r (now (table .exit)) ⌝ }
-{
-    let mut j = 0;
-    while j < n {
-        if elimination::pair::pair(n, table, j, 0) {
-            return true;
-        }
-        j = j + 1;
-    }
-    false
-}
-
 // Makes each word of the table the least bound of its term, and answers whether no integers satisfy the table.
 pub fn tighten(n: usize, table: &mut [i64]) -> bool
     requires { ⌜ Fits n (now table) ⌝ }
     ensures { λ r. ⌜ Tightened n (now (table .entry)) r (now (table .exit)) ⌝ }
 {
-    if pair_all(n, table) {
+    if keys::decide::pair_all(n, table, false) {
         return true;
     }
     strengthen(n, table);

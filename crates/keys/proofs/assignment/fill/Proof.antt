@@ -8,7 +8,6 @@ use denote.Ref.{now}
 use borrow.Author.Needs.{needs}
 use Rattle.integers.proofs.Parts.{held-value}
 use Rattle.keys.specs.Reducing.{fillDown}
-use Rattle.keys.proofs.Layers.{layered-ready}
 use Rattle.keys.proofs.Filling.{fill-none, fill-more, fill-valued}
 use Rattle.keys.proofs.assignment.fill.Statement.{statement}
 use Rattle.keys.proofs.assignment.fill.Tie as tie
@@ -28,8 +27,9 @@ sub-j c = omega arith
 choose-requires : tie.Need-choose-requires Inv-loop μ-loop
 choose-requires c κs =
     let l = c .before .before .loop in
-    let s = c .before .before .before in (
-      layered-ready (s .args .n) (l .j - 1) (now (s .args .table)) (s .pre .0) (omega arith),
+    let s = c .before .before .before in
+    let f = s .pre .0 in (
+      record { most = f .most; one = omega arith; room = f .room; words = f .words },
       fill-valued (s .args .n) (l .j) (now (s .args .table)) (now (s .args .values)) (l .values) (s .pre .0) (s .pre .1) (omega arith) (l .inv .0) (l .inv .2),
     )
 

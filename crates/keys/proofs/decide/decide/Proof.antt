@@ -11,8 +11,8 @@ size-requires c κs = search needs
 copy-requires : tie.Need-copy-requires
 copy-requires c κs = search needs
 
-reduce-requires : tie.Need-reduce-requires
-reduce-requires c κs =
+pair-all-requires : tie.Need-pair-all-requires
+pair-all-requires c κs =
     let y = c .before .before in
     let s = y .before .before .before in
     copy-fits _ _ _ _ _ (s .pre .0) (s .pre .1) (y .before .size .ensures) (y .copy .ensures)
@@ -25,8 +25,8 @@ returns c =
     let r = c .before in
     let y = r .before .before .before in
     let s = y .before .before .before in
-    copy-decides _ _ _ _ _ _ _ (s .pre .0) (s .pre .1) (y .before .size .ensures) (y .copy .ensures) (r .reduce .kept .1 .0 ∙ y .copy .kept .0)
-    (r .reduce .ensures)
+    copy-decides _ _ _ _ _ _ _ (s .pre .0) (s .pre .1) (y .before .size .ensures) (y .copy .ensures) (r .pair-all .kept .1 .0 ∙ y .copy .kept .0)
+    (r .pair-all .ensures)
 
 pub decide-spec : {M : Type 1} → statement M
-decide-spec = tie.close (tie.spec size-requires copy-requires reduce-requires same-length returns)
+decide-spec = tie.close (tie.spec size-requires copy-requires pair-all-requires same-length returns)

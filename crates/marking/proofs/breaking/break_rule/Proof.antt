@@ -17,8 +17,8 @@ opposite-requires c κs = search needs
 put-requires : tie.Need-put-requires
 put-requires c κs = search needs
 
-reduce-requires : tie.Need-reduce-requires
-reduce-requires c κs =
+pair-all-requires : tie.Need-pair-all-requires
+pair-all-requires c κs =
     let q = c .before .before in
     let y = q .before .before .before .before in
     let p = y .before .before .before .pre in
@@ -33,7 +33,7 @@ fill-requires c κs =
     let p = y .before .before .before .pre in (
       opposed-layered _ _ _ _ _ p _ _ _
           (put-opposed _ _ _ _ _ p _ _ _ _ _ (y .before .size .ensures) (y .copy .ensures) (q .before .opposite .ensures .reply) (q .put .ensures))
-          (d .reduce .ensures),
+          (d .pair-all .ensures),
       p .values-room,
     )
 
@@ -52,7 +52,7 @@ returns c =
     let p = y .before .before .before .pre in
     opposed-broken _ _ _ _ _ p _ _ _ _
     (put-opposed _ _ _ _ _ p _ _ _ _ _ (y .before .size .ensures) (y .copy .ensures) (q .before .opposite .ensures .reply) (q .put .ensures))
-    (d .reduce .ensures) (f .fill .ensures)
+    (d .pair-all .ensures) (f .fill .ensures)
 
 pub break-rule-spec : {M : Type 1} → statement M
 break-rule-spec =
@@ -62,7 +62,7 @@ break-rule-spec =
     copy-requires
     opposite-requires
     put-requires
-    reduce-requires
+    pair-all-requires
     fill-requires
     same-length
     same-length-2

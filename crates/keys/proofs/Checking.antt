@@ -1,27 +1,27 @@
 -- What the calls' checks answer, and what it tells that they pass. Assumes nothing.
 use mathlib.Core.Path.{_≡_, refl, sym, _∙_}
-use mathlib.Core.Bool.{Bool, true, false, cond, _&&_, and-false}
-use mathlib.Core.List.{List, [], _∷_}
+use mathlib.Core.Bool.{Bool, true, false, _&&_, and-false}
+use mathlib.Core.List.{List}
 use Prim.Native.Nat.{ℕ, _≤_, _<_}
 use native.Mathlib.Omega.{arith}
-use lib.Dec.{ltb, eqb}
+use lib.Dec.{ltb}
 use lib.IntN.{ℤ, pos}
 use lib.ListN.{length}
 use borrow.Author.Tests.{ltb-false, lt-ltb, le-ltb}
 use Rattle.places.specs.Numbering.{blockStart}
 use Rattle.rules.specs.declared.refusal.Refusal.{Refusal}
-use Rattle.rules.specs.declared.refusal.Refusal.the-variants.{Size, OutOfLimit, NoAssignment, TooShort}
+use Rattle.rules.specs.declared.refusal.Refusal.the-variants.{Size, OutOfLimit, TooShort}
 use Rattle.rules.specs.Hidden.{setWithin}
 use Rattle.rules.specs.Limits.{maxBound}
 use Rattle.tables.specs.declared.reply.Reply.{Reply}
 use Rattle.tables.specs.declared.reply.Reply.the-variants.{Done, Refused}
-use Rattle.tables.specs.Tables.{tableSize, serves, replyNumber, replyValues}
+use Rattle.tables.specs.Tables.{tableSize, serves}
 use Rattle.tables.specs.Meaning.{WordsWithin}
 use Rattle.tables.specs.Promises.{InLimit}
 use Rattle.tables.proofs.Tests.{passed, not-refused, both-true, refused-done}
 use Rattle.tables.proofs.Limits.{wordsInLimit-within}
 use Rattle.tables.proofs.Sizes.{Served, serves-tells}
-use Rattle.keys.specs.Keys.{refuted, andThen, lengthReply, limitReply, orNoAssignment, lentChecks, inSheetLimit, keyChecks, keyReply, keyValues, assignmentChecks, assignmentReply, assignmentValues}
+use Rattle.keys.specs.Keys.{andThen, lengthReply, limitReply, lentChecks, inSheetLimit, keyChecks, assignmentChecks}
 use Rattle.keys.specs.Reducing.{Fits}
 use Rattle.keys.proofs.Fitting.{sheet-fits}
 
@@ -149,50 +149,3 @@ assignment-tells n workspace values t e =
     let q = then-tells (lengthReply values n) (limitReply (inSheetLimit n t)) (p .1) in
     let v = not-refused (ltb values n) Done (TooShort n) (q .0) in
     (l, ltb-false values n (v .0), sheet-fits n t (l .served .most) (l .served .room) (limit-passed (inSheetLimit n t) (q .1)))
-
--- ---- what is returned beside a number
-
-key-values : (n set workspace : ℕ) (t : List ℤ) → replyValues (keyReply n set t workspace) ≡ keyValues n (replyNumber (keyReply n set t workspace))
-unfolding keyReply keyChecks lentChecks lengthReply limitReply orNoAssignment andThen keyValues
-key-values n set workspace t = go (serves n (length t)) (ltb workspace (blockStart n)) (setWithin n set && inSheetLimit n t) (refuted n t)
-  where
-    reply : Bool → Bool → Bool → Bool → Reply
-    reply a b c d =
-        andThen (andThen (cond a (cond b (Refused (TooShort (blockStart n))) Done) (Refused Size)) (cond c Done (Refused (OutOfLimit 0))))
-        (cond d (Refused NoAssignment) Done)
-
-    go : (a b c d : Bool) → replyValues (reply a b c d) ≡ keyValues n (replyNumber (reply a b c d))
-    go false b c d = refl
-    go true true c d = refl
-    go true false false d = refl
-    go true false true true = refl
-    go true false true false = refl
-
-assignment-values : (n workspace values : ℕ) (t : List ℤ)
-    → replyValues (assignmentReply n t workspace values) ≡ assignmentValues n workspace (replyNumber (assignmentReply n t workspace values))
-unfolding assignmentReply assignmentChecks lentChecks lengthReply limitReply orNoAssignment andThen assignmentValues
-assignment-values n workspace values t = go (serves n (length t)) (ltb workspace (blockStart n)) (ltb values n) (inSheetLimit n t) (refuted n t)
-  where
-    reply : Bool → Bool → Bool → Bool → Bool → Reply
-    reply a b v c d =
-        andThen (andThen (cond a (cond b (Refused (TooShort (blockStart n))) Done) (Refused Size))
-        (andThen (cond v (Refused (TooShort n)) Done) (cond c Done (Refused (OutOfLimit 0)))))
-        (cond d (Refused NoAssignment) Done)
-
-    told : Bool → ℕ → List ℕ
-    told b number = cond (eqb number 3) (0 ∷ []) (cond (eqb number 6) (cond b (blockStart n) n ∷ []) [])
-
-    go : (a b v c d : Bool) → replyValues (reply a b v c d) ≡ told b (replyNumber (reply a b v c d))
-    go false b v c d = refl
-    go true true v c d = refl
-    go true false true c d = refl
-    go true false false false d = refl
-    go true false false true true = refl
-    go true false false true false = refl
-
-pub key-told : (n set workspace : ℕ) (t : List ℤ) (r : Reply) → r ≡ keyReply n set t workspace → replyValues r ≡ keyValues n (replyNumber r)
-key-told n set workspace t r e = rw e (key-values n set workspace t)
-
-pub assignment-told : (n workspace values : ℕ) (t : List ℤ) (r : Reply) → r ≡ assignmentReply n t workspace values
-    → replyValues r ≡ assignmentValues n workspace (replyNumber r)
-assignment-told n workspace values t r e = rw e (assignment-values n workspace values t)

@@ -29,7 +29,9 @@ use Rattle.keys.proofs.Copying.{SameTable, copied, same-back, same-sati
 use Rattle.keys.proofs.Layers.{reduced-layered}
 use Rattle.keys.proofs.Filling.{fillDown-length, fillDown-rest, filled-range}
 use Rattle.keys.proofs.Deciding.{reduced-satisfies, reduced-refuted}
-use Rattle.keys.proofs.Checking.{then-passed, then-refused, key-tells, key-told, assignment-tells, assignment-told}
+use Rattle.keys.proofs.Checking.{then-passed, then-refused, key-tells, assignment-tells}
+use Rattle.keys.proofs.Refusing.{key-reasons, assignment-reasons}
+use Rattle.keys.proofs.Turns.{key-turns}
 
 -- ---- words past the table's
 
@@ -67,8 +69,9 @@ pub key-refused : (n set : ℕ) (t w : List ℤ) (r : Reply) (f : Refusal) → r
 unfolding keyReply
 key-refused n set t w r f e d = record {
   reply = reply;
-  told = key-told n set (length w) t _ reply;
+  refused = key-reasons n set t (length w) _ reply;
   words = rw d;
+  steps = λ c. absurd (not-done r f d c);
   rest = refl;
   lent = untouched (blockStart n) _ w;
   meaning = λ c. absurd (not-done r f d c);
@@ -85,8 +88,9 @@ pub key-none : (n set : ℕ) (t w w' : List ℤ) → keyChecks n set t (length w
 unfolding keyReply orNoAssignment
 key-none n set t w w' e d = record {
   reply = reply;
-  told = key-told n set (length w) t _ reply;
+  refused = key-reasons n set t (length w) _ reply;
   words = refl;
+  steps = λ c. absurd (refusal-number NoAssignment c);
   rest = refl;
   lent = d .lent;
   meaning = λ c. absurd (refusal-number NoAssignment c);
@@ -108,8 +112,9 @@ key-done n set t w t' w' e d k =
     let s = refuted-false n t (f .grows .room) (hide-ample every n t f) (sym (d .reply)) in
     record {
       reply = reply;
-      told = key-told n set (length w) t _ reply;
+      refused = key-reasons n set t (length w) _ reply;
       words = k;
+      steps = λ c. rw k (key-turns (hiddenIn set) n t (f .grows .room));
       rest = rw k (rest-key (hiddenIn set) n t);
       lent = d .lent;
       meaning = λ c σ. rw k (key-exact (hiddenIn set) n t (s .assignment) (hide-ample (hiddenIn set) n t f) (s .satisfies) σ);
@@ -129,7 +134,7 @@ pub assignment-refused : (n : ℕ) (t w v : List ℤ) (r : Reply) (f : Refusal) 
 unfolding assignmentReply
 assignment-refused n t w v r f e d = record {
   reply = reply;
-  told = assignment-told n (length w) (length v) t _ reply;
+  refused = assignment-reasons n t (length w) (length v) _ reply;
   lent = untouched (blockStart n) _ w;
   written = untouched n _ v;
   meaning = λ c. absurd (not-done r f d c);
@@ -145,7 +150,7 @@ pub assignment-none : (n : ℕ) (t w v w' : List ℤ) → assignmentChecks n t (
 unfolding assignmentReply orNoAssignment
 assignment-none n t w v w' e d = record {
   reply = reply;
-  told = assignment-told n (length w) (length v) t _ reply;
+  refused = assignment-reasons n t (length w) (length v) _ reply;
   lent = d .lent;
   written = untouched n _ v;
   meaning = λ c. absurd (refusal-number NoAssignment c);
@@ -174,7 +179,7 @@ assignment-done n t w v w' v' e d k =
     let s = reduced-satisfies n u v f (p .1) (reduced-refuted n t u same (p .2) ∙ sym (d .reply)) in
     record {
       reply = reply;
-      told = assignment-told n (length w) (length v) t _ reply;
+      refused = assignment-reasons n t (length w) (length v) _ reply;
       lent = d .lent;
       written = record {
         size = rw filled (fillDown-length n n (pairUpTo true n n u) v);

@@ -1,7 +1,7 @@
 -- The key of a sheet, 'no assignment', and the replies of the two calls (document 01, 'Hiding', 'Finding an assignment', 'Returned to the
 -- caller').
 use mathlib.Core.Bool.{Bool, true, false, cond, _&&_, _||_}
-use mathlib.Core.List.{List, [], _∷_}
+use mathlib.Core.List.{List}
 use Prim.Native.Nat.{ℕ, zero, suc}
 use lib.Dec.{ltb, eqb}
 use lib.IntN.{ℤ, pos}
@@ -85,15 +85,6 @@ keyReply n set t workspace = andThen (keyChecks n set t workspace) (orNoAssignme
 -- the assignment call's reply
 unfoldable pub assignmentReply : ℕ → List ℤ → ℕ → ℕ → Reply
 assignmentReply n t workspace values = andThen (assignmentChecks n t workspace values) (orNoAssignment (refuted n t))
-
--- what the key call returns beside a number: line 0 with 3, the workspace's length with 6
-unfoldable pub keyValues : ℕ → ℕ → List ℕ
-keyValues n number = cond (eqb number 3) (0 ∷ []) (cond (eqb number 6) (blockStart n ∷ []) [])
-
--- what the assignment call does: line 0 with 3, with 6 the length of the first that is too short
-unfoldable pub assignmentValues : ℕ → ℕ → ℕ → List ℕ
-assignmentValues n workspace number =
-    cond (eqb number 3) (0 ∷ []) (cond (eqb number 6) (cond (ltb workspace (blockStart n)) (blockStart n) n ∷ []) [])
 
 -- the replies after which the workspace is free: success and 5
 abbrev pub freesWorkspace : Reply → Bool

@@ -9,15 +9,18 @@ use lib.ListN.{length, drop}
 use Rattle.integers.specs.Bound.{Within}
 use Rattle.words.specs.Change.{wordAt, change, copying}
 use Rattle.places.specs.Numbering.{blockStart}
+use Rattle.rules.specs.declared.refusal.Refusal.{Refusal}
+use Rattle.rules.specs.Refusal.{refusalNumber, refusalValues}
 use Rattle.rules.specs.Limits.{maxBound}
 use Rattle.rules.specs.Hidden.{hiddenIn}
 use Rattle.rules.specs.Meaning.{Assignment}
 use Rattle.tables.specs.declared.reply.Reply.{Reply}
 use Rattle.tables.specs.declared.reply.Reply.the-variants.{Done}
-use Rattle.tables.specs.Tables.{isDone, replyNumber, replyValues}
+use Rattle.tables.specs.Tables.{isDone, replyNumber, Replies}
 use Rattle.tables.specs.Meaning.{Satisfies, Satisfiable, Unsatisfiable, SheetAllows, NamesVisible, assignmentOf, WordsWithin}
 use Rattle.elimination.specs.Magnitude.{valueLimit}
-use Rattle.keys.specs.Keys.{keyOf, hiddenCount, refuted, keyChecks, keyReply, keyValues, assignmentChecks, assignmentReply, assignmentValues, freesWorkspace}
+use Rattle.keys.specs.Keys.{keyOf, hiddenCount, refuted, keyChecks, keyReply, assignmentChecks, assignmentReply, freesWorkspace}
+use Rattle.keys.specs.Meaning.{KeyRefused, AssignmentRefused, HiddenInTurn}
 use Rattle.keys.specs.Reducing.{pairUpTo, clashUpTo}
 
 -- a lent slice of which the first m words are the program's choice where `free`, and stay where not; words past them always stay
@@ -26,13 +29,14 @@ pub record Lent (m : ℕ) (free : Bool) (before after : List ℤ) : Type 0 where
   pub rest : drop m after ≡ drop m before
   pub kept : free ≡ false → after ≡ before
 
--- the key call on n quantities and a hidden set, by document 01's numbers and values. Demand 2: the key allows integers for the visible quantities exactly
--- when some integers for the hidden ones satisfy the whole sheet with them; past the earlier checks the reply is 5 exactly when no integers satisfy
--- the sheet. The key names visible quantities alone, and its bounds double at most with each hidden one
+-- the key call on n quantities and a hidden set, by document 01's numbers and values: refused exactly for these reasons. Demand 2: the key allows integers for
+-- the visible quantities exactly when some integers for the hidden ones satisfy the whole sheet with them; past the earlier checks the reply is 5 exactly
+-- when no integers satisfy the sheet. The key is made by document 01's steps, names visible quantities alone, and its bounds double at most with each hidden one
 pub record Keyed (n set : ℕ) (table workspace : List ℤ) (r : Reply) (table' workspace' : List ℤ) : Type 0 where
   pub reply : r ≡ keyReply n set table (length workspace)
-  pub told : replyValues r ≡ keyValues n (replyNumber r)
+  pub refused : (f : Refusal) → Replies r (refusalNumber f) (refusalValues f) ↔ KeyRefused n set table (length workspace) f
   pub words : table' ≡ cond (isDone r) (keyOf (hiddenIn set) n table) table
+  pub steps : replyNumber r ≡ 0 → HiddenInTurn (hiddenIn set) n table table'
   pub rest : drop (blockStart n) table' ≡ drop (blockStart n) table
   pub lent : Lent (blockStart n) (freesWorkspace r) workspace workspace'
   pub meaning : replyNumber r ≡ 0 → (σ : Assignment) → Satisfies n table' σ ↔ SheetAllows (hiddenIn set) (Satisfies n table) σ
@@ -45,7 +49,7 @@ pub record Keyed (n set : ℕ) (table workspace : List ℤ) (r : Reply) (table' 
 -- all choices have in common; past the earlier checks the reply is 5 exactly when no integers satisfy the table. The table is only read
 pub record Assigned (n : ℕ) (table workspace values : List ℤ) (r : Reply) (workspace' values' : List ℤ) : Type 0 where
   pub reply : r ≡ assignmentReply n table (length workspace) (length values)
-  pub told : replyValues r ≡ assignmentValues n (length workspace) (replyNumber r)
+  pub refused : (f : Refusal) → Replies r (refusalNumber f) (refusalValues f) ↔ AssignmentRefused n table (length workspace) (length values) f
   pub lent : Lent (blockStart n) (freesWorkspace r) workspace workspace'
   pub written : Lent n (isDone r) values values'
   pub meaning : replyNumber r ≡ 0 → Satisfies n table (assignmentOf values')

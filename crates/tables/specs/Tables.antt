@@ -117,7 +117,11 @@ abbrev pub replyValues : Reply → List ℕ
 replyValues Done = []
 replyValues (Refused r) = refusalValues r
 
--- the same as one number, 0 where there is none
+-- the reply is returned by this number and these values
+abbrev pub Replies : Reply → ℕ → List ℕ → Type 0
+Replies r number values = (replyNumber r ≡ number) × (replyValues r ≡ values)
+
+-- what is returned beside as one number, 0 where there is none
 abbrev pub replyValue : Reply → ℕ
 replyValue r = getD (replyValues r) 0 0
 

@@ -25,14 +25,14 @@ use Rattle.tables.specs.Tables.{hasRule}
 use Rattle.tables.specs.Meaning.{WordsWithin}
 use Rattle.tables.proofs.Places.{ruleAt-bound, ruleAt-hasPlace}
 use Rattle.tables.proofs.Sizes.{small-start}
-use Rattle.lines.specs.Spelling.{rule, quantityWithin, lineWithin, cancelling}
+use Rattle.lines.specs.Spelling.{Written, rule, quantityWithin, lineWithin, cancelling}
 use Rattle.lines.specs.Lines.{accepted}
 use Rattle.reading.specs.declared.read.Reading.the-variants.{Accepted}
 use Rattle.reading.specs.Texts.{ruleLines}
-use Rattle.reading.specs.Meaning.{Fine, AllFine, Spells, Means}
+use Rattle.reading.specs.Meaning.{ruled, linesOf, Fine, AllFine, Spells, Means}
 use Rattle.reading.proofs.Means.{text-means}
 use Rattle.reading.specs.Reading.{checkText, replyTo, readReply, filled, readTable}
-use Rattle.writing.specs.Writing.{writtenOf, rulesAt, tableRules, contentsOf, writtenText}
+use Rattle.writing.specs.Writing.{writtenOf, rulesAt, tableRules, hiddenList, contentsOf, writtenText}
 use Rattle.writing.proofs.Meanings.{front-word, Clean, table-back, AreWords}
 use Rattle.writing.proofs.Members.{hidden-increasing, hidden-within, hidden-back}
 use Rattle.writing.proofs.Lengths.{rules-count, longest-sheet}
@@ -40,7 +40,7 @@ use Rattle.writing.proofs.Lengths.{rules-count, longest-sheet}
 -- ---- rules
 
 -- a literal of n quantities names one of them
-literal-within : (n x : ℕ) → x < 2 * n → quantityWithin n (quantityOf x) ≡ true
+pub literal-within : (n x : ℕ) → x < 2 * n → quantityWithin n (quantityOf x) ≡ true
 literal-within n x h = rw (le-leb 1 (quantityOf x) (omega arith), le-leb (quantityOf x) n (omega arith))
 
 -- a rule that has a place may stand in a text, where its bound is in the text's limit
@@ -55,11 +55,11 @@ rule-fine n limit (Two x y c) u w = record {
 rule-fine n limit (Nothing c) u w = absurd u
 
 -- each of the first m words that holds a rule is in the limit
-abbrev BoundsWithin : ℕ → ℕ → List ℤ → Type 0
+abbrev pub BoundsWithin : ℕ → ℕ → List ℤ → Type 0
 BoundsWithin m limit t = (k : ℕ) → k < m → k < length t → hasRule (wordAt t k) ≡ true → natAbs (wordAt t k) ≤ limit
 
 -- where they are, the rules of words from place i on may stand in a text
-rules-fine : (n limit i : ℕ) (t : List ℤ) → i + length t ≤ blockStart n → BoundsWithin (length t) limit t → AllFine n limit (ruleLines (rulesAt i t))
+pub rules-fine : (n limit i : ℕ) (t : List ℤ) → i + length t ≤ blockStart n → BoundsWithin (length t) limit t → AllFine n limit (ruleLines (rulesAt i t))
 unfolding rulesAt
 rules-fine n limit i [] l f = tt
 rules-fine n limit i (w ∷ t) l f = go (rules-fine n limit (suc i) t (omega arith) (λ k b c e. f (suc k) (omega arith) (omega arith) e)) (hasRule w) refl
@@ -73,7 +73,7 @@ rules-fine n limit i (w ∷ t) l f = go (rules-fine n limit (suc i) t (omega ari
 -- ---- limits
 
 -- a bound within a limit is at most the limit in magnitude
-bound-magnitude : (limit : ℕ) (c : ℤ) → Within (pos limit) c → natAbs c ≤ limit
+pub bound-magnitude : (limit : ℕ) (c : ℤ) → Within (pos limit) c → natAbs c ≤ limit
 unfolding positivePart negativePart
 bound-magnitude limit (pos v) h = omega (arith, within-to h)
 bound-magnitude limit (negsuc v) h = omega (arith, within-to h)
@@ -87,28 +87,31 @@ word-magnitude (negsuc v) h = omega arith
 
 -- n in its range, a set and a table
 module _ (n set : ℕ) (t : List ℤ) (some : 1 ≤ n) (most : n ≤ maxQuantities) where
+  -- the lines before the rules are fine, and so are all where the rules that follow are
+  pub opening-fine : (limit : ℕ) (rs : List Written) → AllFine n limit (ruleLines rs)
+      → AllFine n limit (linesOf (ruled n (hiddenList n set) (length (tableRules n t)) rs))
+  unfolding lineWithin
+  opening-fine limit rs all = (
+    record { formed = tt; within = rw (le-leb 1 n some, le-leb n maxQuantities most); uncancelled = refl },
+    (
+      record { formed = hidden-increasing n set; within = hidden-within n set; uncancelled = refl },
+      (record { formed = tt; within = le-leb (length (tableRules n t)) maxRules few; uncancelled = refl }, all),
+    ),
+  )
+    where
+      few : length (tableRules n t) ≤ maxRules
+      few = omega (arith, rules-count 0 (take (blockStart n) t), length-take (blockStart n) t, small-start n most)
+
   -- every line is fine, in a limit that the words that hold a rule are in
   written-spells : (limit : ℕ) → BoundsWithin (blockStart n) limit t → Spells limit (writtenText n set t) (contentsOf n set t)
-  unfolding writtenText lineWithin
+  unfolding writtenText
   written-spells limit words = record {
     text = refl;
-    fine = (
-      record { formed = tt; within = rw (le-leb 1 n some, le-leb n maxQuantities most); uncancelled = refl },
-      (
-        record { formed = hidden-increasing n set; within = hidden-within n set; uncancelled = refl },
-        (
-          record { formed = tt; within = le-leb (length (tableRules n t)) maxRules (omega (arith, rules-count 0 front, size)); uncancelled = refl },
-          rules-fine n limit 0 front (omega (arith, size)) inside,
-        ),
-      ),
-    );
+    fine = opening-fine limit (tableRules n t) (rules-fine n limit 0 front (omega (arith, length-take (blockStart n) t)) inside);
   }
     where
       front : List ℤ
       front = take (blockStart n) t
-
-      size : (length front ≤ blockStart n) × (blockStart n ≤ 2048)
-      size = omega (arith, length-take (blockStart n) t, small-start n most)
 
       inside : BoundsWithin (length front) limit front
       inside k b c e = let w = front-word (blockStart n) t k b in rw (w .2) (words k (w .0) (w .1) (rw (w .2) at e))

@@ -26,6 +26,7 @@ use Rattle.writing.specs.Promises.{TextWritten}
 use Rattle.writing.proofs.Meanings.{AreWords, words-clean, table-meaning}
 use Rattle.writing.proofs.Lengths.{longest-any}
 use Rattle.writing.proofs.Back.{spells-words, written-back}
+use Rattle.writing.proofs.Past.{written-past}
 use Rattle.writing.proofs.Numbers.{wrote-text, refused-number}
 
 -- ---- the reply
@@ -179,6 +180,9 @@ written-promised n set t out r out' e f words = record {
   back = λ m q w u l.
       let s = served m q in
       rw (front m q) (written-back n set t (s .some) (s .most) w (told m q .within) (s .room) (words-clean (blockStart n) t (are m q)) u l);
+  past = λ m q l k p u.
+      let s = served m q in
+      rw (front m q) (written-past n set t (s .some) (s .most) (rw (← told m q .size) l) k p u);
 }
   where
     is : (m : ℕ) → Wrote r m → writeReply n set t (length out) ≡ Text m

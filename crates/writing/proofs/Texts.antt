@@ -35,7 +35,7 @@ use Rattle.writing.proofs.ListTexts.{list-short}
 -- ---- rules by place
 
 -- the rules of words and of more words after them
-rules-append : (k : ℕ) (s t : List ℤ) → rulesAt k (s ++ t) ≡ rulesAt k s ++ rulesAt (k + length s) t
+pub rules-append : (k : ℕ) (s t : List ℤ) → rulesAt k (s ++ t) ≡ rulesAt k s ++ rulesAt (k + length s) t
 unfolding rulesAt
 rules-append k [] t = rw (add-zero k)
 rules-append k (w ∷ s) t =
@@ -55,7 +55,7 @@ rules-more k t h =
     ap (rulesAt 0) (take-suc t k (pos 0) h) ∙ rw e at (rules-append 0 (take k t) (wordAt t k ∷ []))
 
 -- the lines of rules and of more rules after them
-lines-append : (rs qs : List Written) → linesText (ruleLines (rs ++ qs)) ≡ linesText (ruleLines rs) ++ linesText (ruleLines qs)
+pub lines-append : (rs qs : List Written) → linesText (ruleLines (rs ++ qs)) ≡ linesText (ruleLines rs) ++ linesText (ruleLines qs)
 unfolding linesText
 lines-append [] qs = refl
 lines-append (r ∷ rs) qs =

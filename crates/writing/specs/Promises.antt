@@ -1,5 +1,5 @@
 -- What the writer promises: the reply and every byte, for every input; when it is refused; that the text is a spelling, what it means, and that it is
--- read back.
+-- read back, or refused by the reader where a bound is too large for it.
 use mathlib.Core.Path.{_≡_}
 use mathlib.Core.Bool.{true, false}
 use mathlib.Core.Logic.{_↔_}
@@ -7,22 +7,45 @@ use mathlib.Core.List.{List, [], _∷_, _++_}
 use Prim.Native.Nat.{ℕ, _*_, _+_, _^_, _≤_, _<_}
 use lib.IntN.{ℤ, pos}
 use lib.ListN.{length, take, drop}
+use Rattle.integers.specs.Bound.{Within}
+use Rattle.words.specs.Change.{wordAt}
 use Rattle.places.specs.Numbering.{blockStart}
 use Rattle.rules.specs.Hidden.{setWithin}
-use Rattle.rules.specs.Limits.{maxBound, maxRules}
+use Rattle.rules.specs.Limits.{maxBound, maxRules, maxText}
 use Rattle.rules.specs.Meaning.{Assignment}
 use Rattle.tables.specs.Tables.{serves}
-use Rattle.tables.specs.Meaning.{Satisfies, MeetsAll, WordsWithin}
+use Rattle.tables.specs.Meaning.{HoldsRule, Satisfies, MeetsAll, WordsWithin}
 use Rattle.lines.specs.Spelling.{writtenRules}
 use Rattle.reading.specs.declared.read.Reading.the-variants.{Accepted}
 use Rattle.reading.specs.Meaning.{Spells}
-use Rattle.reading.specs.Reading.{readReply, readTable}
+use Rattle.reading.specs.Reading.{readReply, readTable, Returns}
 use Rattle.writing.specs.declared.write.Writing.{Writing}
-use Rattle.writing.specs.Writing.{tableRules, contentsOf, writtenText, writeReply, written, writingNumber, writingValues, Wrote}
+use Rattle.writing.specs.Writing.{rulesAt, tableRules, contentsOf, writtenText, writeReply, written, writingNumber, writingValues, Wrote}
 
 -- no text written is longer than this: 119 bytes for the header, and 33 for each rule (it is not said to be attained)
 abbrev pub maxWritten : ℕ
 maxWritten = 119 + 33 * maxRules
+
+-- place k holds a rule whose bound is outside the sheet's limit
+pub record PastLimit (n : ℕ) (table : List ℤ) (k : ℕ) : Type 0 where
+  pub holds : HoldsRule n table k
+  pub outside : Within (pos maxBound) (wordAt table k) → ⊥
+
+-- and no place before it does
+pub record FirstPast (n : ℕ) (table : List ℤ) (k : ℕ) : Type 0 where
+  pub past : PastLimit n table k
+  pub before : WordsWithin k (pos maxBound) table
+
+-- the number of the line of the rule that place k holds: above it stand three lines and one for each rule of the places before
+abbrev pub lineAt : List ℤ → ℕ → ℕ
+lineAt table k = 4 + length (rulesAt 0 (take k table))
+
+-- the text s of a table is refused when it is read into t: 3, at the line of the first rule whose bound is outside the sheet's limit
+pub record RefusedPast (n : ℕ) (table : List ℤ) (s : List ℕ) (t : List ℤ) : Type 0 where
+  pub place : ℕ
+  pub first : FirstPast n table place
+  pub reply : Returns (readReply s (length t)) 3 (lineAt table place ∷ [])
+  pub kept : readTable s t ≡ t
 
 -- a table and a hidden set written
 pub record TextWritten (n set : ℕ) (table : List ℤ) (out : List ℕ) (r : Writing) (out' : List ℕ) : Type 0 where
@@ -42,3 +65,5 @@ pub record TextWritten (n set : ℕ) (table : List ℤ) (out : List ℕ) (r : Wr
   -- read into any table that is long enough, it gives n, the hidden set and the table's words back, where these are in the sheet's limit
   pub back : (m : ℕ) → Wrote r m → WordsWithin (blockStart n) (pos maxBound) table → (t : List ℤ) → blockStart n ≤ length t
       → (readReply (take m out') (length t) ≡ Accepted n set) × (readTable (take m out') t ≡ take (blockStart n) table ++ drop (blockStart n) t)
+  -- where some bound is outside it, and the text not too long to be read, it is refused with 3, whatever table it is read into
+  pub past : (m : ℕ) → Wrote r m → m ≤ maxText → (k : ℕ) → PastLimit n table k → (t : List ℤ) → RefusedPast n table (take m out') t

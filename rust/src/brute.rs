@@ -72,8 +72,31 @@ pub fn tries(n: usize, hidden: u32, sheet: &[Rule], script: &[Rule]) -> u128 {
     let (hidden_ones, visible) = parted(n, hidden);
     let reach = visible_radius(&hidden_ones, &visible, sheet, script);
     let hidden_reach = hidden_radius(&hidden_ones, reach, sheet);
-    let all = |reach: i64, quantities: &[usize]| (2 * reach as u128 + 1).saturating_pow(quantities.len() as u32);
     all(reach, &visible).saturating_mul(all(hidden_reach, &hidden_ones))
+}
+
+/// Do hidden integers complete the visible ones among these?
+pub fn completed(n: usize, hidden: u32, sheet: &[Rule], values: &[i64]) -> bool {
+    let (hidden_ones, visible) = parted(n, hidden);
+    let (among_visible, rest): (Vec<Rule>, Vec<Rule>) = sheet.iter().partition(|rule| !rule.term.names(hidden));
+    let radius = hidden_radius(&hidden_ones, farthest(&visible, values), sheet);
+    broken(&among_visible, values).is_none() && Search::new(&hidden_ones, &rest, radius).finds(&mut values.to_vec(), 0)
+}
+
+/// How many integers `completed` has to try at most.
+pub fn completion_tries(n: usize, hidden: u32, sheet: &[Rule], values: &[i64]) -> u128 {
+    let (hidden_ones, visible) = parted(n, hidden);
+    all(hidden_radius(&hidden_ones, farthest(&visible, values), sheet), &hidden_ones)
+}
+
+/// The largest magnitude of these quantities' integers.
+fn farthest(quantities: &[usize], values: &[i64]) -> i64 {
+    quantities.iter().map(|&q| values[q - 1].abs()).max().unwrap_or(0)
+}
+
+/// How many choices these quantities have from -reach to reach.
+fn all(reach: i64, quantities: &[usize]) -> u128 {
+    (2 * reach as u128 + 1).saturating_pow(quantities.len() as u32)
 }
 
 /// The hidden quantities and the visible ones.

@@ -11,7 +11,7 @@ use crate::plain;
 use crate::sheets::Sheet;
 
 /// Document 01, 'Finding an assignment'.
-const FARTHEST: i64 = 1 << 62;
+pub const FARTHEST: i64 = 1 << 62;
 
 pub struct Due<'a> {
     sheet: &'a Sheet,

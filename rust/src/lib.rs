@@ -11,6 +11,9 @@
 //! What a script is worth is decided by the same two ways as a sheet's meaning, and no key is made for it (`marking`); it
 //! is held against the tightest tables of both papers in ordinary Rust (`plain_mark`).
 //!
+//! What the programs print is judged to the byte (`printed`): the built programs are run, and the rule and the integers of
+//! a verdict are held against the meaning.
+//!
 //! Beside the judge stand what the hosts share (`held`), the host of a sitting (`sitting`), and the trial of wrong programs
 //! on the crates' proofs (`wrong`).
 
@@ -31,6 +34,7 @@ pub mod naive;
 pub mod plain;
 pub mod plain_mark;
 pub mod plain_text;
+pub mod printed;
 pub mod random;
 pub mod run;
 pub mod sheets;

@@ -27,7 +27,7 @@ pub fn damaged(pair: &Pair, random: &mut Random) -> (Vec<u8>, Vec<u8>) {
 }
 
 /// A text that is to be refused. By chance alone 1, 3 and 4 would be too seldom.
-fn text(paper: &Paper, random: &mut Random) -> Vec<u8> {
+pub fn text(paper: &Paper, random: &mut Random) -> Vec<u8> {
     match random.below(10) {
         0 => noise::any(random),
         1 => noise::swollen(paper, random),

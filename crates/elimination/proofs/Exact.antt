@@ -59,10 +59,10 @@ other-quantity : (σ τ : Assignment) (j x : ℕ) → ((q : ℕ) → (q ≡ suc 
 other-quantity σ τ j x same n = same (quantityOf x) (λ e. n (omega arith))
 
 -- the quantity's integer from one assignment and the others from another
-joined-own : (j : ℕ) (σ hiddens : Assignment) → joined (eqb (suc j)) σ hiddens (suc j) ≡ hiddens (suc j)
+pub joined-own : (j : ℕ) (σ hiddens : Assignment) → joined (eqb (suc j)) σ hiddens (suc j) ≡ hiddens (suc j)
 joined-own j σ hiddens = rw (eq-eqb (suc j) (suc j) refl)
 
-joined-other : (j : ℕ) (σ hiddens : Assignment) (q : ℕ) → (q ≡ suc j → ⊥) → joined (eqb (suc j)) σ hiddens q ≡ σ q
+pub joined-other : (j : ℕ) (σ hiddens : Assignment) (q : ℕ) → (q ≡ suc j → ⊥) → joined (eqb (suc j)) σ hiddens q ≡ σ q
 joined-other j σ hiddens q n = rw (ne-eqb (suc j) q (λ e. n (sym e)))
 
 -- ---- the sums of a quantity and its integer

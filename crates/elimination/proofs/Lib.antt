@@ -1,5 +1,5 @@
 -- The laws of the step that proofs above cite: the elimination of one integer, a table term by term, the words of a paired table, what a step
--- means, that hiding is exact, and how much it enlarges bounds; then what the functions' proofs share.
+-- means, that hiding is exact, what a chosen value means, and how much a step enlarges bounds; then what the functions' proofs share.
 pub mod Projection
 pub mod TermWords
 pub mod Terms
@@ -7,6 +7,7 @@ pub mod SumWords
 pub mod PairedWords
 pub mod Step
 pub mod Exact
+pub mod Feasible
 pub mod Growth
 pub mod Unnamed
 pub mod DocumentTerms

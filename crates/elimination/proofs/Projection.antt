@@ -106,7 +106,15 @@ uppers-either P value row s (suc i) v start low =
     (uppers-either P value row s i v start (λ x l h. low x l (omega arith)))
     (low (s + i) (omega arith) (omega arith))
 
--- by these and the bound of a literal alone: at most what the bound alone leaves,
+-- by these and the bound of a literal alone: at most where it began,
+pub bounded-start : (value row : ℕ → ℤ) (lone : ℤ) (s i : ℕ) (v : ℤ) → boundedBy value row lone s i v ≤ℤ v
+unfolding boundedBy
+bounded-start value row lone s i v =
+    let h = uppers-start value row s i (withUpper lone (pos 0) v) in
+    let k = upper-start lone (pos 0) v in
+    omega linear
+
+-- at most what the bound alone leaves,
 pub bounded-lone : (value row : ℕ → ℤ) (lone : ℤ) (s i : ℕ) (v : ℤ) → hasRule lone ≡ true → boundedBy value row lone s i v ≤ℤ (lone +ℤ negℤ (pos 0))
 unfolding boundedBy
 bounded-lone value row lone s i v e =
@@ -206,3 +214,28 @@ chosen-within L W value plus minus p m s i pluses minuses plus-alone minus-alone
     within-neg
     (bounded-within L W value minus m s i _ minuses minus-alone values
     (within-neg (bounded-within L W value plus p s i (pos 0) pluses plus-alone values (within-of (omega arith) (omega arith)))))
+
+-- ---- how near to 0 it is
+
+-- an integer within B, lowered by bounds that some v within B keeps, stays within B: it is not lowered past v
+pub bounded-near : (B : ℕ) (value row : ℕ → ℤ) (lone : ℤ) (s i : ℕ) (u v : ℤ)
+    → ((x : ℕ) → s ≤ x → x < s + i → hasRule (row x) ≡ true → (value x +ℤ v) ≤ℤ row x) → (hasRule lone ≡ true → v ≤ℤ lone)
+    → Within (pos B) v → Within (pos B) u → Within (pos B) (boundedBy value row lone s i u)
+unfolding positivePart negativePart
+bounded-near B value row lone s i u v rows alone near start =
+    within-of
+    (let h = bounded-start value row lone s i u in omega (linear, within-to start))
+    (bounded-either (λ (z : ℤ). negativePart z ≤ B + positivePart z) value row lone s i u (within-to start .1)
+    (λ e. let h = alone e in omega (linear, within-to near, parts-neg (pos 0), parts-add lone (negℤ (pos 0))))
+    (λ x l g e. let h = rows x l g e in
+    omega (linear, within-to near, parts-add (value x) v, parts-neg (value x), parts-add (row x) (negℤ (value x)))))
+
+-- where some v within B keeps its bounds, the integer chosen is within B
+pub chosen-near : (In : ℕ → Type 0) (B : ℕ) (value plus minus : ℕ → ℤ) (p m : ℤ) (s i : ℕ) (v : ℤ) → ((x : ℕ) → s ≤ x → x < s + i → In x)
+    → Own In value plus minus p m v → Within (pos B) v → Within (pos B) (chosen value plus minus p m s i)
+unfolding chosen positivePart negativePart
+chosen-near In B value plus minus p m s i v all o near =
+    within-neg
+    (bounded-near B value minus m s i _ (negℤ v) (λ x l h. o .with-minus x (all x l h)) (o .minus-alone) (within-neg near)
+    (within-neg
+    (bounded-near B value plus p s i (pos 0) v (λ x l h. o .with-plus x (all x l h)) (o .plus-alone) near (within-of (omega arith) (omega arith)))))

@@ -36,6 +36,11 @@ pub record TermsMet (In : ℕ → Type 0) (t : List ℤ) (σ : Assignment) : Typ
 abbrev pub Others : ℕ → ℕ → ℕ → ℕ → Type 0
 Others from n j x = (2 * from ≤ x) × (x < 2 * n) × (x / 2 ≡ j → ⊥)
 
+-- it meets every rule of a literal of quantity j + 1, alone or with a literal In
+pub record OwnMet (In : ℕ → Type 0) (j : ℕ) (t : List ℤ) (σ : Assignment) : Type 0 where
+  pub one : (x : ℕ) → x / 2 ≡ j → hasRule (loneWord t x) ≡ true → literalValue σ x ≤ℤ loneWord t x
+  pub two : (x y : ℕ) → x / 2 ≡ j → In y → hasRule (pairWord t x y) ≡ true → (literalValue σ x +ℤ literalValue σ y) ≤ℤ pairWord t x y
+
 -- the integer of quantity j + 1 keeps its bounds with the literals In
 abbrev pub OwnOf : (ℕ → Type 0) → ℕ → List ℤ → Assignment → Type 0
 OwnOf In j t σ = Own In (literalValue σ) (pairWord t (2 * j)) (pairWord t (2 * j + 1)) (loneWord t (2 * j)) (loneWord t (2 * j + 1)) (σ (suc j))
@@ -43,19 +48,19 @@ OwnOf In j t σ = Own In (literalValue σ) (pairWord t (2 * j)) (pairWord t (2 *
 -- ---- from the rules of places to those of terms and back
 
 -- the rule of a place of one literal, or of two
-rule-one : (k : ℕ) (c : ℤ) → isOne k ≡ true → ruleAt k c ≡ One (higherAt k) c
+pub rule-one : (k : ℕ) (c : ℤ) → isOne k ≡ true → ruleAt k c ≡ One (higherAt k) c
 unfolding ruleAt
 rule-one k c e = rw e
 
-rule-two : (k : ℕ) (c : ℤ) → isOne k ≡ false → ruleAt k c ≡ Two (lowerAt k) (higherAt k) c
+pub rule-two : (k : ℕ) (c : ℤ) → isOne k ≡ false → ruleAt k c ≡ Two (lowerAt k) (higherAt k) c
 unfolding ruleAt
 rule-two k c e = rw e
 
 -- it bounds the literals there
-lone-met : (σ : Assignment) (x : ℕ) (c : ℤ) → Meets σ (ruleAt (placeOfOne x) c) → literalValue σ x ≤ℤ c
+pub lone-met : (σ : Assignment) (x : ℕ) (c : ℤ) → Meets σ (ruleAt (placeOfOne x) c) → literalValue σ x ≤ℤ c
 lone-met σ x c m = (rw (rule-one (placeOfOne x) c (one-isOne x), one-higher x) at m) .met
 
-pair-met : (σ : Assignment) (x y : ℕ) (c : ℤ) → x / 2 < y / 2 → Meets σ (ruleAt (placeOfPair x y) c) → (literalValue σ x +ℤ literalValue σ y) ≤ℤ c
+pub pair-met : (σ : Assignment) (x y : ℕ) (c : ℤ) → x / 2 < y / 2 → Meets σ (ruleAt (placeOfPair x y) c) → (literalValue σ x +ℤ literalValue σ y) ≤ℤ c
 pair-met σ x y c l m =
     (rw (rule-two (placeOfPair x y) c (pair-isOne x y l), pair-higher x y l, pair-lower x y l) at m) .met
 
@@ -102,14 +107,14 @@ met-place In t σ k m high low r = go (isOne k) refl
         (record { met = rw word at (m .two (lowerAt k) (higherAt k) (low e) high (rw word r)) })
 
 -- a place names quantity j + 1 exactly where one of its literals is of that quantity
-place-named : (j k : ℕ) (c : ℤ) → names (suc j) (ruleAt k c) ≡ false → (higherAt k / 2 ≡ j → ⊥) × (isOne k ≡ false → lowerAt k / 2 ≡ j → ⊥)
+pub place-named : (j k : ℕ) (c : ℤ) → names (suc j) (ruleAt k c) ≡ false → (higherAt k / 2 ≡ j → ⊥) × (isOne k ≡ false → lowerAt k / 2 ≡ j → ⊥)
 unfolding isOne lowerAt
 place-named j k c e = (
   λ h. clash (own-named j k c (omega (arith, higher-half k))) e,
   λ o h. clash (four-named j k c (omega (arith, ltb-false (offsetOf k) 2 o)) (omega (arith, ltb-false (offsetOf k) 2 o))) e,
 )
 
-place-unnamed : (j k : ℕ) (c : ℤ) → (higherAt k / 2 ≡ j → ⊥) → (isOne k ≡ false → lowerAt k / 2 ≡ j → ⊥) → names (suc j) (ruleAt k c) ≡ false
+pub place-unnamed : (j k : ℕ) (c : ℤ) → (higherAt k / 2 ≡ j → ⊥) → (isOne k ≡ false → lowerAt k / 2 ≡ j → ⊥) → names (suc j) (ruleAt k c) ≡ false
 unfolding isOne lowerAt
 place-unnamed j k c high low = not-named j k c (λ e. high (omega (arith, higher-half k))) (go (ltb (offsetOf k) 2) refl)
   where
@@ -181,15 +186,42 @@ own-minus σ j = value-minus σ (2 * j + 1) (omega arith) ∙ ap (λ (q : ℕ). 
 own-cases : (j x : ℕ) → x / 2 ≡ j → (x ≡ 2 * j) ⊎ (x ≡ 2 * j + 1)
 own-cases j x e = ⊎-elim (λ s. inl (omega arith)) (λ s. inr (omega arith)) (sign-cases x)
 
+-- the rules of its literals are met exactly where it keeps its bounds
+pub own-met : (In : ℕ → Type 0) (t : List ℤ) (σ : Assignment) (j : ℕ) → OwnMet In j t σ ↔ OwnOf In j t σ
+own-met In t σ j = (to, of)
+  where
+    to : OwnMet In j t σ → OwnOf In j t σ
+    to m = record {
+      with-plus = λ x i r. rw (+ℤ-comm (literalValue σ x) (σ (suc j)), ← own-plus σ j) (m .two (2 * j) x (omega arith) i r);
+      with-minus = λ x i r. rw (+ℤ-comm (literalValue σ x) (negℤ (σ (suc j))), ← own-minus σ j) (m .two (2 * j + 1) x (omega arith) i r);
+      plus-alone = λ r. rw (← own-plus σ j) (m .one (2 * j) (omega arith) r);
+      minus-alone = λ r. rw (← own-minus σ j) (m .one (2 * j + 1) (omega arith) r);
+    }
+
+    alone : OwnOf In j t σ → (x : ℕ) → (x ≡ 2 * j) ⊎ (x ≡ 2 * j + 1) → hasRule (loneWord t x) ≡ true → literalValue σ x ≤ℤ loneWord t x
+    alone o x (inl e) r = rw (e, own-plus σ j) (o .plus-alone (rw e at r))
+    alone o x (inr e) r = rw (e, own-minus σ j) (o .minus-alone (rw e at r))
+
+    across : OwnOf In j t σ → (x y : ℕ) → (x ≡ 2 * j) ⊎ (x ≡ 2 * j + 1) → In y → hasRule (pairWord t x y) ≡ true
+        → (literalValue σ x +ℤ literalValue σ y) ≤ℤ pairWord t x y
+    across o x y (inl e) k r =
+        rw (e, own-plus σ j, +ℤ-comm (σ (suc j)) (literalValue σ y)) (o .with-plus y k (rw e at r))
+    across o x y (inr e) k r =
+        rw (e, own-minus σ j, +ℤ-comm (negℤ (σ (suc j))) (literalValue σ y)) (o .with-minus y k (rw e at r))
+
+    of : OwnOf In j t σ → OwnMet In j t σ
+    of o = record { one = λ x e. alone o x (own-cases j x e); two = λ x y e. across o x y (own-cases j x e) }
+
 -- where all rules are met, the quantity keeps its bounds with the literals In
 pub met-own : (In All : ℕ → Type 0) (t : List ℤ) (σ : Assignment) (j : ℕ) → ((x : ℕ) → In x → All x) → All (2 * j) → All (2 * j + 1)
     → TermsMet All t σ → OwnOf In j t σ
-met-own In All t σ j some p q m = record {
-  with-plus = λ x i r. rw (+ℤ-comm (literalValue σ x) (σ (suc j)), ← own-plus σ j) (m .two (2 * j) x p (some x i) r);
-  with-minus = λ x i r. rw (+ℤ-comm (literalValue σ x) (negℤ (σ (suc j))), ← own-minus σ j) (m .two (2 * j + 1) x q (some x i) r);
-  plus-alone = λ r. rw (← own-plus σ j) (m .one (2 * j) p r);
-  minus-alone = λ r. rw (← own-minus σ j) (m .one (2 * j + 1) q r);
-}
+met-own In All t σ j some p q m =
+    own-met In t σ j .0
+    (record { one = λ x e. m .one x (own x (own-cases j x e)); two = λ x y e i. m .two x y (own x (own-cases j x e)) (some y i) })
+  where
+    own : (x : ℕ) → (x ≡ 2 * j) ⊎ (x ≡ 2 * j + 1) → All x
+    own x (inl e) = rw e p
+    own x (inr e) = rw e q
 
 -- where the rules on the other literals are met and the quantity keeps its bounds with those, all are met
 pub met-join : (In All : ℕ → Type 0) (t : List ℤ) (σ : Assignment) (j : ℕ) → ((x : ℕ) → All x → In x ⊎ (x / 2 ≡ j))
@@ -199,28 +231,20 @@ met-join In All t σ j split m o = record {
   two = λ x y a b r. two-of x y (split x a) (split y b) r;
 }
   where
-    alone : (x : ℕ) → (x ≡ 2 * j) ⊎ (x ≡ 2 * j + 1) → hasRule (loneWord t x) ≡ true → literalValue σ x ≤ℤ loneWord t x
-    alone x (inl e) r = rw (e, own-plus σ j) (o .plus-alone (rw e at r))
-    alone x (inr e) r = rw (e, own-minus σ j) (o .minus-alone (rw e at r))
-
-    across : (x y : ℕ) → (x ≡ 2 * j) ⊎ (x ≡ 2 * j + 1) → In y → hasRule (pairWord t x y) ≡ true
-        → (literalValue σ x +ℤ literalValue σ y) ≤ℤ pairWord t x y
-    across x y (inl e) k r =
-        rw (e, own-plus σ j, +ℤ-comm (σ (suc j)) (literalValue σ y)) (o .with-plus y k (rw e at r))
-    across x y (inr e) k r =
-        rw (e, own-minus σ j, +ℤ-comm (negℤ (σ (suc j))) (literalValue σ y)) (o .with-minus y k (rw e at r))
+    own : OwnMet In j t σ
+    own = own-met In t σ j .1 o
 
     one-of : (x : ℕ) → In x ⊎ (x / 2 ≡ j) → hasRule (loneWord t x) ≡ true → literalValue σ x ≤ℤ loneWord t x
     one-of x (inl i) r = m .one x i r
-    one-of x (inr e) r = alone x (own-cases j x e) r
+    one-of x (inr e) r = own .one x e r
 
     two-of : (x y : ℕ) → In x ⊎ (x / 2 ≡ j) → In y ⊎ (y / 2 ≡ j) → hasRule (pairWord t x y) ≡ true
         → (literalValue σ x +ℤ literalValue σ y) ≤ℤ pairWord t x y
     two-of x y (inl i) (inl k) r = m .two x y i k r
-    two-of x y (inr e) (inl k) r = across x y (own-cases j x e) k r
+    two-of x y (inr e) (inl k) r = own .two x y e k r
     two-of x y (inl i) (inr f) r =
         rw (+ℤ-comm (literalValue σ x) (literalValue σ y), pair-sym t x y)
-        (across y x (own-cases j y f) i (rw (pair-sym t x y) at r))
+        (own .two y x f i (rw (pair-sym t x y) at r))
     two-of x y (inr e) (inr f) r = clash r (pair-none t x y (e ∙ sym f))
 
 -- ---- other assignments and other tables

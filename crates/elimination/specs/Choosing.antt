@@ -1,5 +1,6 @@
 -- How a value is chosen for a quantity, which document 01 leaves free ('Finding an assignment'): the integer nearest to 0, where its rules leave one.
--- Its rules with + bound it from above; those with - bound its negation from above, and so it from below.
+-- Its rules with + bound it from above; those with - bound its negation from above, and so it from below. Feasible.antt says which integers the rules
+-- leave, apart from these steps; that the value is the nearest to 0 of them is promised where one is chosen.
 use mathlib.Core.Bool.{cond}
 use mathlib.Core.List.{List}
 use Prim.Native.Nat.{ℕ, zero, suc, _+_, _-_, _*_, _/_}
@@ -23,7 +24,7 @@ withUppers value row first (suc count) v = withUpper (row (first + count)) (valu
 unfoldable pub boundedBy : (ℕ → ℤ) → (ℕ → ℤ) → ℤ → ℕ → ℕ → ℤ → ℤ
 boundedBy value row alone first count v = withUppers value row first count (withUpper alone (pos 0) v)
 
--- the integer nearest to 0 that the bounds of q and of -q leave: with x by `plus x` and `minus x`, alone by p and m
+-- the integer nearest to 0 that the bounds of q and of -q leave, where they leave one: with x by `plus x` and `minus x`, alone by p and m
 unfoldable pub chosen : (ℕ → ℤ) → (ℕ → ℤ) → (ℕ → ℤ) → ℤ → ℤ → ℕ → ℕ → ℤ
 chosen value plus minus p m first count =
     negℤ (boundedBy value minus m first count (negℤ (boundedBy value plus p first count (pos 0))))

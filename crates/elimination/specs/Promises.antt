@@ -5,7 +5,7 @@ use mathlib.Core.Logic.{_↔_}
 use mathlib.Core.List.{List}
 use lib.Dec.{eqb}
 use Prim.Native.Nat.{ℕ, suc, _+_, _*_, _≤_, _<_}
-use lib.IntN.{ℤ, pos}
+use lib.IntN.{ℤ, pos, natAbs}
 use lib.ListN.{length}
 use Rattle.integers.specs.Bound.{Within}
 use Rattle.words.specs.Change.{wordAt, change, startingAt}
@@ -13,9 +13,11 @@ use Rattle.places.specs.Numbering.{blockStart}
 use Rattle.rules.specs.Limits.{maxQuantities}
 use Rattle.rules.specs.Meaning.{Assignment}
 use Rattle.tables.specs.Tables.{hasRule}
-use Rattle.tables.specs.Meaning.{Satisfies, Unsatisfiable, SheetAllows, WordsWithin}
+use Rattle.tables.specs.Meaning.{Satisfies, Unsatisfiable, SheetAllows, WordsWithin, assignmentOf}
 use Rattle.elimination.specs.Hiding.{pairing, paired, contradicts, eliminated}
 use Rattle.elimination.specs.ByRules.{HiddenByRules}
+use Rattle.elimination.specs.Choosing.{choice}
+use Rattle.elimination.specs.Feasible.{Feasible}
 use Rattle.elimination.specs.Rows.{gathering}
 use Rattle.elimination.specs.Magnitude.{addLimit, valueLimit}
 
@@ -102,3 +104,10 @@ pub record QuantityHidden (n j : ℕ) (before : List ℤ) (r : Bool) (after : Li
   pub growth : (B : ℕ) → WordsWithin (blockStart n) (pos B) before → WordsWithin (blockStart n) (pos (B + B)) after
   pub meaning : r ≡ false → (σ : Assignment) → Satisfies n after σ ↔ SheetAllows (eqb (suc j)) (Satisfies n before) σ
   pub none : r ≡ true → Unsatisfiable n before
+
+-- the value r chosen for quantity j + 1, given those of later ones. Where the quantity's rules, alone and with later ones, leave it any integer v, they
+-- leave it r, and r is at least as near to 0 as v
+pub record Chosen (n j : ℕ) (table values : List ℤ) (r : ℤ) : Type 0 where
+  pub reply : r ≡ choice n table j values
+  pub meaning : (v : ℤ) → Feasible n j table (assignmentOf values) v → Feasible n j table (assignmentOf values) r
+  pub nearest : (v : ℤ) → Feasible n j table (assignmentOf values) v → natAbs r ≤ natAbs v

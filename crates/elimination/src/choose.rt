@@ -7,8 +7,8 @@ ghost use lib.ListN.{length};
 ghost use Rattle.words.specs.Change.{wordAt};
 ghost use Rattle.rules.specs.Meaning.{literalValue};
 ghost use Rattle.tables.specs.Meaning.{assignmentOf};
-ghost use Rattle.elimination.specs.Choosing.{withUpper, boundedIn, choice};
-ghost use Rattle.elimination.specs.Promises.{Addable, Choosable, Valued, Ready};
+ghost use Rattle.elimination.specs.Choosing.{withUpper, boundedIn};
+ghost use Rattle.elimination.specs.Promises.{Addable, Choosable, Valued, Ready, Chosen};
 
 // The value of the literal `x`.
 fn literal_value(values: &[i64], x: usize) -> i64
@@ -54,7 +54,7 @@ fn bounded_by(n: usize, table: &[i64], values: &[i64], z: usize, v: i64) -> i64
 // The integer nearest to 0 that the rules of quantity `j + 1`, alone and with later ones, leave, where they leave one.
 pub fn choose(n: usize, table: &[i64], values: &[i64], j: usize) -> i64
     requires { ⌜ Ready n j (now table) × Valued n j (now values) ⌝ }
-    ensures { λ r. ⌜ r ≡ choice n (now (table .entry)) j (now (values .entry)) ⌝ }
+    ensures { λ r. ⌜ Chosen n j (now (table .entry)) (now (values .entry)) r ⌝ }
 {
     let above = bounded_by(n, table, values, 2 * j, 0);
     let below = bounded_by(n, table, values, 2 * j + 1, 0 - above);

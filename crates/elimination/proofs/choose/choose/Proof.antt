@@ -17,6 +17,7 @@ use Rattle.elimination.specs.Hiding.{pairWord, loneWord}
 use Rattle.elimination.specs.Magnitude.{addLimit}
 use Rattle.elimination.specs.Choosing.{boundedBy, chosen, choice}
 use Rattle.elimination.specs.Promises.{Ready, Valued}
+use Rattle.elimination.proofs.Feasible.{choice-chosen}
 use Rattle.elimination.proofs.Projection.{bounded-within}
 use Rattle.elimination.proofs.TermWords.{lone-within, pair-within}
 use Rattle.elimination.proofs.Values.{literal-within, zero-less, zero-less-word}
@@ -98,11 +99,18 @@ bounded-by-requires-2 c κs = rw (odd (c .before .args .j)) (c .before .pre)
 sub-result : tie.Need-sub-result
 sub-result c = rw (below-value c) (zero-less-word (omega arith) (below-small (c .before .before)))
 
-returns : tie.Need-returns
+-- so the reply is the choice
+reply : (c : tie.After-bounded-by2) → let s = c .before .before in
+    toZ w64 (ofZ w64 (pos 0 +ℤ negℤ (toZ w64 (ofZ w64 (c .bounded-by2 .result)))))
+    ≡ choice (s .args .n) (now (s .args .table)) (s .args .j) (now (s .args .values))
 unfolding choice chosen
-returns c = let s = c .before .before in
+reply c = let s = c .before .before in
     ap (λ (z : ℤ). toZ w64 (ofZ w64 (pos 0 +ℤ negℤ z))) (below-value c)
     ∙ word-value (zero-less-word (omega arith) (below-small s)) ∙ zero-less (below s)
+
+returns : tie.Need-returns
+returns c = let s = c .before .before in
+    choice-chosen (s .args .n) (s .args .j) (now (s .args .table)) (now (s .args .values)) _ (s .pre .0) (reply c)
 
 pub choose-spec : {M : Type 1} → statement M
 choose-spec =

@@ -50,7 +50,7 @@ loop-again c =
       rw (length-set) (l .inv .1),
       rw (held-value (c .choose .ok))
           (fill-more (s .args .n) (l .j) (now (s .args .table)) (now (s .args .values)) (l .values) _ (omega arith) (l .inv .0) (l .inv .2)
-          (c .choose .ensures)),
+          (c .choose .ensures .reply)),
     )
 
 same-length : tie.Need-same-length Inv-loop μ-loop

@@ -1,33 +1,21 @@
 -- The exported functions' contracts, from those of the calls. Assumes nothing.
 use mathlib.Core.Path.{_≡_, refl, sym, ap, _∙_}
-use mathlib.Core.Logic.{_↔_, _⊎_, inl, inr}
+use mathlib.Core.Logic.{_↔_}
 use mathlib.Core.List.{List}
-use Prim.Native.Nat.{ℕ, _≤_, _<_}
+use Prim.Native.Nat.{ℕ, _<_}
 use native.Mathlib.Omega.{arith}
 use lib.IntN.{ℤ}
-use lib.ListN.{length}
-use Rattle.places.specs.Numbering.{blockStart}
 use Rattle.tables.specs.declared.reply.Reply.{Reply}
 use Rattle.tables.specs.Tables.{replyNumber, replyValue}
 use Rattle.keys.specs.Promises.{Keyed, Assigned}
 use Rattle.rules.specs.declared.refusal.Refusal.{Refusal}
-use Rattle.rules.specs.declared.refusal.Refusal.the-variants.{Size, Malformed, OutOfLimit, Cancelling, NoAssignment, TooShort, Mismatch}
-use Rattle.rules.specs.Limits.{maxQuantities}
-use Rattle.rules.specs.Refusal.{refusalNumber}
-use Rattle.tables.proofs.Sizes.{small-start}
 use Rattle.marking.specs.declared.verdict.Verdict.the-variants.{Equal, Loose, Tight}
-use Rattle.reading.specs.Texts.{Contents}
-use Rattle.reading.specs.Meaning.{FailsFor}
-use Rattle.scripts.specs.declared.reply.Subject.{Subject}
-use Rattle.scripts.specs.declared.reply.Subject.the-variants.{Sheet, Script, Both}
 use Rattle.scripts.specs.declared.reply.TextMarking.{TextMarking}
 use Rattle.scripts.specs.declared.reply.TextMarking.the-variants.{Marked}
 use Rattle.scripts.specs.declared.reply.TextMarking.the-variants.{Refused as NotMarked}
 use Rattle.scripts.specs.Replies.{textNumber}
-use Rattle.scripts.specs.Meaning.{Matches, Room, ShortIn, RefusedPair}
-use Rattle.scripts.specs.Marking.{lentTable, lentWorkspace}
-use Rattle.scripts.specs.Promises.{TextsJudged, TextsMarked}
-use Rattle.scripts.proofs.Sheets.{fine-sheet}
+use Rattle.scripts.specs.Marking.{ownLengths}
+use Rattle.scripts.specs.Promises.{TextsJudged, MarkedInOwnRoom}
 use Rattle.reading.specs.declared.read.Reading.{Reading}
 use Rattle.reading.specs.declared.read.Reading.the-variants.{Accepted, Refused}
 use Rattle.reading.specs.Reading.{readingNumber, readingValue}
@@ -75,68 +63,26 @@ read-accepted s t t' n set n' set' reply v k q d =
 
 -- ---- marking
 
--- a text is refused by itself with no 5 and no 6
-own-number : (s : List ℕ) (f : Refusal) → FailsFor s f → ((refusalNumber f ≡ 5) → ⊥) × ((refusalNumber f ≡ 6) → ⊥)
-own-number s Size a = (λ e. omega arith, λ e. omega arith)
-own-number s (Malformed l) a = (λ e. omega arith, λ e. omega arith)
-own-number s (OutOfLimit l) a = (λ e. omega arith, λ e. omega arith)
-own-number s (Cancelling l) a = (λ e. omega arith, λ e. omega arith)
-own-number s NoAssignment a = absurd a
-own-number s (TooShort m) a = absurd a
-own-number s Mismatch a = absurd a
-
--- what is lent for the largest n is long enough for every sheet
-never-short : (n : ℕ) (f : Refusal) → n ≤ maxQuantities → ShortIn n lentTable lentTable lentWorkspace maxQuantities f → ⊥
-unfolding blockStart
-never-short n f h (inl p) = omega (arith, small-start n h, p .0)
-never-short n f h (inr (inl p)) = omega (arith, small-start n h, p .1)
-never-short n f h (inr (inr (inl p))) = omega (arith, small-start n h, p .2)
-never-short n f h (inr (inr (inr p))) = omega (arith, p .3)
-
--- so two texts are refused by themselves, or by 7
-never-refused : (sheet script : List ℕ) (p : Subject) (f : Refusal) → RefusedPair sheet script lentTable lentTable lentWorkspace maxQuantities p f
-    → ((refusalNumber f ≡ 5) → ⊥) × ((refusalNumber f ≡ 6) → ⊥)
-never-refused sheet script Sheet f a = own-number sheet f a
-never-refused sheet script Script f a = own-number script f (a .1)
-never-refused sheet script Both f a = go (a .fails)
-  where
-    c : Contents
-    c = a .of-sheet
-
-    go : ShortIn (c .count) lentTable lentTable lentWorkspace maxQuantities f
-        ⊎ (Room (c .count) lentTable lentTable lentWorkspace maxQuantities × (Matches c (a .of-script) → ⊥) × (f ≡ Mismatch))
-        → ((refusalNumber f ≡ 5) → ⊥) × ((refusalNumber f ≡ 6) → ⊥)
-    go (inl b) = absurd (never-short (c .count) f (fine-sheet c (a .sheet-reads .spelled .fine) .most) b)
-    go (inr b) = rw (b .2) (λ e. omega arith, λ e. omega arith)
-
--- neither is a verdict's number one of these
-never-number : (sheet script : List ℕ) (r : TextMarking) → TextsJudged sheet script lentTable lentTable lentWorkspace maxQuantities r
-    → ((textNumber r ≡ 5) → ⊥) × ((textNumber r ≡ 6) → ⊥)
-never-number sheet script (Marked n Equal) j = (λ e. omega arith, λ e. omega arith)
-never-number sheet script (Marked n (Loose rule)) j = (λ e. omega arith, λ e. omega arith)
-never-number sheet script (Marked n (Tight rule)) j = (λ e. omega arith, λ e. omega arith)
-never-number sheet script (NotMarked p f) j = never-refused sheet script p f (j .refused p f .0 (refl, refl, refl))
-
 -- a reply's number below 100 is a refusal's
-refused-number : (sheet script : List ℕ) (r : TextMarking) → TextsJudged sheet script lentTable lentTable lentWorkspace maxQuantities r
+refused-number : (sheet script : List ℕ) (r : TextMarking) → TextsJudged sheet script ownLengths r
     → (k : ℕ) → k < 100 → (textNumber r ≡ k) ↔ RefusedWith sheet script k
 refused-number sheet script r j k h = (told r j, λ w. j .refused (w .paper) (w .refusal) .1 (w .reason) .0 ∙ sym (w .number))
   where
-    told : (x : TextMarking) → TextsJudged sheet script lentTable lentTable lentWorkspace maxQuantities x → textNumber x ≡ k → RefusedWith sheet script k
+    told : (x : TextMarking) → TextsJudged sheet script ownLengths x → textNumber x ≡ k → RefusedWith sheet script k
     told (Marked n Equal) i e = absurd (omega arith)
     told (Marked n (Loose rule)) i e = absurd (omega arith)
     told (Marked n (Tight rule)) i e = absurd (omega arith)
     told (NotMarked p f) i e = record { paper = p; refusal = f; reason = i .refused p f .0 (refl, refl, refl); number = sym e }
 
--- the number of a reply that was given with so much lent
-pub mark-answer : (sheet script : List ℕ) (a b w v a' b' w' v' : List ℤ) (reply : TextMarking) (r : ℕ) → TextsMarked sheet script a b w v reply a' b' w' v'
-    → length a ≡ lentTable → length b ≡ lentTable → length w ≡ lentWorkspace → length v ≡ maxQuantities → r ≡ textNumber reply → MarkAnswer sheet script r
-mark-answer sheet script a b w v a' b' w' v' reply r m la lb lw lv e =
-    let j : TextsJudged sheet script lentTable lentTable lentWorkspace maxQuantities reply = rw (la, lb, lw, lv) at (m .judged) in
+-- the number of a reply
+pub mark-answer : (sheet script : List ℕ) (values values' : List ℤ) (reply : TextMarking) (r : ℕ) → MarkedInOwnRoom sheet script values reply values'
+    → r ≡ textNumber reply → MarkAnswer sheet script r
+mark-answer sheet script values values' reply r m e =
+    let j = m .judged in
     record {
       number = e ∙ ap textNumber (j .reply);
       refused = rw e (refused-number sheet script reply j);
       judged = rw (j .reply) at j;
       demand = rw e (j .demand);
-      never = rw e (never-number sheet script reply j);
+      never = rw e (m .never);
     }

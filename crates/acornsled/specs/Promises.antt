@@ -7,7 +7,6 @@ use lib.IntN.{ℤ}
 use lib.ListN.{length}
 use Rattle.rules.specs.declared.refusal.Refusal.{Refusal}
 use Rattle.rules.specs.Hidden.{hiddenIn}
-use Rattle.rules.specs.Limits.{maxQuantities}
 use Rattle.rules.specs.Refusal.{refusalNumber}
 use Rattle.tables.specs.Tables.{replyNumber, replyValue}
 use Rattle.keys.specs.Keys.{keyReply, assignmentReply}
@@ -23,7 +22,7 @@ use Rattle.writing.specs.Promises.{TextWritten}
 use Rattle.scripts.specs.declared.reply.Subject.{Subject}
 use Rattle.scripts.specs.Replies.{textNumber}
 use Rattle.scripts.specs.Meaning.{setIn, AcceptedPair, RefusedPair}
-use Rattle.scripts.specs.Marking.{textsReply, lentTable, lentWorkspace}
+use Rattle.scripts.specs.Marking.{textsReply, ownLengths}
 use Rattle.scripts.specs.Promises.{TextsJudged}
 
 -- n or the hidden set after reading: that of the text where it is accepted, else as it was
@@ -65,17 +64,17 @@ pub record AssignmentAnswer (n : ℕ) (table workspace values : List ℤ) (r v :
 pub record RefusedWith (sheet script : List ℕ) (k : ℕ) : Type 0 where
   pub paper : Subject
   pub refusal : Refusal
-  pub reason : RefusedPair sheet script lentTable lentTable lentWorkspace maxQuantities paper refusal
+  pub reason : RefusedPair sheet script ownLengths paper refusal
   pub number : k ≡ refusalNumber refusal
 
 -- marking two texts, for the exam host: its number r is that of the reply with room enough lent, a verdict's or a refusal's
 pub record MarkAnswer (sheet script : List ℕ) (r : ℕ) : Type 0 where
-  pub number : r ≡ textNumber (textsReply sheet script lentTable lentTable lentWorkspace maxQuantities)
+  pub number : r ≡ textNumber (textsReply sheet script ownLengths)
   -- a refusal's number exactly for these reasons, and a verdict's by demand 3, of the rules as written
   pub refused : (k : ℕ) → k < 100 → (r ≡ k) ↔ RefusedWith sheet script k
-  pub demand : (t : AcceptedPair sheet script lentTable lentTable lentWorkspace maxQuantities)
+  pub demand : (t : AcceptedPair sheet script ownLengths)
       → ByDemand (hiddenIn (setIn (t .of-sheet))) (rulesOf (t .of-sheet)) (rulesOf (t .of-script)) r
   -- there is room for every sheet, so 6 does not come, and 5 is no reply of marking
   pub never : ((r ≡ 5) → ⊥) × ((r ≡ 6) → ⊥)
   -- what the reply promises beside
-  pub judged : TextsJudged sheet script lentTable lentTable lentWorkspace maxQuantities (textsReply sheet script lentTable lentTable lentWorkspace maxQuantities)
+  pub judged : TextsJudged sheet script ownLengths (textsReply sheet script ownLengths)

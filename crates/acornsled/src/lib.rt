@@ -3,8 +3,7 @@
 // length in elements, words or bytes. The host passes true lengths, and no slice overlaps another.
 use reading::read::Reading;
 use rules::sheet::Sheet;
-use scripts::texts;
-use tables::table;
+use scripts::own;
 ghost use Rattle.acornsled.specs.Promises.{ReadAnswer, WriteAnswer, KeyAnswer, AssignmentAnswer, MarkAnswer};
 
 // Reads a text: where it answers 0, the table's first 2n² words hold its rules, and n and the hidden set are written to `quantities` and `hidden`.
@@ -80,23 +79,13 @@ pub extern "C" fn acornsled_assignment(
     reply.number()
 }
 
-// Marks the text of a script against the text of a sheet: 100 for equal, 101 for loose, 102 for tight, or the refusal's number. What marking needs beside the texts
-// is lent here, on the stack.
+// Marks the text of a script against the text of a sheet: 100 for equal, 101 for loose, 102 for tight, or the refusal's number. The assignment that shows a
+// verdict is dropped.
 #[no_mangle]
 pub extern "C" fn acornsled_mark(sheet: &[u8], script: &[u8]) -> u32
     ensures { λ r. ⌜ MarkAnswer (now (sheet .entry)) (now (script .entry)) r ⌝ }
 {
-    let mut sheet_table = [0; table::LARGEST];
-    let mut script_table = [0; table::LARGEST];
-    let mut workspace = [0; 2 * table::LARGEST];
     let mut values = [0; Sheet::MAX_QUANTITIES];
-    let marking = texts::mark_texts(
-        sheet,
-        script,
-        &mut sheet_table,
-        &mut script_table,
-        &mut workspace,
-        &mut values,
-    );
+    let marking = own::mark_in_own_room(sheet, script, &mut values);
     marking.number()
 }

@@ -14,9 +14,8 @@ use Rattle.tables.specs.Tables.{tableSize}
 use Rattle.lines.specs.Lines.{accepted}
 use Rattle.reading.specs.declared.check.Checked.{Checked}
 use Rattle.reading.specs.declared.check.Checked.the-variants.{Refused as Failed}
-use Rattle.reading.specs.declared.read.Reading.{Reading}
 use Rattle.reading.specs.declared.read.Reading.the-variants.{Accepted, Refused}
-use Rattle.reading.specs.Reading.{checkText, checkedOf, refusedBy, replyTo, readReply, filled, readTable}
+use Rattle.reading.specs.Reading.{checkText, checkedOf, replyTo, readReply, filled, readTable}
 use Rattle.reading.specs.Promises.{ReadInto}
 use Rattle.reading.proofs.Means.{spelled-check}
 use Rattle.reading.proofs.Passing.{Sheeted, failed-refused}
@@ -24,10 +23,9 @@ use Rattle.reading.proofs.Promised.{reading-kept, read-promised}
 use Rattle.reading.proofs.Headers.{passed-opened}
 
 -- the text is refused
-pub read-refused : (s : List ℕ) (t : List ℤ) (r : Checked) (f : Refusal) (a : Reading) → r ≡ checkedOf (checkText s) → r ≡ Failed f → a ≡ refusedBy r
-    → ReadInto s t a t
+pub read-refused : (s : List ℕ) (t : List ℤ) (r : Checked) (f : Refusal) → r ≡ checkedOf (checkText s) → r ≡ Failed f → ReadInto s t (Refused f) t
 unfolding readReply replyTo readTable
-read-refused s t r f a e q d = read-promised s t a t (rw (d, q, failed-refused s r f e q)) (rw (failed-refused s r f e q))
+read-refused s t r f e q = read-promised s t (Refused f) t (rw (failed-refused s r f e q)) (rw (failed-refused s r f e q))
 
 module _ (s : List ℕ) (n set m body needed : ℕ) (p : Sheeted s n set m body) (k : needed ≡ tableSize n) where
   -- the text is accepted

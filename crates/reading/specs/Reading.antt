@@ -59,11 +59,6 @@ checkedRules n set m body (refused r) = Failed r
 
 -- ---- into a table
 
--- the refusal of a text that did not pass; one that did has none of its own
-abbrev pub refusedBy : Checked → Reading
-refusedBy (Passed n set m body) = Refused Size
-refusedBy (Failed r) = Refused r
-
 -- the reply of reading into a table of so many words: the last check is its length
 unfoldable pub replyTo : ℕ → Judged Contents → Reading
 replyTo words (accepted c u) =

@@ -5,7 +5,7 @@ use crate::fill;
 use rules::refusal;
 use rules::refusal::Refusal;
 ghost use mathlib.Core.Path.{_≡_};
-ghost use Rattle.reading.specs.Reading.{refusedBy, readingNumber, readingValue};
+ghost use Rattle.reading.specs.Reading.{readingNumber, readingValue};
 ghost use Rattle.reading.specs.Promises.{ReadInto};
 
 pub enum Reading {
@@ -42,43 +42,26 @@ impl Reading {
     }
 }
 
-// The refusal of a text that did not pass; 1 where it did, which no caller asks.
-fn refused(checked: Checked) -> Reading
-    ensures { λ r. ⌜ r ≡ refusedBy checked ⌝ }
-{
-    match checked {
-        Checked::Passed {
-            quantities: _,
-            hidden: _,
-            rules: _,
-            body: _,
-        } => Reading::Refused {
-            refusal: Refusal::Size,
-        },
-        Checked::Refused { refusal } => Reading::Refused { refusal },
-    }
-}
-
 // Reads a text into the first 2n² words of a table: the text is checked first, and last that the table is long enough.
 pub fn read(s: &[u8], table: &mut [i64]) -> Reading
     ensures { λ r. ⌜ ReadInto (now (s .entry)) (now (table .entry)) r (now (table .exit)) ⌝ }
 {
-    let checked = check::check(s);
-    let Checked::Passed {
-        quantities,
-        hidden,
-        rules,
-        body,
-    } = checked
-    else {
-        return refused(checked);
-    };
-    let needed = tables::table::size(quantities);
-    if table.len() < needed {
-        return Reading::Refused {
-            refusal: Refusal::TooShort { needed },
-        };
+    match check::check(s) {
+        Checked::Refused { refusal } => Reading::Refused { refusal },
+        Checked::Passed {
+            quantities,
+            hidden,
+            rules,
+            body,
+        } => {
+            let needed = tables::table::size(quantities);
+            if table.len() < needed {
+                return Reading::Refused {
+                    refusal: Refusal::TooShort { needed },
+                };
+            }
+            fill::fill(s, quantities, rules, body, table);
+            Reading::Accepted { quantities, hidden }
+        }
     }
-    fill::fill(s, quantities, rules, body, table);
-    Reading::Accepted { quantities, hidden }
 }

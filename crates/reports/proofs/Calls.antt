@@ -26,7 +26,7 @@ use Rattle.writing.specs.declared.write.Writing.the-variants.{Text}
 use Rattle.writing.specs.declared.write.Writing.the-variants.{Refused as Writing·Refused}
 use Rattle.writing.specs.Writing.{writtenText, written}
 use Rattle.writing.specs.Promises.{maxWritten, TextWritten}
-use Rattle.writing.proofs.Promised.{reply-text, text-same}
+use Rattle.writing.proofs.Promised.{reply-text, refused-text, text-same}
 use Rattle.reports.specs.Refusals.{refusalText}
 use Rattle.reports.specs.Reports.{tableReport}
 use Rattle.reports.specs.Promises.{SheetTable}
@@ -34,10 +34,6 @@ use Rattle.scripts.proofs.Sheets.{fine-sheet, key-checks, key-length}
 use Rattle.reports.proofs.Reports.{table-length}
 
 -- ---- the writer, where it can write
-
--- a text and a refusal are two replies
-text-refused : {m : ℕ} {f : Refusal} → Text m ≡ Writing·Refused f → ⊥
-text-refused e = let z : _≡_ {A = ℕ} 0 1 = cc in omega arith
 
 -- a table written where it serves, its hidden set is in its range, and the output has room
 module _ {n set : ℕ} {t : List ℤ} {out : List ℕ} {r : Writing} {out' : List ℕ} (w : TextWritten n set t out r out')
@@ -48,7 +44,7 @@ module _ {n set : ℕ} {t : List ℤ} {out : List ℕ} {r : Writing} {out' : Lis
 
   -- it is not refused
   pub never-refused : (f : Refusal) → r ≡ Writing·Refused f → ⊥
-  never-refused f e = text-refused (sym replied ∙ e)
+  never-refused f e = refused-text (sym e ∙ replied)
 
   -- its text stands at the start
   pub text-spliced : (m : ℕ) → r ≡ Text m → Spliced out 0 (writtenText n set t) m out'

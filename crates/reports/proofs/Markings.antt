@@ -1,4 +1,4 @@
--- What marking two texts with what *mark* lends tells of the bytes printed: there is room for them, and they are the contract's. Assumes nothing.
+-- What marking two texts tells of the bytes that *mark* prints: there is room for them, and they are the contract's. Assumes nothing.
 use mathlib.Core.Path.{_≡_, refl, sym, _∙_, ap, subst}
 use mathlib.Core.Bool.{false}
 use mathlib.Core.List.{List, [], _∷_, _++_}
@@ -26,14 +26,15 @@ use Rattle.marking.specs.Verdicts.{verdictNumber, verdictValues, hasTerm, integ
 use Rattle.marking.specs.Meaning.{LooseRule, TightRule, ValuesWithin}
 use Rattle.reading.specs.Texts.{Contents}
 use Rattle.writing.specs.Writing.{ruleLineText}
+use Rattle.scripts.specs.declared.room.Lengths.{Lengths}
 use Rattle.scripts.specs.declared.reply.Subject.{Subject}
 use Rattle.scripts.specs.declared.reply.Subject.the-variants.{Sheet as OfSheet, Script as OfScript, Both as OfBoth}
 use Rattle.scripts.specs.declared.reply.TextMarking.{TextMarking}
 use Rattle.scripts.specs.declared.reply.TextMarking.the-variants.{Marked, Refused}
 use Rattle.scripts.specs.Replies.{textNumber, textValues, textSubjects, TextReturned, isTextMarked, textCounts}
 use Rattle.scripts.specs.Meaning.{setIn, tableIn, AcceptedPair, ShortIn, RefusedPair}
-use Rattle.scripts.specs.Marking.{lentTable, lentWorkspace}
-use Rattle.scripts.specs.Promises.{TextsJudged, TextsShown, TextsMarked}
+use Rattle.scripts.specs.Marking.{ownLengths}
+use Rattle.scripts.specs.Promises.{MarkedInOwnRoom}
 use Rattle.scripts.proofs.Sheets.{Sheet, fine-sheet, key-bounds}
 use Rattle.reports.specs.Refusals.{lineOf}
 use Rattle.reports.specs.Marks.{verdictKey, wordText, shownText, verdictName, carriedText, verdictText, refusedMarkText, markText}
@@ -44,23 +45,6 @@ use Rattle.reports.proofs.Marks.{word-length, values-short, shown-lengt
 -- the bytes of the output that *mark* lends, `ROOM`: the proof of `print_mark` finds no room where that is less
 abbrev markRoom : ℕ
 markRoom = 1024
-
--- ---- two texts marked with what *mark* lends
-
--- the reply and the assignment of two texts, with tables, workspace and assignment for the largest n
-pub record LentMarked (sheet script : List ℕ) (r : TextMarking) (values : List ℤ) : Type 0 where
-  pub judged : TextsJudged sheet script lentTable lentTable lentWorkspace maxQuantities r
-  pub shown : TextsShown sheet script lentTable lentTable lentWorkspace maxQuantities r values
-  pub size : length values ≡ maxQuantities
-
--- marking with lists of these lengths gives them
-pub lent-marked : {sheet script : List ℕ} {a b w v : List ℤ} {r : TextMarking} {a' b' w' v' : List ℤ} → TextsMarked sheet script a b w v r a' b' w' v'
-    → length a ≡ lentTable → length b ≡ lentTable → length w ≡ lentWorkspace → length v ≡ maxQuantities → LentMarked sheet script r v'
-lent-marked m e f g h = record {
-  judged = rw (e, f, g, h) at (m .judged);
-  shown = rw (e, f, g, h) at (m .shown);
-  size = m .written .size ∙ h;
-}
 
 -- ---- how long a verdict is at most
 
@@ -98,16 +82,16 @@ first-line (Tight r) = word-length verdictKey (verdictName (Tight r))
 -- ---- the line of a refusal
 
 -- a refusal for what is lent names no line
-short-line : (n a b w v : ℕ) (f : Refusal) → ShortIn n a b w v f → lineOf f ≡ 0
-short-line n a b w v f =
+short-line : (n : ℕ) (lent : Lengths) (f : Refusal) → ShortIn n lent f → lineOf f ≡ 0
+short-line n lent f =
     ⊎-elim (λ x. ap lineOf (x .1)) (⊎-elim (λ x. ap lineOf (x .2)) (⊎-elim (λ x. ap lineOf (x .3)) (λ x. ap lineOf (x .4))))
 
 -- a refusal names a line of a text, which has at most this number, or none
-refusal-line : (sheet script : List ℕ) (a b w v : ℕ) (p : Subject) (f : Refusal) → RefusedPair sheet script a b w v p f → lineOf f ≤ maxRules + 4
-refusal-line sheet script a b w v OfSheet f h = refused-line sheet f h
-refusal-line sheet script a b w v OfScript f h = refused-line script f (h .1)
-refusal-line sheet script a b w v OfBoth f h =
-    let none : lineOf f ≡ 0 = ⊎-elim (short-line (h .of-sheet .count) a b w v f) (λ x. ap lineOf (x .2)) (h .fails) in
+refusal-line : (sheet script : List ℕ) (lent : Lengths) (p : Subject) (f : Refusal) → RefusedPair sheet script lent p f → lineOf f ≤ maxRules + 4
+refusal-line sheet script lent OfSheet f h = refused-line sheet f h
+refusal-line sheet script lent OfScript f h = refused-line script f (h .1)
+refusal-line sheet script lent OfBoth f h =
+    let none : lineOf f ≡ 0 = ⊎-elim (short-line (h .of-sheet .count) lent f) (λ x. ap lineOf (x .2)) (h .fails) in
     omega arith
 
 -- ---- the number, the values and the paper by which a reply is returned
@@ -123,13 +107,13 @@ refusal-returned e = (ap textNumber e, ap textValues e, ap textSubjects e)
 
 -- ---- room for what is printed, and the contract
 
-module _ {sheet script : List ℕ} {r : TextMarking} {values : List ℤ} (m : LentMarked sheet script r values) where
+module _ {sheet script : List ℕ} {before : List ℤ} {r : TextMarking} {values : List ℤ} (m : MarkedInOwnRoom sheet script before r values) where
   -- both texts are accepted
-  both-accepted : (n : ℕ) (v : Verdict) → r ≡ Marked n v → AcceptedPair sheet script lentTable lentTable lentWorkspace maxQuantities
+  both-accepted : (n : ℕ) (v : Verdict) → r ≡ Marked n v → AcceptedPair sheet script ownLengths
   both-accepted n v e = m .judged .accepted .0 (ap isTextMarked e)
 
   -- the n beside a verdict is the sheet's
-  counted : {n : ℕ} {v : Verdict} (t : AcceptedPair sheet script lentTable lentTable lentWorkspace maxQuantities) → r ≡ Marked n v → n ≡ t .of-sheet .count
+  counted : {n : ℕ} {v : Verdict} (t : AcceptedPair sheet script ownLengths) → r ≡ Marked n v → n ≡ t .of-sheet .count
   counted t e = let c = m .judged .counts t in let d = ap textCounts e in cc
 
   -- what follows the first line of a verdict has at most 713 bytes
@@ -150,16 +134,17 @@ module _ {sheet script : List ℕ} {r : TextMarking} {values : List ℤ} (m : Le
       rw q (shown-short (t .of-sheet .count) rule values (s .most) line (m .shown .tight-shown t rule (verdict-returned e) .range))
 
   -- a verdict's n is no more than the words of the assignment, and there is room for its text
-  pub verdict-room : (n : ℕ) (v : Verdict) → r ≡ Marked n v → (n ≤ length values) × (length (verdictText v (take n values)) ≤ markRoom)
-  verdict-room n v e =
+  pub verdict-room : length before ≡ maxQuantities → (n : ℕ) (v : Verdict) → r ≡ Marked n v
+      → (n ≤ length values) × (length (verdictText v (take n values)) ≤ markRoom)
+  verdict-room s n v e =
       let t = both-accepted n v e in
       let q = counted t e in
-      (omega (arith, m .size, t .room .values-room), omega (arith, verdict-length {v = v} (take n values) refl, first-line v, carried-short n v e))
+      (omega (arith, s, m .written .size, t .room .values-room), omega (arith, verdict-length {v = v} (take n values) refl, first-line v, carried-short n v e))
 
   -- there is room for a refusal's text
   pub refusal-room : (p : Subject) (f : Refusal) → r ≡ Refused p f → length (refusedMarkText p f) ≤ markRoom
   refusal-room p f e =
-      let line = refusal-line sheet script lentTable lentTable lentWorkspace maxQuantities p f (m .judged .refused p f .0 (refusal-returned e)) in
+      let line = refusal-line sheet script ownLengths p f (m .judged .refused p f .0 (refusal-returned e)) in
       omega (arith, refused-short p f (omega (arith, line)))
 
   -- the record of the contract, where the text printed is that of the reply

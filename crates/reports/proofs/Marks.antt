@@ -17,18 +17,17 @@ use Rattle.numerals.specs.Decimal.{signedDecimal}
 use Rattle.rules.specs.declared.rule.Rule.{Rule}
 use Rattle.rules.specs.declared.refusal.Refusal.{Refusal}
 use Rattle.rules.specs.Limits.{maxQuantities, maxBound}
-use Rattle.rules.specs.Refusal.{refusalNumber}
 use Rattle.tables.specs.Meaning.{ruleIn, Paper, WordsWithin}
 use Rattle.tables.proofs.Places.{ruleAt-bound, ruleAt-hasPlace}
 use Rattle.marking.specs.declared.verdict.Verdict.{Verdict}
 use Rattle.marking.specs.Meaning.{FirstBroken, ValuesWithin}
 use Rattle.reading.specs.Texts.{Contents}
-use Rattle.writing.specs.Writing.{ruleLineText, countText}
+use Rattle.writing.specs.Writing.{ruleLineText}
 use Rattle.writing.proofs.Lines.{word-short, line-short}
 use Rattle.scripts.specs.declared.reply.Subject.{Subject}
 use Rattle.scripts.specs.declared.reply.Subject.the-variants.{Sheet as OfSheet, Script as OfScript, Both as OfBoth}
 use Rattle.scripts.proofs.Sheets.{Sheet, limit-most}
-use Rattle.reports.specs.Refusals.{refusedKey, lineKey, lineOf}
+use Rattle.reports.specs.Refusals.{lineOf, numberText, whereText}
 use Rattle.reports.specs.Marks.{
   verdictKey,
   valuesKey,
@@ -151,15 +150,13 @@ pub verdict-length : {v w : Verdict} (s : List ℤ) → v ≡ w
 verdict-length {v} {w} s e = rw (verdict-text s e) (length-append (wordText verdictKey (verdictName w)) (carriedText w s))
 
 -- the lines of a refusal one after the other
-pub refused-text : (p : Subject) (f : Refusal)
-    → refusedMarkText p f ≡ countText refusedKey (refusalNumber f) ++ wordText paperKey (paperName p) ++ countText lineKey (lineOf f)
+pub refused-text : (p : Subject) (f : Refusal) → refusedMarkText p f ≡ numberText f ++ wordText paperKey (paperName p) ++ whereText f
 unfolding refusedMarkText
-refused-text p f = sym (append-assoc (countText refusedKey (refusalNumber f)) (wordText paperKey (paperName p)) (countText lineKey (lineOf f)))
+refused-text p f = sym (append-assoc (numberText f) (wordText paperKey (paperName p)) (whereText f))
 
 -- the length of them
 pub refused-length : (p : Subject) (f : Refusal)
-    → length (refusedMarkText p f)
-    ≡ length (countText refusedKey (refusalNumber f)) + length (wordText paperKey (paperName p)) + length (countText lineKey (lineOf f))
+    → length (refusedMarkText p f) ≡ length (numberText f) + length (wordText paperKey (paperName p)) + length (whereText f)
 refused-length p f = rw (refused-text p f) (simp length-append)
 
 -- ---- how long it is at most

@@ -13,9 +13,8 @@ use Rattle.rules.specs.Refusal.{refusalNumber}
 use Rattle.lines.specs.Spelling.{Written, lineWithin}
 use Rattle.reading.specs.Texts.{ruleLines}
 use Rattle.reading.specs.Meaning.{Opening, start, counted, headed, ruled, linesOf, countOf, AllFine, AtMost, Reaches, FailsFor}
-use Rattle.writing.specs.Writing.{countText}
 use Rattle.writing.proofs.Texts.{count-length}
-use Rattle.reports.specs.Refusals.{refusedKey, lineKey, lineOf, refusalText}
+use Rattle.reports.specs.Refusals.{refusedKey, lineKey, lineOf, numberText, whereText, refusalText}
 
 -- ---- the line of a refusal
 
@@ -59,10 +58,9 @@ number-digit (TooShort needed) = omega arith
 number-digit Mismatch = omega arith
 
 -- the text of a refusal has the two lines
-pub refusal-parts : (f : Refusal)
-    → length (refusalText f) ≡ length (countText refusedKey (refusalNumber f)) + length (countText lineKey (lineOf f))
+pub refusal-parts : (f : Refusal) → length (refusalText f) ≡ length (numberText f) + length (whereText f)
 unfolding refusalText
-refusal-parts f = length-append (countText refusedKey (refusalNumber f)) (countText lineKey (lineOf f))
+refusal-parts f = length-append (numberText f) (whereText f)
 
 -- the text of a refusal whose line has at most k + 1 digits
 pub refusal-width : (k : ℕ) (f : Refusal) → lineOf f < 10 ^ suc k → length (refusalText f) ≤ 17 + k

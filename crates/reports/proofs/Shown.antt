@@ -11,7 +11,6 @@ use lib.Signed.{leZ, leZ-yes}
 use Rattle.integers.specs.Bound.{Within}
 use Rattle.rules.specs.declared.rule.Rule.{Rule}
 use Rattle.rules.specs.Hidden.{hiddenIn, setOf}
-use Rattle.rules.specs.Limits.{maxQuantities}
 use Rattle.rules.specs.Meaning.{literalValue}
 use Rattle.rules.specs.Steps.{ruleOf}
 use Rattle.tables.specs.Meaning.{assignmentOf}
@@ -32,7 +31,7 @@ use Rattle.reading.proofs.Frauds.{contentsA}
 use Rattle.scripts.specs.declared.reply.TextMarking.the-variants.{Marked}
 use Rattle.scripts.specs.Replies.{textNumber, textValues}
 use Rattle.scripts.specs.Meaning.{Reads}
-use Rattle.scripts.specs.Marking.{lentTable, lentWorkspace}
+use Rattle.scripts.specs.Marking.{ownLengths}
 use Rattle.scripts.specs.Promises.{TextsShown}
 use Rattle.reports.proofs.Starred.{MarkCase, sheetA, wide, narrow, replyFor, reckoning}
 
@@ -142,7 +141,7 @@ narrow-shown = record {
 
 -- what the contract asks of the assignment for two texts
 abbrev pub MayShow : MarkCase → List ℤ → Type 0
-MayShow c values = TextsShown (bytes (c .sheet)) (bytes (c .script)) lentTable lentTable lentWorkspace maxQuantities (replyFor c) values
+MayShow c values = TextsShown (bytes (c .sheet)) (bytes (c .script)) ownLengths (replyFor c) values
 
 -- the contents that an answer has, sheet A's where it has none
 abbrev contentsIn : Judged Contents → Contents

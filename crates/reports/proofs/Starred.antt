@@ -14,7 +14,7 @@ use Rattle.integers.specs.Bound.{half, oppositeBound, smaller}
 use Rattle.words.specs.Change.{changeFrom, change, lowered}
 use Rattle.places.specs.Numbering.{blockStart, placeOfOne, placeOfPair, placeOfTwo, findTwo, blockUpTo, blockOf, offsetOf, isOne, higherAt, lowerAt}
 use Rattle.rules.specs.declared.refusal.Refusal.the-variants.{Malformed, TooShort, Mismatch}
-use Rattle.rules.specs.Limits.{maxQuantities, maxText}
+use Rattle.rules.specs.Limits.{maxText}
 use Rattle.rules.specs.Meaning.{names}
 use Rattle.rules.specs.Steps.{ruleOf, oppositeOf, halvedOf}
 use Rattle.tables.specs.Places.{ruleAt, findPlace}
@@ -34,10 +34,11 @@ use Rattle.rules.specs.Hidden.{setOf}
 use Rattle.reading.specs.Texts.{Contents, linesText, headerText, sheetText}
 use Rattle.reading.specs.Reading.{onward, rulesFrom, linesFrom, checkText}
 use Rattle.writing.specs.Writing.{writtenOf, rulesAt, hiddenFrom, writtenText, countText}
+use Rattle.scripts.specs.declared.room.Lengths.{Lengths}
 use Rattle.scripts.specs.declared.reply.Subject.the-variants.{Script, Both}
 use Rattle.scripts.specs.declared.reply.TextMarking.{TextMarking}
 use Rattle.scripts.specs.declared.reply.TextMarking.the-variants.{Marked, Refused}
-use Rattle.scripts.specs.Marking.{roomChecks, headersReply, pairChecks, pairReply, textsReply, lentTable, lentWorkspace}
+use Rattle.scripts.specs.Marking.{roomChecks, headersReply, firstChecks, pairChecks, pairReply, textsReply, ownLengths}
 use Rattle.reports.specs.Refusals.{refusalText}
 use Rattle.reports.specs.Reports.{tableReport, reportOf, keyReport}
 use Rattle.reports.specs.Marks.{wordText, valuesText, shownText, verdictText, refusedMarkText, markText}
@@ -59,7 +60,7 @@ pub record MarkCase : Type 0 where
 
 -- the reply to both texts, with as much lent as *mark* lends
 abbrev pub replyFor : MarkCase → TextMarking
-replyFor c = textsReply (bytes (c .sheet)) (bytes (c .script)) lentTable lentTable lentWorkspace maxQuantities
+replyFor c = textsReply (bytes (c .sheet)) (bytes (c .script)) ownLengths
 
 -- the line of the assignment, which comes last where there is one
 abbrev pub shownLine : TextMarking → List ℤ → List ℕ
@@ -370,18 +371,15 @@ nothings = mark sheetNothing ∷ mark bothNothing ∷ mark scriptNothing ∷ []
 
 -- ---- two texts with little lent. The sheet is A, of 3 quantities: its table has 18 words, and so has the script's, the workspace 36, the assignment 3
 
--- a script's text, how many words are lent for the sheet's table, the script's, the workspace and the assignment, and the reply
+-- a script's text, how many words are lent, and the reply
 pub record LentCase : Type 0 where
   pub script : String
-  pub sheet-table : ℕ
-  pub script-table : ℕ
-  pub workspace : ℕ
-  pub values : ℕ
+  pub lent : Lengths
   pub reply : TextMarking
 
 -- the sheet and the script give just that
 abbrev pub LentPasses : LentCase → Type 0
-LentPasses c = textsReply (bytes (sheetA .sheet)) (bytes (c .script)) (c .sheet-table) (c .script-table) (c .workspace) (c .values) ≡ c .reply
+LentPasses c = textsReply (bytes (sheetA .sheet)) (bytes (c .script)) (c .lent) ≡ c .reply
 
 -- all of a table do
 abbrev pub AllLentPass : List LentCase → Type 0
@@ -390,42 +388,55 @@ AllLentPass (c ∷ cs) = LentPasses c × AllLentPass cs
 
 -- 2, of the script, before 6: nothing at all is lent
 abbrev pub scriptBeforeRoom : LentCase
-scriptBeforeRoom = record { script = ""; sheet-table = 0; script-table = 0; workspace = 0; values = 0; reply = Refused Script (Malformed 1) }
+scriptBeforeRoom = record { script = ""; lent = record { sheet = 0; script = 0; workspace = 0; values = 0 }; reply = Refused Script (Malformed 1) }
 
 -- 6 before 7, with the length by the sheet's n: the script has another
 abbrev pub nothingLent : LentCase
-nothingLent = record { script = otherCount .script; sheet-table = 0; script-table = 0; workspace = 0; values = 0; reply = Refused Both (TooShort 18) }
+nothingLent = record { script = otherCount .script; lent = record { sheet = 0; script = 0; workspace = 0; values = 0 }; reply = Refused Both (TooShort 18) }
 
 -- 6: the sheet's table alone is short
 abbrev pub sheetTableShort : LentCase
-sheetTableShort = record { script = otherCount .script; sheet-table = 17; script-table = 18; workspace = 36; values = 3; reply = Refused Both (TooShort 18) }
+sheetTableShort = record {
+  script = otherCount .script;
+  lent = record { sheet = 17; script = 18; workspace = 36; values = 3 };
+  reply = Refused Both (TooShort 18);
+}
 
 -- 6: the script's is, before workspace and assignment
 abbrev pub scriptTableShort : LentCase
-scriptTableShort = record { script = otherCount .script; sheet-table = 18; script-table = 17; workspace = 35; values = 2; reply = Refused Both (TooShort 18) }
+scriptTableShort = record {
+  script = otherCount .script;
+  lent = record { sheet = 18; script = 17; workspace = 35; values = 2 };
+  reply = Refused Both (TooShort 18);
+}
 
 -- 6: the workspace is, before the assignment
 abbrev pub workspaceShort : LentCase
-workspaceShort = record { script = otherCount .script; sheet-table = 18; script-table = 18; workspace = 35; values = 2; reply = Refused Both (TooShort 36) }
+workspaceShort = record {
+  script = otherCount .script;
+  lent = record { sheet = 18; script = 18; workspace = 35; values = 2 };
+  reply = Refused Both (TooShort 36);
+}
 
 -- 6: the assignment is, last
 abbrev pub assignmentShort : LentCase
-assignmentShort = record { script = otherCount .script; sheet-table = 18; script-table = 18; workspace = 36; values = 2; reply = Refused Both (TooShort 3) }
+assignmentShort = record {
+  script = otherCount .script;
+  lent = record { sheet = 18; script = 18; workspace = 36; values = 2 };
+  reply = Refused Both (TooShort 3);
+}
 
 -- 7, not 6: the script's own n is 4, whose table would have 32 words
 abbrev pub largerCount : LentCase
 largerCount = record {
   script = "quantities=4\nhidden=2\nrules=1\nrule=+3+4:5\n";
-  sheet-table = 18;
-  script-table = 18;
-  workspace = 36;
-  values = 3;
+  lent = record { sheet = 18; script = 18; workspace = 36; values = 3 };
   reply = Refused Both Mismatch;
 }
 
 -- and so much is enough
 abbrev pub justEnough : LentCase
-justEnough = record { script = sameAsKey .script; sheet-table = 18; script-table = 18; workspace = 36; values = 3; reply = Marked 3 Equal }
+justEnough = record { script = sameAsKey .script; lent = record { sheet = 18; script = 18; workspace = 36; values = 3 }; reply = Marked 3 Equal }
 
 abbrev pub lendings : List LentCase
 lendings = scriptBeforeRoom ∷ nothingLent ∷ sheetTableShort ∷ scriptTableShort ∷ workspaceShort ∷ assignmentShort ∷ largerCount ∷ justEnough ∷ []
@@ -444,7 +455,7 @@ unfolding
     andThen expect digitsFrom numeralOf cancelling writtenRule
     ended countLine membersAfter membersFrom listOf hiddenLine termOf boundAt boundLine afterTerm ruleLine judged countJudged hiddenJudged ruleJudged setOf
     onward rulesFrom linesFrom checkText writtenOf rulesAt hiddenFrom writtenText tableReport reportOf keyReport
-    roomChecks headersReply pairChecks pairReply textsReply markText
+    roomChecks headersReply firstChecks pairChecks pairReply textsReply markText
 reckoning = tt
 
 -- and this the spelling

@@ -7,15 +7,14 @@ use Rattle.numerals.specs.Bytes.{bytes, newline, comma}
 use Rattle.numerals.specs.Decimal.{signedDecimal}
 use Rattle.rules.specs.declared.rule.Rule.{Rule}
 use Rattle.rules.specs.declared.refusal.Refusal.{Refusal}
-use Rattle.rules.specs.Refusal.{refusalNumber}
 use Rattle.marking.specs.declared.verdict.Verdict.{Verdict}
 use Rattle.marking.specs.declared.verdict.Verdict.the-variants.{Equal, Loose, Tight}
-use Rattle.writing.specs.Writing.{ruleLineText, countText}
+use Rattle.writing.specs.Writing.{ruleLineText}
 use Rattle.scripts.specs.declared.reply.Subject.{Subject}
 use Rattle.scripts.specs.declared.reply.Subject.the-variants.{Sheet, Script, Both}
 use Rattle.scripts.specs.declared.reply.TextMarking.{TextMarking}
 use Rattle.scripts.specs.declared.reply.TextMarking.the-variants.{Marked, Refused}
-use Rattle.reports.specs.Refusals.{refusedKey, lineKey, lineOf}
+use Rattle.reports.specs.Refusals.{numberText, whereText}
 
 -- the keys
 abbrev pub verdictKey : List ℕ
@@ -74,7 +73,7 @@ paperName Both = bytes "both"
 
 -- a refusal and its paper
 unfoldable pub refusedMarkText : Subject → Refusal → List ℕ
-refusedMarkText p f = countText refusedKey (refusalNumber f) ++ (wordText paperKey (paperName p) ++ countText lineKey (lineOf f))
+refusedMarkText p f = numberText f ++ (wordText paperKey (paperName p) ++ whereText f)
 
 -- ---- of a reply and the words of the assignment, of which the first n are printed
 unfoldable pub markText : TextMarking → List ℤ → List ℕ

@@ -24,5 +24,13 @@ lineOf NoAssignment = 0
 lineOf (TooShort needed) = 0
 lineOf Mismatch = 0
 
+-- the line of its number
+abbrev pub numberText : Refusal → List ℕ
+numberText r = countText refusedKey (refusalNumber r)
+
+-- and that of the line it names
+abbrev pub whereText : Refusal → List ℕ
+whereText r = countText lineKey (lineOf r)
+
 unfoldable pub refusalText : Refusal → List ℕ
-refusalText r = countText refusedKey (refusalNumber r) ++ countText lineKey (lineOf r)
+refusalText r = numberText r ++ whereText r

@@ -5,10 +5,9 @@ use numerals::write;
 use rules::refusal::Refusal;
 use rules::rule::Rule;
 use rules::sheet::Sheet;
+use scripts::own;
 use scripts::reply::Subject;
 use scripts::reply::TextMarking;
-use scripts::texts;
-use tables::table;
 use writing::line;
 ghost use Prim.Native.Nat.{_+_, _≤_};
 ghost use lib.ListN.{length, take};
@@ -101,27 +100,17 @@ fn put_refused(out: &mut [u8], paper: Subject, r: Refusal) -> usize
     requires { ⌜ length (refusedMarkText paper r) ≤ length (now out) ⌝ }
     ensures { λ k. ⌜ Spliced (now (out .entry)) 0 (refusedMarkText paper r) k (now (out .exit)) ⌝ }
 {
-    let first = line::put_count(out, 0, b"refused=", rules::refusal::number(r) as usize);
+    let first = refusal::put_number(out, r);
     let second = put_paper(out, first, paper);
-    line::put_count(out, second, b"line=", refusal::line_of(r))
+    refusal::put_where(out, second, r)
 }
 
 // Writes what *mark* prints for a sheet's text and a script's at the start of the output; answers its length.
 pub fn print_mark(sheet: &[u8], script: &[u8], out: &mut [u8; ROOM]) -> usize
     ensures { λ r. ⌜ MarkPrinted (now (sheet .entry)) (now (script .entry)) (now (out .entry)) r (now (out .exit)) ⌝ }
 {
-    let mut sheet_table = [0; table::LARGEST];
-    let mut script_table = [0; table::LARGEST];
-    let mut workspace = [0; 2 * table::LARGEST];
     let mut values = [0; Sheet::MAX_QUANTITIES];
-    let marking = texts::mark_texts(
-        sheet,
-        script,
-        &mut sheet_table,
-        &mut script_table,
-        &mut workspace,
-        &mut values,
-    );
+    let marking = own::mark_in_own_room(sheet, script, &mut values);
     match marking {
         TextMarking::Marked {
             quantities,

@@ -7,7 +7,7 @@ use lib.IntN.{ℤ}
 use Rattle.rules.specs.declared.rule.Rule.{Rule}
 use Rattle.rules.specs.Meaning.{Assignment}
 use Rattle.tables.specs.Meaning.{Paper, joined, SheetAllows, Breaks, assignmentOf}
-use Rattle.marking.specs.Meaning.{AllowSame, IsLoose, IsNarrow, ByDemand, ByVisible, FirstBroken, LooseRule, TightRule, LooseShown, TightShown}
+use Rattle.marking.specs.Meaning.{AllowSame, IsLoose, IsNarrow, ByDemand, ByVisible, FirstBroken, LooseRule, LooseShown, TightShown}
 
 -- two papers are satisfied by the same assignments
 abbrev pub Alike : Paper → Paper → Type 0
@@ -71,9 +71,9 @@ alike-visible n hidden h g v = record {
 
 -- ---- the rule that is carried
 
--- the first broken rule is the same
-first-broken : {A B : Paper} (n : ℕ) (rules : List ℤ) (r : Rule) → Alike A B → FirstBroken n rules A r → FirstBroken n rules B r
-first-broken n rules r h f = record {
+-- the first broken rule is the same, which is a tight verdict's
+pub alike-broken : {A B : Paper} (n : ℕ) (rules : List ℤ) (r : Rule) → Alike A B → FirstBroken n rules A r → FirstBroken n rules B r
+alike-broken n rules r h f = record {
   place = f .place;
   is = f .is;
   at = record {
@@ -87,11 +87,7 @@ first-broken n rules r h f = record {
 pub alike-loose-rule : {A B : Paper} (hidden : ℕ → Bool) (n : ℕ) (sheet : List ℤ) (r : Rule) → Alike A B
     → LooseRule hidden n sheet A r → LooseRule hidden n sheet B r
 alike-loose-rule hidden n sheet r h (inl f) = inl f
-alike-loose-rule hidden n sheet r h (inr f) = inr (f .0, first-broken n _ r h (f .1))
-
--- a tight verdict's
-pub alike-tight-rule : {A B : Paper} (n : ℕ) (script : List ℤ) (r : Rule) → Alike A B → TightRule n A script r → TightRule n B script r
-alike-tight-rule n script r h f = first-broken n script r h f
+alike-loose-rule hidden n sheet r h (inr f) = inr (f .0, alike-broken n _ r h (f .1))
 
 -- ---- the assignment that shows it
 

@@ -3,9 +3,9 @@ pub mod Rules
 pub mod Hiddens
 pub mod Sheets
 pub mod Matching
+pub mod Rooms
 pub mod Judging
 pub mod Alike
 pub mod Pairs
-pub mod Rooms
 pub mod Promised
-pub mod Endings
+pub mod OwnRoom

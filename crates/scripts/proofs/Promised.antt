@@ -1,218 +1,164 @@
--- What marking two texts promises, from what its steps answer: each way that it ends, and what the steps ask. Assumes nothing.
-use mathlib.Core.Path.{_≡_, refl, sym, _∙_}
+-- What marking two texts promises, from what its steps answer. Assumes nothing.
+use mathlib.Core.Path.{_≡_, refl, sym, _∙_, ap, subst}
 use mathlib.Core.List.{List, _++_}
-use mathlib.Core.Logic.{inl, inr}
+use mathlib.Core.Logic.{_⊎_, inl, inr}
 use Prim.Native.Nat.{ℕ, _≤_}
 use lib.IntN.{ℤ}
 use lib.ListN.{length, take, drop}
 use lib.Seq.{take-append-seam}
 use Rattle.places.specs.Numbering.{blockStart}
 use Rattle.rules.specs.declared.refusal.Refusal.{Refusal}
+use Rattle.rules.specs.declared.refusal.Refusal.the-variants.{Mismatch}
 use Rattle.rules.specs.Limits.{maxQuantities}
+use Rattle.tables.specs.declared.reply.Reply.{Reply}
 use Rattle.tables.specs.declared.reply.Reply.the-variants.{Done}
 use Rattle.tables.specs.declared.reply.Reply.the-variants.{Refused as NotDone}
 use Rattle.tables.specs.Tables.{tableSize}
-use Rattle.tables.proofs.Tests.{refused-done}
-use Rattle.tables.proofs.Sizes.{size-whole}
+use Rattle.tables.proofs.Sizes.{size-known}
 use Rattle.keys.specs.Keys.{andThen}
 use Rattle.keys.proofs.Promised.{untouched}
+use Rattle.lines.specs.Lines.{Judged, accepted, refused}
 use Rattle.reading.specs.declared.check.Checked.{Checked}
 use Rattle.reading.specs.declared.check.Checked.the-variants.{Passed}
-use Rattle.reading.specs.declared.check.Checked.the-variants.{Refused as Failed}
-use Rattle.reading.specs.Texts.{Contents}
+use Rattle.reading.specs.Texts.{Contents, headerText}
 use Rattle.reading.specs.Meaning.{Passes}
-use Rattle.reading.specs.Reading.{checkText, filled}
+use Rattle.reading.specs.Reading.{checkText, checkedOf, filled}
 use Rattle.reading.specs.Promises.{TextChecked}
-use Rattle.reading.proofs.Means.{spelled-check}
-use Rattle.reading.proofs.Passing.{Sheeted, sheet-passed, failed-refused}
+use Rattle.reading.proofs.Means.{text-means, spelled-check}
+use Rattle.reading.proofs.Passing.{sheet-passed}
 use Rattle.marking.specs.declared.verdict.Marking.{Marking}
 use Rattle.marking.specs.Promises.{TablesMarked}
+use Rattle.scripts.specs.declared.room.Lengths.{Lengths}
+use Rattle.scripts.specs.declared.pair.PairChecked.{PairChecked}
+use Rattle.scripts.specs.declared.pair.PairChecked.the-variants.{Passed as BothPassed}
+use Rattle.scripts.specs.declared.pair.PairChecked.the-variants.{Refused as NotPassed}
 use Rattle.scripts.specs.declared.reply.Subject.{Subject}
-use Rattle.scripts.specs.declared.reply.Subject.the-variants.{Sheet, Script, Both}
+use Rattle.scripts.specs.declared.reply.TextMarking.{TextMarking}
 use Rattle.scripts.specs.declared.reply.TextMarking.the-variants.{Refused}
 use Rattle.scripts.specs.Replies.{markedTexts}
-use Rattle.scripts.specs.Meaning.{setIn, tableIn, Reads, RefusedPair}
-use Rattle.scripts.specs.Marking.{roomChecks, headersReply, pairChecks, pairReply, textsReply}
+use Rattle.scripts.specs.Meaning.{lengthsOf, setIn, tableIn, Reads, Matches, Room, ShortIn, RefusedPair}
+use Rattle.scripts.specs.Marking.{firstChecks, passedOr, checkedPair, pairChecks, pairReply, textsReply}
 use Rattle.scripts.specs.Promises.{TextsMarked}
 use Rattle.scripts.proofs.Sheets.{fine-sheet}
 use Rattle.scripts.proofs.Matching.{matches-set}
-use Rattle.scripts.proofs.Judging.{done-room, refused-short, same-headers, headers-same, headers-mismatch, reads-count, refused-judged, refused-shown}
+use Rattle.scripts.proofs.Rooms.{FirstTell, first-tell}
+use Rattle.scripts.proofs.Judging.{reads-count, refused-judged, refused-shown}
 use Rattle.scripts.proofs.Pairs.{pair-reply, tables-marked}
 
--- ---- refused, and nothing changed
+-- a text that passed has an n in its range
+pub passed-range : {s : List ℕ} {r : Checked} {n set m body : ℕ} → TextChecked s r → r ≡ Passed n set m body → (1 ≤ n) × (n ≤ maxQuantities)
+passed-range {s} {r} {n} {set} {m} {body} t e =
+    let p = sheet-passed s r n set m body (t .reply) e .text in
+    let f = fine-sheet (p .contents) (p .spelled .fine) in
+    rw (p .counts) (f .some, f .most)
 
--- a refusal that has its reason
-unchanged : (sheet script : List ℕ) (a b w v : List ℤ) (p : Subject) (f : Refusal)
-    → textsReply sheet script (length a) (length b) (length w) (length v) ≡ Refused p f
-    → RefusedPair sheet script (length a) (length b) (length w) (length v) p f → TextsMarked sheet script a b w v (Refused p f) a b w v
-unchanged sheet script a b w v p f e why = record {
+-- ---- both texts checked, with what is lent
+
+-- they passed: of each text the contents, which there is room for and which have the same n and hidden set
+pub record PassedPair (sheet script : List ℕ) (lent : Lengths) (n set m body script-m script-body : ℕ) : Type 0 where
+  pub of-sheet : Passes sheet n m body
+  pub of-script : Passes script n script-m script-body
+  pub hides : set ≡ setIn (of-sheet .contents)
+  pub first : firstChecks (of-sheet .contents .count) (setIn (of-sheet .contents)) (of-script .contents .count) (setIn (of-script .contents)) lent ≡ Done
+  pub room : Room n lent
+
+-- what the answer tells
+abbrev pub PairTells : List ℕ → List ℕ → Lengths → PairChecked → Type 0
+PairTells sheet script lent (BothPassed n set m body script-m script-body) = PassedPair sheet script lent n set m body script-m script-body
+PairTells sheet script lent (NotPassed p f) = (textsReply sheet script lent ≡ Refused p f) × RefusedPair sheet script lent p f
+
+-- a text whose lines are accepted reads so
+accepted-reads : {s : List ℕ} {c : Contents} {u : List ℕ} → checkText s ≡ accepted c u → Reads s c
+accepted-reads {s} {c} {u} e = let t = text-means s (accepted c u) .0 e in record { small = t .0; spelled = t .1 }
+
+-- two texts that are fine by themselves
+fine-tell : (sheet script : List ℕ) (lent : Lengths) (c d : Contents) → Reads sheet c → Reads script d
+    → PairTells sheet script lent (passedOr (firstChecks (c .count) (setIn c) (d .count) (setIn d) lent)
+    (BothPassed (c .count) (setIn c) (length (c .written)) (length (headerText c)) (length (d .written)) (length (headerText d))))
+unfolding pairChecks andThen
+fine-tell sheet script lent c d p q =
+    go (firstChecks (c .count) (setIn c) (d .count) (setIn d) lent) refl (first-tell (c .count) (setIn c) (d .count) (setIn d) lent)
+  where
+    go : (r : Reply) → firstChecks (c .count) (setIn c) (d .count) (setIn d) lent ≡ r → FirstTell (c .count) (setIn c) (d .count) (setIn d) lent r
+        → PairTells sheet script lent (passedOr r
+        (BothPassed (c .count) (setIn c) (length (c .written)) (length (headerText c)) (length (d .written)) (length (headerText d))))
+    go Done e t = record {
+      of-sheet = record { contents = c; small = p .small; spelled = p .spelled; counts = refl; rules = refl; begins = refl };
+      of-script = record { contents = d; small = q .small; spelled = q .spelled; counts = t .1; rules = refl; begins = refl };
+      hides = refl;
+      first = e;
+      room = t .0;
+    }
+    go (NotDone f) e t = (
+      pair-reply sheet script c d p q lent ∙ rw e,
+      record { of-sheet = c; of-script = d; sheet-reads = p; script-reads = q; fails = why t },
+    )
+      where
+        why : FirstTell (c .count) (setIn c) (d .count) (setIn d) lent (NotDone f)
+            → ShortIn (c .count) lent f ⊎ (Room (c .count) lent × (Matches c d → ⊥) × (f ≡ Mismatch))
+        why (inl h) = inl h
+        why (inr h) = inr (h .0, λ z. h .1 (sym (z .count), sym (matches-set c d z)), h .2)
+
+pair-tells : (sheet script : List ℕ) (lent : Lengths)
+    → PairTells sheet script lent (checkedPair (checkedOf (checkText sheet)) (checkedOf (checkText script)) lent)
+unfolding checkedPair checkedOf textsReply pairReply
+pair-tells sheet script lent = go (checkText sheet) refl (checkText script) refl
+  where
+    go : (x : Judged Contents) → checkText sheet ≡ x → (y : Judged Contents) → checkText script ≡ y
+        → PairTells sheet script lent (checkedPair (checkedOf x) (checkedOf y) lent)
+    go (refused f) e y d = (rw e, text-means sheet (refused f) .0 e)
+    go (accepted c u) e (refused f) d =
+        (rw (e, d), (record { contents = c; reads = accepted-reads e }, text-means script (refused f) .0 d))
+    go (accepted c u) e (accepted i z) d = fine-tell sheet script lent c i (accepted-reads e) (accepted-reads d)
+
+-- the answer of checking them tells so
+pub pair-told : (sheet script : List ℕ) (lent : Lengths) {r x : PairChecked}
+    → r ≡ checkedPair (checkedOf (checkText sheet)) (checkedOf (checkText script)) lent → r ≡ x → PairTells sheet script lent x
+pair-told sheet script lent e d = subst (PairTells sheet script lent) (sym e ∙ d) (pair-tells sheet script lent)
+
+-- ---- refused
+
+-- a refusal that has its reason, nothing being changed
+pub refused-marked : {sheet script : List ℕ} {a b w v : List ℤ} {p : Subject} {f : Refusal}
+    → PairTells sheet script (lengthsOf a b w v) (NotPassed p f) → TextsMarked sheet script a b w v (Refused p f) a b w v
+refused-marked {sheet} {script} {a} {b} {w} {v} {p} {f} t = record {
   count = reads-count sheet;
-  judged = refused-judged sheet script _ _ _ _ p f e why;
-  shown = refused-shown sheet script _ _ _ _ p f v why;
-  sheet-table = untouched _ _ a;
-  script-table = untouched _ _ b;
-  workspace = untouched _ _ w;
+  judged = refused-judged sheet script _ p f (t .0) (t .1);
+  shown = refused-shown sheet script _ p f v (t .1);
+  sheet-lent = untouched _ _ a;
+  script-lent = untouched _ _ b;
+  workspace-lent = untouched _ _ w;
   written = untouched _ _ v;
 }
 
--- a text that passed reads so
-passed-reads : (s : List ℕ) (n m body : ℕ) (p : Passes s n m body) → Reads s (p .contents)
-passed-reads s n m body p = record { small = p .small; spelled = p .spelled }
+-- ---- marked
 
--- the sheet's text is refused
-pub sheet-refused : (sheet script : List ℕ) (a b w v : List ℤ) (r : Checked) (f : Refusal) → TextChecked sheet r → r ≡ Failed f
-    → TextsMarked sheet script a b w v (Refused Sheet f) a b w v
-unfolding textsReply pairReply
-sheet-refused sheet script a b w v r f p e =
-    unchanged sheet script a b w v Sheet f (rw (failed-refused sheet r f (p .reply) e)) (p .refused f .0 e)
-
--- the script's text is
-pub script-refused : (sheet script : List ℕ) (a b w v : List ℤ) (r r' : Checked) (n set m body : ℕ) (f : Refusal) → TextChecked sheet r → r ≡ Passed n set m body
-    → TextChecked script r' → r' ≡ Failed f → TextsMarked sheet script a b w v (Refused Script f) a b w v
-unfolding textsReply pairReply
-script-refused sheet script a b w v r r' n set m body f p e q d =
-    let x = sheet-passed sheet r n set m body (p .reply) e .text in
-    unchanged sheet script a b w v Script f
-    (rw (spelled-check sheet (x .contents) (x .small) (x .spelled), failed-refused script r' f (q .reply) d))
-    (record { contents = x .contents; reads = passed-reads sheet n m body x }, q .refused f .0 d)
-
--- ---- two texts that are fine
-
--- the text s has these n, hidden set and contents
-record Writes (s : List ℕ) (n set : ℕ) (c : Contents) : Type 0 where
-  reads : Reads s c
-  counts : n ≡ c .count
-  hides : set ≡ setIn c
-
--- the table that a text fills
-filled-table : (s : List ℕ) (c : Contents) (t t' : List ℤ) → Reads s c → t' ≡ filled (checkText s) t → t' ≡ tableIn c ++ drop (blockStart (c .count)) t
+-- the table that a text fills is the front of what it fills
+filled-front : (s : List ℕ) (c : Contents) (t t' : List ℤ) (k : ℕ) → Reads s c → t' ≡ filled (checkText s) t → length (tableIn c) ≡ k
+    → (t' ≡ tableIn c ++ drop (blockStart (c .count)) t) × (take k t' ≡ tableIn c)
 unfolding filled
-filled-table s c t t' p e = e ∙ rw (spelled-check s c (p .small) (p .spelled))
+filled-front s c t t' k p e f =
+    let g : t' ≡ tableIn c ++ drop (blockStart (c .count)) t = e ∙ rw (spelled-check s c (p .small) (p .spelled)) in
+    (g, rw (g, sym f) (take-append-seam (tableIn c) (drop (blockStart (c .count)) t)))
 
--- is the front of what it fills
-front-table : (c : Contents) (t t' : List ℤ) (k : ℕ) → length (tableIn c) ≡ k → t' ≡ tableIn c ++ drop (blockStart (c .count)) t → take k t' ≡ tableIn c
-front-table c t t' k e f = rw (f, sym e) (take-append-seam (tableIn c) (drop (blockStart (c .count)) t))
+-- the size of a table at the sheet's n
+pub passed-size : {sheet script : List ℕ} {lent : Lengths} {n set m body script-m script-body k : ℕ}
+    → PassedPair sheet script lent n set m body script-m script-body → k ≡ tableSize n → k ≡ blockStart n
+passed-size {n = n} x e =
+    let c = x .of-sheet in
+    size-known n _ (rw (c .counts) (fine-sheet (c .contents) (c .spelled .fine) .most)) e
 
-module _ (sheet script : List ℕ) (a b w v : List ℤ) (n set n' set' : ℕ) (c d : Contents) (x : Writes sheet n set c) (y : Writes script n' set' d) where
-  -- what is lent is too short
-  contents-short : (f : Refusal) → roomChecks n (length a) (length b) (length w) (length v) ≡ NotDone f
-      → TextsMarked sheet script a b w v (Refused Both f) a b w v
-  unfolding pairChecks andThen
-  contents-short f e =
-      let k : roomChecks (c .count) (length a) (length b) (length w) (length v) ≡ NotDone f = rw (x .counts) at e in
-      unchanged sheet script a b w v Both f (pair-reply sheet script c d (x .reads) (y .reads) _ _ _ _ ∙ rw k)
-      (record {
-        of-sheet = c;
-        of-script = d;
-        sheet-reads = x .reads;
-        script-reads = y .reads;
-        fails = inl (refused-short (c .count) (length a) (length b) (length w) (length v) f k);
-      })
-
-  -- the script has another n or hidden set
-  contents-unlike : (f : Refusal) → roomChecks n (length a) (length b) (length w) (length v) ≡ Done → headersReply n set n' set' ≡ NotDone f
-      → TextsMarked sheet script a b w v (Refused Both f) a b w v
-  unfolding pairChecks andThen
-  contents-unlike f e g =
-      let k : roomChecks (c .count) (length a) (length b) (length w) (length v) ≡ Done = rw (x .counts) at e in
-      let l : headersReply (c .count) (setIn c) (d .count) (setIn d) ≡ NotDone f = rw (x .counts, x .hides, y .counts, y .hides) at g in
-      unchanged sheet script a b w v Both f (pair-reply sheet script c d (x .reads) (y .reads) _ _ _ _ ∙ rw (k, l))
-      (record {
-        of-sheet = c;
-        of-script = d;
-        sheet-reads = x .reads;
-        script-reads = y .reads;
-        fails = inr (
-          done-room (c .count) (length a) (length b) (length w) (length v) k,
-          λ z. refused-done (sym l ∙ same-headers (c .count) (setIn c) (d .count) (setIn d) (sym (z .count)) (sym (matches-set c d z))),
-          headers-mismatch n set n' set' f g,
-        );
-      })
-
-  -- the tables are marked
-  contents-marked : roomChecks n (length a) (length b) (length w) (length v) ≡ Done → headersReply n set n' set' ≡ Done
-      → (a' b' w' v' : List ℤ) (r : Marking) → a' ≡ filled (checkText sheet) a → b' ≡ filled (checkText script) b
-      → (k : ℕ) → k ≡ tableSize n → TablesMarked n set (take k a') (take k b') w v r w' v'
-      → TextsMarked sheet script a b w v (markedTexts n r) a' b' w' v'
-  contents-marked e g a' b' w' v' r f f' k s t =
-      let h = headers-same n set n' set' g in
-      let count : d .count ≡ c .count = sym (y .counts) ∙ sym (h .0) ∙ x .counts in
-      let sets : setIn d ≡ setIn c = sym (y .hides) ∙ sym (h .1) ∙ x .hides in
-      let of-sheet = fine-sheet c (x .reads .spelled .fine) in
-      let of-script = fine-sheet d (y .reads .spelled .fine) in
-      let size : blockStart (c .count) ≡ k = sym (s ∙ rw (x .counts) (size-whole (c .count) (of-sheet .most))) in
-      let size' : blockStart (d .count) ≡ k = rw count size in
-      let table = filled-table sheet c a a' (x .reads) f in
-      let table' = filled-table script d b b' (y .reads) f' in
-      let front : take k a' ≡ tableIn c = front-table c a a' k (of-sheet .size ∙ size) table in
-      let front' : take k b' ≡ tableIn d = front-table d b b' k (of-script .size ∙ size') table' in
-      rw (x .counts) (tables-marked sheet script a b w v c d (x .reads) (y .reads)
-      (done-room (c .count) (length a) (length b) (length w) (length v) (rw (x .counts) at e)) count sets w' v' a' b' r table table'
-      (rw (x .counts, x .hides, front, front') at t))
-
--- ---- both texts pass
-
--- with these n, hidden sets, numbers of rules, and cursors at which the rules begin
-pub record BothPass (sheet script : List ℕ) (n set m body n' set' m' body' : ℕ) : Type 0 where
-  pub sheet-checked : TextChecked sheet (Passed n set m body)
-  pub script-checked : TextChecked script (Passed n' set' m' body')
-
--- what a text that passed writes
-passed-sheet : (s : List ℕ) (n set m body : ℕ) → TextChecked s (Passed n set m body) → Sheeted s n set m body
-passed-sheet s n set m body p = sheet-passed s (Passed n set m body) n set m body (p .reply) refl
-
-passed-writes : (s : List ℕ) (n set m body : ℕ) (p : Sheeted s n set m body) → Writes s n set (p .text .contents)
-passed-writes s n set m body p = record { reads = passed-reads s n m body (p .text); counts = p .text .counts; hides = p .hides }
-
--- what is lent is too short
-pub pair-short : (sheet script : List ℕ) (a b w v : List ℤ) (n set m body n' set' m' body' : ℕ) → BothPass sheet script n set m body n' set' m' body'
-    → (f : Refusal) → roomChecks n (length a) (length b) (length w) (length v) ≡ NotDone f → TextsMarked sheet script a b w v (Refused Both f) a b w v
-pair-short sheet script a b w v n set m body n' set' m' body' p =
-    let x = passed-sheet sheet n set m body (p .sheet-checked) in
-    let y = passed-sheet script n' set' m' body' (p .script-checked) in
-    contents-short sheet script a b w v n set n' set' _ _ (passed-writes sheet n set m body x) (passed-writes script n' set' m' body' y)
-
--- the script has another n or hidden set
-pub pair-unlike : (sheet script : List ℕ) (a b w v : List ℤ) (n set m body n' set' m' body' : ℕ) → BothPass sheet script n set m body n' set' m' body'
-    → (f : Refusal) → roomChecks n (length a) (length b) (length w) (length v) ≡ Done → headersReply n set n' set' ≡ NotDone f
-    → TextsMarked sheet script a b w v (Refused Both f) a b w v
-pair-unlike sheet script a b w v n set m body n' set' m' body' p =
-    let x = passed-sheet sheet n set m body (p .sheet-checked) in
-    let y = passed-sheet script n' set' m' body' (p .script-checked) in
-    contents-unlike sheet script a b w v n set n' set' _ _ (passed-writes sheet n set m body x) (passed-writes script n' set' m' body' y)
-
--- the tables are marked
-pub pair-marked : (sheet script : List ℕ) (a b w v : List ℤ) (n set m body n' set' m' body' : ℕ) → BothPass sheet script n set m body n' set' m' body'
-    → roomChecks n (length a) (length b) (length w) (length v) ≡ Done → headersReply n set n' set' ≡ Done
-    → (a' b' w' v' : List ℤ) (r : Marking) → a' ≡ filled (checkText sheet) a → b' ≡ filled (checkText script) b
-    → (k : ℕ) → k ≡ tableSize n → TablesMarked n set (take k a') (take k b') w v r w' v'
-    → TextsMarked sheet script a b w v (markedTexts n r) a' b' w' v'
-pair-marked sheet script a b w v n set m body n' set' m' body' p =
-    let x = passed-sheet sheet n set m body (p .sheet-checked) in
-    let y = passed-sheet script n' set' m' body' (p .script-checked) in
-    contents-marked sheet script a b w v n set n' set' _ _ (passed-writes sheet n set m body x) (passed-writes script n' set' m' body' y)
-
--- ---- what the steps ask
-
--- the sheet's n is in its range
-pub both-range : (sheet script : List ℕ) (n set m body n' set' m' body' : ℕ) → BothPass sheet script n set m body n' set' m' body'
-    → (1 ≤ n) × (n ≤ maxQuantities)
-both-range sheet script n set m body n' set' m' body' p =
-    let x = passed-sheet sheet n set m body (p .sheet-checked) .text in
-    let s = fine-sheet (x .contents) (x .spelled .fine) in
-    rw (x .counts) (s .some, s .most)
-
--- the sheet's table has room for its rules
-pub sheet-fill : (sheet script : List ℕ) (a b w v : List ℤ) (n set m body n' set' m' body' : ℕ) → BothPass sheet script n set m body n' set' m' body'
-    → roomChecks n (length a) (length b) (length w) (length v) ≡ Done → Passes sheet n m body × (blockStart n ≤ length a)
-sheet-fill sheet script a b w v n set m body n' set' m' body' p e =
-    (passed-sheet sheet n set m body (p .sheet-checked) .text, done-room n (length a) (length b) (length w) (length v) e .sheet-room)
-
--- and the script's has, at the sheet's n
-pub script-fill : (sheet script : List ℕ) (a b w v : List ℤ) (n set m body n' set' m' body' : ℕ) → BothPass sheet script n set m body n' set' m' body'
-    → roomChecks n (length a) (length b) (length w) (length v) ≡ Done → headersReply n set n' set' ≡ Done
-    → Passes script n m' body' × (blockStart n ≤ length b)
-script-fill sheet script a b w v n set m body n' set' m' body' p e d = (
-  rw (headers-same n set n' set' d .0) (passed-sheet script n' set' m' body' (p .script-checked) .text),
-  done-room n (length a) (length b) (length w) (length v) e .script-room,
-)
+pub passed-marked : {sheet script : List ℕ} {a b w v : List ℤ} {n set m body script-m script-body : ℕ}
+    → PassedPair sheet script (lengthsOf a b w v) n set m body script-m script-body
+    → {a' b' w' v' : List ℤ} {r : Marking} {k : ℕ} {reply : TextMarking} → a' ≡ filled (checkText sheet) a → b' ≡ filled (checkText script) b → k ≡ tableSize n
+    → TablesMarked n set (take k a') (take k b') w v r w' v' → reply ≡ markedTexts n r → TextsMarked sheet script a b w v reply a' b' w' v'
+passed-marked {sheet} {script} {a} {b} {w} {v} {n} {set} x {a'} {b'} {w'} {v'} {r} {k} e f s t i =
+    let c = x .of-sheet .contents in
+    let d = x .of-script .contents in
+    let p : Reads sheet c = record { small = x .of-sheet .small; spelled = x .of-sheet .spelled } in
+    let q : Reads script d = record { small = x .of-script .small; spelled = x .of-script .spelled } in
+    let size : k ≡ blockStart n = passed-size x s in
+    let front = filled-front sheet c a a' k p e (fine-sheet c (p .spelled .fine) .size ∙ sym (size ∙ ap blockStart (x .of-sheet .counts))) in
+    let front' = filled-front script d b b' k q f (fine-sheet d (q .spelled .fine) .size ∙ sym (size ∙ ap blockStart (x .of-script .counts))) in
+    rw (i, x .of-sheet .counts) (tables-marked sheet script a b w v c d p q (x .first) w' v' a' b' r (front .0) (front' .0)
+    (rw (x .of-sheet .counts, x .hides, front .1, front' .1) at t))

@@ -1,78 +1,158 @@
--- What the checks of two texts that are fine answer: 6 for what is lent, 7 for the headers. Assumes nothing.
-use mathlib.Core.Path.{_≡_, sym}
-use mathlib.Core.Bool.{and-false}
-use Prim.Native.Nat.{ℕ, _*_, _≤_, _<_}
-use mir.Syntax.{w64}
-use mir.Val.{Fits}
-use native.Mathlib.Omega.{arith}
-use lib.Dec.{eqb}
-use borrow.Author.Tests.{lt-ltb, le-ltb, ne-eqb}
+-- What the first checks of two texts that are fine answer: 6 for what is lent, 7 for the headers. Assumes nothing.
+use mathlib.Core.Path.{_≡_, refl, sym, _∙_, subst}
+use mathlib.Core.Bool.{Bool, true, false, cond, _&&_, and-false}
+use mathlib.Core.Logic.{_⊎_, inl, inr}
+use Prim.Native.Nat.{ℕ}
+use lib.Dec.{ltb, eqb}
+use borrow.Author.Tests.{ltb-true, ltb-false, lt-ltb, le-ltb, eqb-true, eq-eqb, ne-eqb}
 use Rattle.places.specs.Numbering.{blockStart}
+use Rattle.rules.specs.declared.refusal.Refusal.{Refusal}
 use Rattle.rules.specs.declared.refusal.Refusal.the-variants.{TooShort, Mismatch}
-use Rattle.rules.specs.Limits.{maxQuantities}
+use Rattle.tables.specs.declared.reply.Reply.{Reply}
 use Rattle.tables.specs.declared.reply.Reply.the-variants.{Done}
 use Rattle.tables.specs.declared.reply.Reply.the-variants.{Refused as NotDone}
-use Rattle.tables.specs.Tables.{tableSize}
-use Rattle.tables.proofs.Sizes.{small-start, size-known}
+use Rattle.tables.proofs.Tests.{refused-done, clash, both-true}
 use Rattle.keys.specs.Keys.{andThen, lengthReply}
 use Rattle.marking.specs.Meaning.{workspaceSize}
-use Rattle.scripts.specs.Marking.{roomChecks, headersReply}
-use Rattle.scripts.proofs.Judging.{room-done}
-
--- n is in its range
-abbrev InRange : ℕ → Type 0
-InRange n = (1 ≤ n) × (n ≤ maxQuantities)
+use Rattle.scripts.specs.declared.room.Lengths.{Lengths}
+use Rattle.scripts.specs.Meaning.{Room, ShortIn}
+use Rattle.scripts.specs.Marking.{roomChecks, headersReply, firstChecks}
 
 -- ---- 6
 
--- twice the size of a table is small
-pub double-fits : (n size : ℕ) → InRange n → size ≡ tableSize n → Fits w64 (2 * size)
-double-fits n size r e = let p = size-known n size (r .1) e in omega (arith, small-start n (r .1))
+-- what the answer to the lengths tells
+abbrev RoomTells : ℕ → Lengths → Reply → Type 0
+RoomTells n lent Done = Room n lent
+RoomTells n lent (NotDone f) = ShortIn n lent f
 
--- the sheet's table is too short
-pub sheet-short : (n a b w v size : ℕ) → InRange n → size ≡ tableSize n → a < size → NotDone (TooShort size) ≡ roomChecks n a b w v
-unfolding roomChecks lengthReply andThen
-sheet-short n a b w v size r e h =
-    let p = size-known n size (r .1) e in
-    rw (p, lt-ltb a (blockStart n) (omega arith))
+module _ (n : ℕ) (lent : Lengths) where
+  -- it tells which of what is lent is too short, or that nothing is
+  room-tells : RoomTells n lent (roomChecks n lent)
+  unfolding roomChecks lengthReply andThen
+  room-tells = go (ltb a (blockStart n)) refl (ltb b (blockStart n)) refl (ltb w (workspaceSize n)) refl (ltb v n) refl
+    where
+      a : ℕ
+      a = lent .sheet
 
--- the script's is
-pub script-short : (n a b w v size : ℕ) → InRange n → size ≡ tableSize n → size ≤ a → b < size → NotDone (TooShort size) ≡ roomChecks n a b w v
-unfolding roomChecks lengthReply andThen
-script-short n a b w v size r e h g =
-    let p = size-known n size (r .1) e in
-    rw (p, le-ltb a (blockStart n) (omega arith), lt-ltb b (blockStart n) (omega arith))
+      b : ℕ
+      b = lent .script
 
--- the workspace is
-pub workspace-short : (n a b w v size : ℕ) → InRange n → size ≡ tableSize n → size ≤ a → size ≤ b → w < 2 * size
-    → NotDone (TooShort (2 * size)) ≡ roomChecks n a b w v
-unfolding roomChecks lengthReply andThen
-workspace-short n a b w v size r e h g k =
-    let p = size-known n size (r .1) e in
-    rw (p, le-ltb a (blockStart n) (omega arith), le-ltb b (blockStart n) (omega arith), lt-ltb w (workspaceSize n) (omega arith))
+      w : ℕ
+      w = lent .workspace
 
--- the assignment is
-pub values-short : (n a b w v size : ℕ) → InRange n → size ≡ tableSize n → size ≤ a → size ≤ b → 2 * size ≤ w → v < n
-    → NotDone (TooShort n) ≡ roomChecks n a b w v
-unfolding roomChecks lengthReply andThen
-values-short n a b w v size r e h g k l =
-    let p = size-known n size (r .1) e in
-    rw (le-ltb a (blockStart n) (omega arith), le-ltb b (blockStart n) (omega arith), le-ltb w (workspaceSize n) (omega arith), lt-ltb v n l)
+      v : ℕ
+      v = lent .values
 
--- nothing is
-pub all-enough : (n a b w v size : ℕ) → InRange n → size ≡ tableSize n → size ≤ a → size ≤ b → 2 * size ≤ w → n ≤ v → Done ≡ roomChecks n a b w v
-all-enough n a b w v size r e h g k l =
-    let p = size-known n size (r .1) e in
-    sym (room-done n a b w v (record { sheet-room = omega arith; script-room = omega arith; workspace-room = omega arith; values-room = l }))
+      enough : ℕ → Bool → Reply
+      enough needed short = cond short (NotDone (TooShort needed)) Done
+
+      go : (p : Bool) → ltb a (blockStart n) ≡ p → (q : Bool) → ltb b (blockStart n) ≡ q → (s : Bool) → ltb w (workspaceSize n) ≡ s → (t : Bool) → ltb v n ≡ t
+          → RoomTells n lent (andThen (enough (blockStart n) p) (andThen (enough (blockStart n) q) (andThen (enough (workspaceSize n) s) (enough n t))))
+      go true d q e s f t g = inl (ltb-true a (blockStart n) d, refl)
+      go false d true e s f t g = inr (inl (ltb-false a (blockStart n) d, ltb-true b (blockStart n) e, refl))
+      go false d false e true f t g =
+          inr (inr (inl (ltb-false a (blockStart n) d, ltb-false b (blockStart n) e, ltb-true w (workspaceSize n) f, refl)))
+      go false d false e false f true g =
+          inr (inr (inr (ltb-false a (blockStart n) d, ltb-false b (blockStart n) e, ltb-false w (workspaceSize n) f, ltb-true v n g, refl)))
+      go false d false e false f false g = record {
+        sheet-room = ltb-false a (blockStart n) d;
+        script-room = ltb-false b (blockStart n) e;
+        workspace-room = ltb-false w (workspaceSize n) f;
+        values-room = ltb-false v n g;
+      }
+
+  -- done, there is room
+  pub done-room : roomChecks n lent ≡ Done → Room n lent
+  done-room e = subst (RoomTells n lent) e room-tells
+
+  -- refused, something is too short
+  refused-short : (f : Refusal) → roomChecks n lent ≡ NotDone f → ShortIn n lent f
+  refused-short f e = subst (RoomTells n lent) e room-tells
+
+  -- where there is room the lengths are done
+  pub room-done : Room n lent → roomChecks n lent ≡ Done
+  unfolding roomChecks lengthReply andThen
+  room-done r =
+      rw (
+        le-ltb (lent .sheet) (blockStart n) (r .sheet-room),
+        le-ltb (lent .script) (blockStart n) (r .script-room),
+        le-ltb (lent .workspace) (workspaceSize n) (r .workspace-room),
+        le-ltb (lent .values) n (r .values-room),
+      )
+
+  -- where something is too short they are refused so
+  pub short-refused : (f : Refusal) → ShortIn n lent f → roomChecks n lent ≡ NotDone f
+  unfolding roomChecks lengthReply andThen
+  short-refused f (inl h) = rw (lt-ltb (lent .sheet) (blockStart n) (h .0), h .1)
+  short-refused f (inr (inl h)) =
+      rw (le-ltb (lent .sheet) (blockStart n) (h .0), lt-ltb (lent .script) (blockStart n) (h .1), h .2)
+  short-refused f (inr (inr (inl h))) =
+      rw (
+        le-ltb (lent .sheet) (blockStart n) (h .0),
+        le-ltb (lent .script) (blockStart n) (h .1),
+        lt-ltb (lent .workspace) (workspaceSize n) (h .2),
+        h .3,
+      )
+  short-refused f (inr (inr (inr h))) =
+      rw (
+        le-ltb (lent .sheet) (blockStart n) (h .0),
+        le-ltb (lent .script) (blockStart n) (h .1),
+        le-ltb (lent .workspace) (workspaceSize n) (h .2),
+        lt-ltb (lent .values) n (h .3),
+        h .4,
+      )
+
+  -- so there is not both
+  pub short-no-room : (f : Refusal) → ShortIn n lent f → Room n lent → ⊥
+  short-no-room f h r = refused-done (sym (short-refused f h) ∙ room-done r)
+
+  -- and one refusal alone
+  pub short-same : (f g : Refusal) → ShortIn n lent f → ShortIn n lent g → f ≡ g
+  short-same f g h k = let e : NotDone f ≡ NotDone g = sym (short-refused f h) ∙ short-refused g k in cc
 
 -- ---- 7
 
--- the hidden set is not the sheet's
-pub other-set : (n set n' set' : ℕ) → (set ≡ set' → ⊥) → NotDone Mismatch ≡ headersReply n set n' set'
-unfolding headersReply
-other-set n set n' set' h = rw (ne-eqb set set' h, and-false (eqb n n'))
+module _ (n set n' set' : ℕ) where
+  -- the same n and hidden set are done
+  pub same-headers : n ≡ n' → set ≡ set' → headersReply n set n' set' ≡ Done
+  unfolding headersReply
+  same-headers e d = rw (eq-eqb n n' e, eq-eqb set set' d)
 
--- n is not
-pub other-count : (n set n' set' : ℕ) → (n ≡ n' → ⊥) → NotDone Mismatch ≡ headersReply n set n' set'
-unfolding headersReply
-other-count n set n' set' h = rw (ne-eqb n n' h)
+  -- another hidden set is refused
+  pub other-set : (set ≡ set' → ⊥) → headersReply n set n' set' ≡ NotDone Mismatch
+  unfolding headersReply
+  other-set h = rw (ne-eqb set set' h, and-false (eqb n n'))
+
+  -- another n is
+  pub other-count : (n ≡ n' → ⊥) → headersReply n set n' set' ≡ NotDone Mismatch
+  unfolding headersReply
+  other-count h = rw (ne-eqb n n' h)
+
+  -- the answer to the headers tells whether both are the same
+  abbrev HeadersTell : Reply → Type 0
+  HeadersTell Done = (n ≡ n') × (set ≡ set')
+  HeadersTell (NotDone f) = ((n ≡ n') × (set ≡ set') → ⊥) × (f ≡ Mismatch)
+
+  headers-tell : HeadersTell (headersReply n set n' set')
+  unfolding headersReply
+  headers-tell = go (eqb n n' && eqb set set') refl
+    where
+      go : (b : Bool) → (eqb n n' && eqb set set') ≡ b → HeadersTell (cond b Done (NotDone Mismatch))
+      go true d = let p = both-true (eqb n n') (eqb set set') d in (eqb-true n n' (p .0), eqb-true set set' (p .1))
+      go false d = (λ s. clash (rw (eq-eqb n n' (s .0), eq-eqb set set' (s .1))) d, refl)
+
+-- ---- both
+
+-- what the answer to both tells
+abbrev pub FirstTell : ℕ → ℕ → ℕ → ℕ → Lengths → Reply → Type 0
+FirstTell n set n' set' lent Done = Room n lent × (n ≡ n') × (set ≡ set')
+FirstTell n set n' set' lent (NotDone f) = ShortIn n lent f ⊎ (Room n lent × ((n ≡ n') × (set ≡ set') → ⊥) × (f ≡ Mismatch))
+
+pub first-tell : (n set n' set' : ℕ) (lent : Lengths) → FirstTell n set n' set' lent (firstChecks n set n' set' lent)
+unfolding firstChecks andThen
+first-tell n set n' set' lent = go (roomChecks n lent) refl (headersReply n set n' set') (headers-tell n set n' set')
+  where
+    go : (r : Reply) → roomChecks n lent ≡ r → (h : Reply) → HeadersTell n set n' set' h → FirstTell n set n' set' lent (andThen r h)
+    go (NotDone f) e h t = inl (refused-short n lent f e)
+    go Done e Done t = (done-room n lent e, t .0, t .1)
+    go Done e (NotDone f) t = inr (done-room n lent e, t .0, t .1)

@@ -17,6 +17,7 @@ use Rattle.lines.specs.Spelling.{writtenRules}
 use Rattle.reading.specs.Texts.{Contents}
 use Rattle.reading.specs.Meaning.{Spells, FailsFor}
 use Rattle.marking.specs.Meaning.{workspaceSize}
+use Rattle.scripts.specs.declared.room.Lengths.{Lengths}
 use Rattle.scripts.specs.declared.reply.Subject.{Subject}
 use Rattle.scripts.specs.declared.reply.Subject.the-variants.{Sheet, Script, Both}
 
@@ -43,42 +44,51 @@ pub record Matches (sheet script : Contents) : Type 0 where
   pub hiddens : script .hiddens ≡ sheet .hiddens
   pub visible : (q : ℕ) → isListed q (sheet .hiddens) ≡ true → NoneNames q (writtenRules (script .written))
 
--- what is lent, the sheet's table, the script's, the workspace and the assignment, has words enough for n quantities
-pub record Room (n sheet script workspace values : ℕ) : Type 0 where
-  pub sheet-room : blockStart n ≤ sheet
-  pub script-room : blockStart n ≤ script
-  pub workspace-room : workspaceSize n ≤ workspace
-  pub values-room : n ≤ values
+-- the lengths of what is lent
+abbrev pub lengthsOf : List ℤ → List ℤ → List ℤ → List ℤ → Lengths
+lengthsOf sheet-table script-table workspace values = record {
+  sheet = length sheet-table;
+  script = length script-table;
+  workspace = length workspace;
+  values = length values;
+}
+
+-- it has words enough for n quantities
+pub record Room (n : ℕ) (lent : Lengths) : Type 0 where
+  pub sheet-room : blockStart n ≤ lent .sheet
+  pub script-room : blockStart n ≤ lent .script
+  pub workspace-room : workspaceSize n ≤ lent .workspace
+  pub values-room : n ≤ lent .values
 
 -- two texts are accepted
-pub record AcceptedPair (sheet script : List ℕ) (a b w v : ℕ) : Type 0 where
+pub record AcceptedPair (sheet script : List ℕ) (lent : Lengths) : Type 0 where
   pub of-sheet : Contents
   pub of-script : Contents
   pub sheet-reads : Reads sheet of-sheet
   pub script-reads : Reads script of-script
-  pub room : Room (of-sheet .count) a b w v
+  pub room : Room (of-sheet .count) lent
   pub matches : Matches of-sheet of-script
 
 -- ---- refused
 
 -- 6: the first of what is lent that is too short, in this order, with the length needed
-abbrev pub ShortIn : ℕ → ℕ → ℕ → ℕ → ℕ → Refusal → Type 0
-ShortIn n a b w v f =
-    ((a < blockStart n) × (f ≡ TooShort (blockStart n)))
-    ⊎ (((blockStart n ≤ a) × (b < blockStart n) × (f ≡ TooShort (blockStart n)))
-    ⊎ (((blockStart n ≤ a) × (blockStart n ≤ b) × (w < workspaceSize n) × (f ≡ TooShort (workspaceSize n)))
-    ⊎ ((blockStart n ≤ a) × (blockStart n ≤ b) × (workspaceSize n ≤ w) × (v < n) × (f ≡ TooShort n))))
+abbrev pub ShortIn : ℕ → Lengths → Refusal → Type 0
+ShortIn n lent f =
+    ((lent .sheet < blockStart n) × (f ≡ TooShort (blockStart n)))
+    ⊎ (((blockStart n ≤ lent .sheet) × (lent .script < blockStart n) × (f ≡ TooShort (blockStart n)))
+    ⊎ (((blockStart n ≤ lent .sheet) × (blockStart n ≤ lent .script) × (lent .workspace < workspaceSize n) × (f ≡ TooShort (workspaceSize n)))
+    ⊎ ((blockStart n ≤ lent .sheet) × (blockStart n ≤ lent .script) × (workspaceSize n ≤ lent .workspace) × (lent .values < n) × (f ≡ TooShort n))))
 
 -- both texts are fine, and what is lent is too short, or there is room and the script does not fit the sheet (7)
-pub record PairFails (sheet script : List ℕ) (a b w v : ℕ) (f : Refusal) : Type 0 where
+pub record PairFails (sheet script : List ℕ) (lent : Lengths) (f : Refusal) : Type 0 where
   pub of-sheet : Contents
   pub of-script : Contents
   pub sheet-reads : Reads sheet of-sheet
   pub script-reads : Reads script of-script
-  pub fails : ShortIn (of-sheet .count) a b w v f ⊎ (Room (of-sheet .count) a b w v × (Matches of-sheet of-script → ⊥) × (f ≡ Mismatch))
+  pub fails : ShortIn (of-sheet .count) lent f ⊎ (Room (of-sheet .count) lent × (Matches of-sheet of-script → ⊥) × (f ≡ Mismatch))
 
 -- a refusal and the paper that it names: the sheet's comes first, then the script's
-abbrev pub RefusedPair : List ℕ → List ℕ → ℕ → ℕ → ℕ → ℕ → Subject → Refusal → Type 0
-RefusedPair sheet script a b w v Sheet f = FailsFor sheet f
-RefusedPair sheet script a b w v Script f = Readable sheet × FailsFor script f
-RefusedPair sheet script a b w v Both f = PairFails sheet script a b w v f
+abbrev pub RefusedPair : List ℕ → List ℕ → Lengths → Subject → Refusal → Type 0
+RefusedPair sheet script lent Sheet f = FailsFor sheet f
+RefusedPair sheet script lent Script f = Readable sheet × FailsFor script f
+RefusedPair sheet script lent Both f = PairFails sheet script lent f

@@ -4,18 +4,11 @@ use mathlib.Core.Path.{_≡_}
 use mathlib.Core.List.{List, [], _∷_}
 use Prim.Native.Nat.{ℕ}
 use lib.IntN.{ℤ}
-use Rattle.rules.specs.declared.refusal.Refusal.the-variants.{Size}
 use Rattle.rules.specs.Refusal.{refusalNumber, refusalValues, refusalValue}
-use Rattle.tables.specs.declared.reply.Reply.{Reply}
-use Rattle.tables.specs.declared.reply.Reply.the-variants.{Done}
-use Rattle.tables.specs.declared.reply.Reply.the-variants.{Refused as NotDone}
 use Rattle.marking.specs.declared.verdict.Marking.{Marking}
 use Rattle.marking.specs.declared.verdict.Marking.the-variants.{Refused as NotMarked}
 use Rattle.marking.specs.declared.verdict.Marking.the-variants.{Marked as TablesMarkedAs}
 use Rattle.marking.specs.Verdicts.{verdictNumber, verdictValues, isShown, integersOf}
-use Rattle.reading.specs.declared.check.Checked.{Checked}
-use Rattle.reading.specs.declared.check.Checked.the-variants.{Passed}
-use Rattle.reading.specs.declared.check.Checked.the-variants.{Refused as Failed}
 use Rattle.scripts.specs.declared.reply.Subject.{Subject}
 use Rattle.scripts.specs.declared.reply.Subject.the-variants.{Both}
 use Rattle.scripts.specs.declared.reply.TextMarking.{TextMarking}
@@ -59,19 +52,7 @@ abbrev pub isTextShown : TextMarking → Bool
 isTextShown (Marked n v) = isShown v
 isTextShown (Refused p f) = false
 
--- ---- from the replies of its parts
-
--- a text that did not pass; one that did has no refusal of its own
-abbrev pub refusedText : Subject → Checked → TextMarking
-refusedText p (Passed n set m body) = Refused p Size
-refusedText p (Failed f) = Refused p f
-
--- what is lent is too short, or the papers do not fit each other
-abbrev pub refusedBoth : Reply → TextMarking
-refusedBoth Done = Refused Both Size
-refusedBoth (NotDone f) = Refused Both f
-
--- the tables marked
+-- the reply of texts whose tables over n quantities are marked so
 abbrev pub markedTexts : ℕ → Marking → TextMarking
 markedTexts n (TablesMarkedAs v) = Marked n v
 markedTexts n (NotMarked f) = Refused Both f

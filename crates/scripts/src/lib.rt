@@ -1,3 +1,6 @@
 // Scripts marked against sheets, both as texts.
+pub mod own;
+pub mod pair;
 pub mod reply;
+pub mod room;
 pub mod texts;

@@ -1,12 +1,10 @@
 // The reply of marking two texts: a verdict, or a refusal with the paper that it is about. Document 01's numbers and values are in specs/Replies.antt.
 use marking::verdict::Marking;
 use marking::verdict::Verdict;
-use reading::check::Checked;
 use rules::refusal;
 use rules::refusal::Refusal;
-use tables::reply::Reply;
 ghost use mathlib.Core.Path.{_≡_};
-ghost use Rattle.scripts.specs.Replies.{textNumber, textValue, refusedText, refusedBoth, markedTexts};
+ghost use Rattle.scripts.specs.Replies.{textNumber, textValue, markedTexts};
 
 // Which paper a refusal is about.
 pub enum Subject {
@@ -47,40 +45,6 @@ impl TextMarking {
             } => 0,
             TextMarking::Refused { paper: _, refusal } => refusal::value(refusal),
         }
-    }
-}
-
-// The refusal of a paper whose text did not pass; 1 where it did, which no caller asks.
-pub(crate) fn refused(paper: Subject, checked: Checked) -> TextMarking
-    ensures { λ r. ⌜ r ≡ refusedText paper checked ⌝ }
-{
-    match checked {
-        Checked::Passed {
-            quantities: _,
-            hidden: _,
-            rules: _,
-            body: _,
-        } => TextMarking::Refused {
-            paper,
-            refusal: Refusal::Size,
-        },
-        Checked::Refused { refusal } => TextMarking::Refused { paper, refusal },
-    }
-}
-
-// The refusal of what is lent or of papers that do not fit each other; 1 where nothing is refused, which no caller asks.
-pub(crate) fn refused_both(reply: Reply) -> TextMarking
-    ensures { λ r. ⌜ r ≡ refusedBoth reply ⌝ }
-{
-    match reply {
-        Reply::Done => TextMarking::Refused {
-            paper: Subject::Both,
-            refusal: Refusal::Size,
-        },
-        Reply::Refused(refusal) => TextMarking::Refused {
-            paper: Subject::Both,
-            refusal,
-        },
     }
 }
 

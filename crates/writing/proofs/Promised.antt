@@ -130,7 +130,7 @@ pub record Told (n set : ℕ) (t : List ℤ) (room m : ℕ) : Type 0 where
   pub enough : m ≤ room
 
 -- a refusal is not a text
-refused-text : {f : Refusal} {m : ℕ} → Refused f ≡ Text m → ⊥
+pub refused-text : {f : Refusal} {m : ℕ} → Refused f ≡ Text m → ⊥
 refused-text e = let z : _≡_ {A = ℕ} 0 1 = cc in omega arith
 
 -- texts of one reply have one length

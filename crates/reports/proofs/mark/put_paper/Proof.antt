@@ -1,5 +1,5 @@
 -- `mark::put_paper` meets its contract: the line of the paper's name. Assumes nothing.
-use mathlib.Core.Path.{ap}
+use mathlib.Core.Path.{_≡_, ap}
 use native.Mathlib.Omega.{arith}
 use lib.ListN.{length}
 use borrow.Author.Needs.{needs}
@@ -7,6 +7,10 @@ use Rattle.scripts.specs.declared.reply.Subject.{Subject}
 use Rattle.reports.specs.Marks.{paperKey, wordText, paperName}
 use Rattle.reports.proofs.mark.put_paper.Statement.{statement}
 use Rattle.reports.proofs.mark.put_paper.Tie as tie
+
+-- the line of one paper has one length
+same-line : {p q : Subject} → p ≡ q → length (wordText paperKey (paperName p)) ≡ length (wordText paperKey (paperName q))
+same-line e = ap (λ (p : Subject). length (wordText paperKey (paperName p))) e
 
 enum-told : tie.Need-enum-told
 enum-told c = search needs
@@ -18,7 +22,7 @@ slice-aggregate-put-word-2 : tie.Need-slice-aggregate-put-word-2
 slice-aggregate-put-word-2 c = search needs
 
 put-word-requires : tie.Need-put-word-requires
-put-word-requires c κs = omega (arith, ap (λ (p : Subject). length (wordText paperKey (paperName p))) (c .before .before .before .enum-told .given .1))
+put-word-requires c κs = omega (arith, same-line (c .before .before .before .enum-told .given .1))
 
 enum-told-2 : tie.Need-enum-told-2
 enum-told-2 c = search needs
@@ -30,7 +34,7 @@ slice-aggregate-put-word-4 : tie.Need-slice-aggregate-put-word-4
 slice-aggregate-put-word-4 c = search needs
 
 put-word-requires-2 : tie.Need-put-word-requires-2
-put-word-requires-2 c κs = omega (arith, ap (λ (p : Subject). length (wordText paperKey (paperName p))) (c .before .before .before .enum-told2 .given .1))
+put-word-requires-2 c κs = omega (arith, same-line (c .before .before .before .enum-told2 .given .1))
 
 enum-told-3 : tie.Need-enum-told-3
 enum-told-3 c = search needs
@@ -42,7 +46,7 @@ slice-aggregate-put-word-6 : tie.Need-slice-aggregate-put-word-6
 slice-aggregate-put-word-6 c = search needs
 
 put-word-requires-3 : tie.Need-put-word-requires-3
-put-word-requires-3 c κs = omega (arith, ap (λ (p : Subject). length (wordText paperKey (paperName p))) (c .before .before .before .enum-told3 .given .1))
+put-word-requires-3 c κs = omega (arith, same-line (c .before .before .before .enum-told3 .given .1))
 
 same-length : tie.Need-same-length
 same-length c = search needs

@@ -1,6 +1,7 @@
 -- `mark::put_verdict` meets its contract: the first line names the verdict, and loose and tight have two more. Assumes nothing.
-use mathlib.Core.List.{append-nil}
+use mathlib.Core.List.{List, append-nil}
 use native.Mathlib.Omega.{arith}
+use lib.IntN.{ℤ}
 use lib.ListN.{take}
 use denote.Ref.{now}
 use borrow.Author.Needs.{needs}
@@ -10,6 +11,10 @@ use Rattle.reports.specs.Marks.{verdictKey, wordText}
 use Rattle.reports.proofs.Marks.{verdict-text, verdict-length}
 use Rattle.reports.proofs.mark.put_verdict.Statement.{statement}
 use Rattle.reports.proofs.mark.put_verdict.Tie as tie
+
+-- the integers that are printed
+abbrev shown : tie.Start → List ℤ
+shown c = take (c .args .n) (now (c .args .values))
 
 enum-told : tie.Need-enum-told
 enum-told c = search needs
@@ -23,8 +28,7 @@ slice-aggregate-put-word-2 c = search needs
 put-word-requires : tie.Need-put-word-requires
 put-word-requires c κs =
     let v = c .before .before .before in
-    let a = v .before .before .before .args in
-    omega (arith, verdict-length (take (a .n) (now (a .values))) (v .enum-told .given .1))
+    omega (arith, verdict-length (shown (v .before .before .before)) (v .enum-told .given .1))
 
 enum-known-verdict : tie.Need-enum-known-verdict
 enum-known-verdict c = search needs
@@ -38,15 +42,13 @@ slice-aggregate-put-word-4 c = search needs
 put-word-requires-2 : tie.Need-put-word-requires-2
 put-word-requires-2 c κs =
     let v = c .before .before .before .before in
-    let a = v .before .before .before .args in
-    omega (arith, verdict-length (take (a .n) (now (a .values))) (v .verdict .given .1))
+    omega (arith, verdict-length (shown (v .before .before .before)) (v .verdict .given .1))
 
 put-shown-requires : tie.Need-put-shown-requires
 put-shown-requires c κs =
     let w = c .before .before .before in
     let v = w .before .before .before .before .before in
-    let a = v .before .before .before .args in
-    (omega arith, omega (arith, w .put-word2 .kept .0, verdict-length (take (a .n) (now (a .values))) (v .verdict .given .1)))
+    (omega arith, omega (arith, w .put-word2 .kept .0, verdict-length (shown (v .before .before .before)) (v .verdict .given .1)))
 
 enum-known-verdict-2 : tie.Need-enum-known-verdict-2
 enum-known-verdict-2 c = search needs
@@ -60,15 +62,13 @@ slice-aggregate-put-word-6 c = search needs
 put-word-requires-3 : tie.Need-put-word-requires-3
 put-word-requires-3 c κs =
     let v = c .before .before .before .before in
-    let a = v .before .before .before .args in
-    omega (arith, verdict-length (take (a .n) (now (a .values))) (v .verdict2 .given .1))
+    omega (arith, verdict-length (shown (v .before .before .before)) (v .verdict2 .given .1))
 
 put-shown-requires-2 : tie.Need-put-shown-requires-2
 put-shown-requires-2 c κs =
     let w = c .before .before .before in
     let v = w .before .before .before .before .before in
-    let a = v .before .before .before .args in
-    (omega arith, omega (arith, w .put-word3 .kept .0, verdict-length (take (a .n) (now (a .values))) (v .verdict2 .given .1)))
+    (omega arith, omega (arith, w .put-word3 .kept .0, verdict-length (shown (v .before .before .before)) (v .verdict2 .given .1)))
 
 same-length : tie.Need-same-length
 same-length c = search needs
@@ -77,8 +77,7 @@ returns : tie.Need-returns
 returns c =
     let w = c .before .before in
     let v = w .before .before .before .before in
-    let a = v .before .before .before .args in
-    rw (verdict-text (take (a .n) (now (a .values))) (v .enum-told .given .1), append-nil (wordText verdictKey (bytes "equal"))) (w .put-word .ensures)
+    rw (verdict-text (shown (v .before .before .before)) (v .enum-told .given .1), append-nil (wordText verdictKey (bytes "equal"))) (w .put-word .ensures)
 
 same-length-2 : tie.Need-same-length-2
 same-length-2 c = search needs
@@ -88,8 +87,7 @@ returns-2 c =
     let h = c .before .before in
     let w = h .before .before .before .before in
     let v = w .before .before .before .before .before in
-    let a = v .before .before .before .args in
-    rw (verdict-text (take (a .n) (now (a .values))) (v .verdict .given .1)) (spliced-more (w .put-word2 .ensures) (h .put-shown .ensures) (omega arith))
+    rw (verdict-text (shown (v .before .before .before)) (v .verdict .given .1)) (spliced-more (w .put-word2 .ensures) (h .put-shown .ensures) (omega arith))
 
 same-length-3 : tie.Need-same-length-3
 same-length-3 c = search needs
@@ -99,8 +97,7 @@ returns-3 c =
     let h = c .before .before in
     let w = h .before .before .before .before in
     let v = w .before .before .before .before .before in
-    let a = v .before .before .before .args in
-    rw (verdict-text (take (a .n) (now (a .values))) (v .verdict2 .given .1)) (spliced-more (w .put-word3 .ensures) (h .put-shown2 .ensures) (omega arith))
+    rw (verdict-text (shown (v .before .before .before)) (v .verdict2 .given .1)) (spliced-more (w .put-word3 .ensures) (h .put-shown2 .ensures) (omega arith))
 
 pub put-verdict-spec : {M : Type 1} → statement M
 put-verdict-spec =

@@ -1,0 +1,88 @@
+// Two texts checked before their tables are filled: each by itself, the sheet's first, then what is lent, then their headers.
+use crate::reply::Subject;
+use crate::room;
+use crate::room::Lengths;
+use reading::check;
+use reading::check::Checked;
+use rules::refusal::Refusal;
+use tables::reply::Reply;
+ghost use mathlib.Core.Path.{_≡_};
+ghost use Prim.Native.Nat.{_≤_};
+ghost use Rattle.rules.specs.Limits.{maxQuantities};
+ghost use Rattle.reading.specs.Reading.{checkText, checkedOf};
+ghost use Rattle.scripts.specs.Marking.{firstChecks, checkedPair};
+
+pub enum PairChecked {
+    // n and the hidden set of both, and of each the number of its rules and the cursor at which their lines begin
+    Passed {
+        quantities: usize,
+        hidden: u32,
+        rules: usize,
+        body: usize,
+        script_rules: usize,
+        script_body: usize,
+    },
+    Refused {
+        paper: Subject,
+        refusal: Refusal,
+    },
+}
+
+// The first refusal of two texts that are fine by themselves, or done: what is lent for the sheet's n, then a script whose n or hidden set is not the sheet's.
+fn check_fit(n: usize, hidden: u32, script_n: usize, script_hidden: u32, lent: Lengths) -> Reply
+    requires { ⌜ (1 ≤ n) × (n ≤ maxQuantities) ⌝ }
+    ensures { λ r. ⌜ r ≡ firstChecks n hidden «script_n» «script_hidden» lent ⌝ }
+{
+    let room = room::check_room(n, lent);
+    let Reply::Done = room else {
+        return room;
+    };
+    if n == script_n {
+        if hidden == script_hidden {
+            return Reply::Done;
+        }
+    }
+    Reply::Refused(Refusal::Mismatch)
+}
+
+// Checks two texts and what is lent for them; the first check that fails refuses them.
+pub(crate) fn check_pair(sheet: &[u8], script: &[u8], lent: Lengths) -> PairChecked
+    ensures { λ r. ⌜ r ≡ checkedPair (checkedOf (checkText (now (sheet .entry)))) (checkedOf (checkText (now (script .entry)))) lent ⌝ }
+{
+    match check::check(sheet) {
+        Checked::Refused { refusal } => PairChecked::Refused {
+            paper: Subject::Sheet,
+            refusal,
+        },
+        Checked::Passed {
+            quantities,
+            hidden,
+            rules,
+            body,
+        } => match check::check(script) {
+            Checked::Refused { refusal } => PairChecked::Refused {
+                paper: Subject::Script,
+                refusal,
+            },
+            Checked::Passed {
+                quantities: script_n,
+                hidden: script_hidden,
+                rules: script_rules,
+                body: script_body,
+            } => match check_fit(quantities, hidden, script_n, script_hidden, lent) {
+                Reply::Refused(refusal) => PairChecked::Refused {
+                    paper: Subject::Both,
+                    refusal,
+                },
+                Reply::Done => PairChecked::Passed {
+                    quantities,
+                    hidden,
+                    rules,
+                    body,
+                    script_rules,
+                    script_body,
+                },
+            },
+        },
+    }
+}

@@ -6,7 +6,7 @@ use Prim.Native.Nat.{ℕ}
 use native.Mathlib.Omega.{arith}
 use Rattle.numerals.specs.Bytes.{bytes}
 use Rattle.scripts.specs.Replies.{textNumber}
-use Rattle.reports.proofs.Starred.{wide, narrow}
+use Rattle.reports.proofs.Cases.{wide, narrow}
 use Rattle.reports.proofs.Shown.{wide-loose, narrow-tight}
 use Rattle.acornsled.specs.Promises.{MarkAnswer}
 

@@ -22,7 +22,8 @@ use Rattle.reports.specs.Marks.{integersText, valuesText, markText}
 use Rattle.reports.specs.Promises.{KeyPrinted, MarkPrinted}
 use Rattle.reports.proofs.Marks.{later-more-length, integers-length, values-length}
 use Rattle.reports.proofs.Markings.{verdict-returned}
-use Rattle.reports.proofs.Starred.{KeyCase, KeyPasses, shownLine, sheetA, wide, halvedBelow, oneHalf, seenLate, unpaired, starred-pass}
+use Rattle.reports.proofs.Cases.{KeyCase, KeyPasses, shownLine, sheetA, wide, halvedBelow, oneHalf, seenLate, unpaired}
+use Rattle.reports.proofs.Starred.{starred-pass}
 use Rattle.reports.proofs.Shown.{sumRule, wide-loose}
 
 -- what is printed for a case that passes, so many bytes as are counted, is no list that differs from the case's at some byte
@@ -52,19 +53,19 @@ module _ (out : List ℕ) (end : ℕ) (out' : List ℕ) where
 
   -- -1 halved rounded to 0
   pub rounded-up : KeyPrinted (bytes (halvedBelow .sheet)) out end out' → take end out' ≡ bytes "quantities=1\nhidden=\nrules=1\nrule=+1:0\n" → ⊥
-  rounded-up p e = unlike halvedBelow (starred-pass .1 .1 .1 .1 .1 .0) 37 p e refl
+  rounded-up p e = unlike halvedBelow (starred-pass .1 .1 .1 .1 .1 .1 .1 .0) 37 p e refl
 
   -- a key printed, of whatever rules, where one half alone fits
   pub half-allowed : (s : List ℕ) → KeyPrinted (bytes (oneHalf .sheet)) out end out' → take end out' ≡ bytes "quantities=1\nhidden=\n" ++ s → ⊥
-  half-allowed s p e = unlike oneHalf (starred-pass .1 .1 .1 .1 .1 .1 .0) 0 p e refl
+  half-allowed s p e = unlike oneHalf (starred-pass .1 .1 .1 .1 .1 .1 .1 .1 .0) 0 p e refl
 
   -- 5 decided on the hidden quantities only: a key printed where the contradiction is seen only after both quantities go
   pub hidden-only : (s : List ℕ) → KeyPrinted (bytes (seenLate .sheet)) out end out' → take end out' ≡ bytes "quantities=2\nhidden=1\n" ++ s → ⊥
-  hidden-only s p e = unlike seenLate (starred-pass .1 .1 .1 .1 .1 .1 .1 .0) 0 p e refl
+  hidden-only s p e = unlike seenLate (starred-pass .1 .1 .1 .1 .1 .1 .1 .1 .1 .0) 0 p e refl
 
   -- a hidden quantity's lone rule kept
   pub lone-kept : KeyPrinted (bytes (unpaired .sheet)) out end out' → take end out' ≡ bytes (unpaired .sheet) → ⊥
-  lone-kept p e = unlike unpaired (starred-pass .1 .1 .1 .1 .1 .1 .1 .1 .0) 28 p e refl
+  lone-kept p e = unlike unpaired (starred-pass .1 .1 .1 .1 .1 .1 .1 .1 .1 .1 .0) 28 p e refl
 
 -- ---- too few integers, for sheet A and the script +1:3
 

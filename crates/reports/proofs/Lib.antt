@@ -7,6 +7,7 @@ pub mod Calls
 pub mod Readings
 pub mod Marks
 pub mod Markings
-pub mod Starred
+pub mod Cases
 pub mod Shown
+pub mod Starred
 pub mod Frauds

@@ -31,9 +31,7 @@ use Rattle.reading.proofs.Frauds.{contentsA}
 use Rattle.scripts.specs.declared.reply.TextMarking.the-variants.{Marked}
 use Rattle.scripts.specs.Replies.{textNumber, textValues}
 use Rattle.scripts.specs.Meaning.{Reads}
-use Rattle.scripts.specs.Marking.{ownLengths}
-use Rattle.scripts.specs.Promises.{TextsShown}
-use Rattle.reports.proofs.Starred.{MarkCase, sheetA, wide, narrow, replyFor, reckoning}
+use Rattle.reports.proofs.Cases.{MayShow, sheetA, wide, narrow, replyFor, reckoning}
 
 -- ---- what the texts write
 
@@ -138,10 +136,6 @@ narrow-shown = record {
 }
 
 -- ---- so *mark* may print both
-
--- what the contract asks of the assignment for two texts
-abbrev pub MayShow : MarkCase → List ℤ → Type 0
-MayShow c values = TextsShown (bytes (c .sheet)) (bytes (c .script)) ownLengths (replyFor c) values
 
 -- the contents that an answer has, sheet A's where it has none
 abbrev contentsIn : Judged Contents → Contents

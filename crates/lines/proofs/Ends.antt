@@ -9,21 +9,21 @@ use lib.ListN.{drop}
 use borrow.Author.Tests.{eqb-true}
 use Rattle.numerals.specs.declared.byte.Kind.the-variants.{LineEnd}
 use Rattle.numerals.specs.Bytes.{newline, kindOf}
-use Rattle.numerals.specs.Parsing.{parsed, malformed, startsWith, kindAt}
+use Rattle.numerals.specs.Parsing.{parsed, malformed, kindAt}
 use Rattle.numerals.proofs.Cases.{clash}
-use Rattle.numerals.proofs.Keys.{byte-kind, kind-test, expect-not, byte-passed}
+use Rattle.numerals.proofs.Keys.{byte-kind, kind-test, starts-kind, starts-other, expect-not, byte-passed}
 use Rattle.lines.specs.Lines.{ended}
 
 -- a line that ends at the cursor is read, and the next one begins after it
-pub ended-here : {A : Type 0} (a : A) (s : List ℕ) (at : ℕ) → startsWith (newline ∷ []) (drop at s) ≡ true
+pub ended-here : {A : Type 0} (a : A) (s : List ℕ) (at : ℕ) → kindAt (drop at s) ≡ LineEnd
     → ended a (drop at s) ≡ parsed a (drop (at + 1) s)
 unfolding ended
-ended-here a s at e = byte-passed newline s at (parsed a) e
+ended-here a s at e = byte-passed newline s at (parsed a) (starts-kind LineEnd (drop at s) refl e)
 
 -- one that does not is malformed
-pub ended-not : {A : Type 0} (a : A) (u : List ℕ) → startsWith (newline ∷ []) u ≡ false → ended a u ≡ malformed
+pub ended-not : {A : Type 0} (a : A) (u : List ℕ) → (kindAt u ≡ LineEnd → ⊥) → ended a u ≡ malformed
 unfolding ended
-ended-not a u e = expect-not (newline ∷ []) u (parsed a) e
+ended-not a u h = expect-not (newline ∷ []) u (parsed a) (starts-other LineEnd u refl h)
 
 -- a line ends here or not
 pub by-end : {X : Type 0} (u : List ℕ) → (kindAt u ≡ LineEnd → X) → ((kindAt u ≡ LineEnd → ⊥) → X) → X

@@ -4,6 +4,7 @@ pub mod Terms
 pub mod WrittenRules
 pub mod Lists
 pub mod Spellings
+pub mod RuleBytes
 pub mod Found
 pub mod Ends
 pub mod Counts

@@ -1,13 +1,13 @@
 -- The form of a rule line, part by part as the program reads it. Assumes nothing.
 use mathlib.Core.Path.{_≡_, refl}
-use mathlib.Core.Bool.{true, false}
 use mathlib.Core.List.{List, [], _∷_}
 use Prim.Native.Nat.{ℕ, _+_}
 use lib.IntN.{ℤ}
 use lib.ListN.{drop}
+use Rattle.numerals.specs.declared.byte.Kind.the-variants.{Colon}
 use Rattle.numerals.specs.Bytes.{colon}
-use Rattle.numerals.specs.Parsing.{Parsed, parsed, malformed, andThen, startsWith}
-use Rattle.numerals.proofs.Keys.{byte-first, byte-fails}
+use Rattle.numerals.specs.Parsing.{Parsed, parsed, malformed, andThen, kindAt}
+use Rattle.numerals.proofs.Keys.{kind-test-fails, starts-kind, byte-first}
 use Rattle.lines.specs.declared.signed.Signed.the-variants.{Read}
 use Rattle.lines.specs.declared.spelled.Spelled.the-variants.{One, Two}
 use Rattle.lines.specs.Spelling.{Term, one, two, signedQuantity}
@@ -30,13 +30,12 @@ two-read s (parsed b u) x y first second c next e f g = cc
 two-read s malformed x y first second c next e f g = cc
 
 -- after the first term a colon is before the bound
-pub after-colon : (x : Term) (s : List ℕ) (at : ℕ) → startsWith (colon ∷ []) (drop at s) ≡ true
-    → afterTerm x (drop at s) ≡ oneAfter (drop (at + 1) s) x
+pub after-colon : (x : Term) (s : List ℕ) (at : ℕ) → kindAt (drop at s) ≡ Colon → afterTerm x (drop at s) ≡ oneAfter (drop (at + 1) s) x
 unfolding afterTerm
-after-colon x s at e = rw (byte-first colon s at e)
+after-colon x s at e = rw (byte-first colon s at (starts-kind Colon (drop at s) refl e))
 
 -- and anything else is a second term
-pub after-other : (x : Term) (u : List ℕ) → startsWith (colon ∷ []) u ≡ false → afterTerm x u ≡ twoAfter u x
-unfolding afterTerm termOf andThen
-after-other x [] e = refl
-after-other x (b ∷ u) e = rw (byte-fails colon b u e)
+pub after-other : (x : Term) (u : List ℕ) → (kindAt u ≡ Colon → ⊥) → afterTerm x u ≡ twoAfter u x
+unfolding kindAt afterTerm termOf andThen
+after-other x [] h = refl
+after-other x (b ∷ u) h = rw (kind-test-fails Colon b refl h)

@@ -2,6 +2,7 @@
 use crate::answer;
 use crate::answer::Answer;
 use numerals::byte;
+use numerals::byte::Kind;
 use numerals::read;
 use numerals::read::Numeral;
 ghost use mathlib.Core.Path.{_≡_};
@@ -23,9 +24,10 @@ pub fn count_line(s: &[u8], at: usize, key: &[u8], least: usize, most: usize, li
     let Numeral::Number { value, next } = got else {
         return answer::malformed(line);
     };
-    if !byte::is_at(s, next, b'\n') {
+    let kind = byte::kind_of(byte::byte_at(s, next));
+    let Kind::LineEnd = kind else {
         return answer::malformed(line);
-    }
+    };
     let count = value as usize;
     if count < least {
         return answer::out_of_limit(line);

@@ -86,7 +86,7 @@ fn listed(s: &[u8], at: usize, n: usize, line: usize) -> Answer
             return answer::malformed(line);
         }
         found = found.with(value, n);
-        let kind = byte::kind_at(s, next);
+        let kind = byte::kind_of(byte::byte_at(s, next));
         let Kind::Comma = kind else {
             return found.answer(kind, line, next + 1);
         };
@@ -107,7 +107,7 @@ pub fn hidden_line(s: &[u8], at: usize, n: usize, line: usize) -> Answer
         return answer::malformed(line);
     }
     let from = at + key.len();
-    let kind = byte::kind_at(s, from);
+    let kind = byte::kind_of(byte::byte_at(s, from));
     let Kind::LineEnd = kind else {
         return listed(s, from, n, line);
     };

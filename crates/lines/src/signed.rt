@@ -57,10 +57,11 @@ pub(crate) fn term_at(s: &[u8], at: usize) -> Signed
 fn after_minus(s: &[u8], at: usize) -> usize
     ensures { λ r. ⌜ r ≡ afterMinus (now (s .entry)) at ⌝ }
 {
-    if byte::is_at(s, at, b'-') {
-        return at + 1;
-    }
-    at
+    let kind = byte::kind_of(byte::byte_at(s, at));
+    let Kind::Minus = kind else {
+        return at;
+    };
+    at + 1
 }
 
 // The bound at the cursor; `-0` is malformed, so that a number after a minus is at least 1.
@@ -89,9 +90,10 @@ pub(crate) fn bound_line(s: &[u8], at: usize) -> Signed
     let Signed::Read { value, next } = got else {
         return Signed::Malformed;
     };
-    if !byte::is_at(s, next, b'\n') {
+    let kind = byte::kind_of(byte::byte_at(s, next));
+    let Kind::LineEnd = kind else {
         return Signed::Malformed;
-    }
+    };
     Signed::Read {
         value,
         next: next + 1,

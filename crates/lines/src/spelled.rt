@@ -2,6 +2,7 @@
 use crate::signed;
 use crate::signed::Signed;
 use numerals::byte;
+use numerals::byte::Kind;
 ghost use mathlib.Core.Path.{_≡_};
 ghost use lib.ListN.{drop};
 ghost use Rattle.lines.specs.Lines.{ruleLine};
@@ -47,9 +48,10 @@ fn rule_of_two(s: &[u8], at: usize, first: i64) -> Spelled
     else {
         return Spelled::Nothing;
     };
-    if !byte::is_at(s, next, b':') {
+    let kind = byte::kind_of(byte::byte_at(s, next));
+    let Kind::Colon = kind else {
         return Spelled::Nothing;
-    }
+    };
     let ending = signed::bound_line(s, next + 1);
     let Signed::Read {
         value: bound,
@@ -78,8 +80,9 @@ pub(crate) fn spelled_at(s: &[u8], at: usize) -> Spelled
     let Signed::Read { value, next } = got else {
         return Spelled::Nothing;
     };
-    if byte::is_at(s, next, b':') {
-        return rule_of_one(s, next + 1, value);
-    }
-    rule_of_two(s, next, value)
+    let kind = byte::kind_of(byte::byte_at(s, next));
+    let Kind::Colon = kind else {
+        return rule_of_two(s, next, value);
+    };
+    rule_of_one(s, next + 1, value)
 }

@@ -7,7 +7,7 @@ use native.Mathlib.Nat.{add-suc}
 use native.Mathlib.Numerals.{add-one}
 use native.Mathlib.Omega.{arith}
 use lib.Dec.{T, leb, eqb}
-use lib.ListN.{length, getD, drop, length-append, drop-of-length-le}
+use lib.ListN.{length, getD, drop, length-append, drop-of-length-le, List·getD-eq-default}
 use lib.Seq.{drop-cons, drop-drop, drop-append-seam}
 use mir.Val.{hasKey}
 use types.Run.{OneOf, miss}
@@ -135,6 +135,20 @@ pub digit-kind : (b : ℕ) → isDigit b ≡ true → kindOf b ≡ Digit
 unfolding kindOf
 digit-kind b e = rw e
 
+-- and no other byte has it
+pub kind-digit : (b : ℕ) → kindOf b ≡ Digit → isDigit b ≡ true
+unfolding kindOf
+kind-digit b e = go (isDigit b) (eqb b plus) (eqb b minus) (eqb b colon) (eqb b comma) (eqb b newline) e
+  where
+    go : (d p m c a l : Bool) → cond d Digit (cond p Plus (cond m Minus (cond c Colon (cond a Comma (cond l LineEnd Other))))) ≡ Digit → d ≡ true
+    go true p m c a l f = refl
+    go false true m c a l f = clash refl (ap single f)
+    go false false true c a l f = clash refl (ap single f)
+    go false false false true a l f = clash refl (ap single f)
+    go false false false false true l f = clash refl (ap single f)
+    go false false false false false true f = clash refl (ap single f)
+    go false false false false false false f = clash refl (ap named (sym f))
+
 -- a byte of a kind passes the test against the kind's byte
 pub kind-test : (k : Kind) (b : ℕ) → single k ≡ true → kindOf b ≡ k → eqb b (byteOf k) ≡ true
 kind-test k b o e = eq-eqb b (byteOf k) (kind-byte k b o e)
@@ -187,6 +201,32 @@ expect-not ks u next e = rw (expect-tests ks u next, e)
 pub expect-append : {A : Type 0} (ks u : List ℕ) (next : List ℕ → Parsed A) → expect ks (ks ++ u) next ≡ next u
 expect-append ks u next = expect-key ks (ks ++ u) next (startsWith-append ks u) ∙ ap next (drop-append-seam ks u)
 
+-- ---- by the kind of the first byte
+
+-- bytes of which the first has the kind of digits begin with a digit
+pub digit-next : (u : List ℕ) → kindAt u ≡ Digit → digitNext u ≡ true
+unfolding kindAt
+digit-next [] e = clash refl (ap named (sym e))
+digit-next (b ∷ u) e = kind-digit b e
+
+-- others do not
+pub no-digit-next : (u : List ℕ) → (kindAt u ≡ Digit → ⊥) → digitNext u ≡ false
+unfolding kindAt
+no-digit-next [] h = refl
+no-digit-next (b ∷ u) h = failed (isDigit b) (λ e. h (digit-kind b e))
+
+-- bytes of which the first has a kind that one byte alone has start with that byte
+pub starts-kind : (k : Kind) (u : List ℕ) → single k ≡ true → kindAt u ≡ k → startsWith (byteOf k ∷ []) u ≡ true
+unfolding kindAt startsWith
+starts-kind k [] o e = clash o (ap single (sym e))
+starts-kind k (b ∷ u) o e = rw (kind-test k b o e)
+
+-- others do not
+pub starts-other : (k : Kind) (u : List ℕ) → single k ≡ true → (kindAt u ≡ k → ⊥) → startsWith (byteOf k ∷ []) u ≡ false
+unfolding kindAt startsWith
+starts-other k [] o h = refl
+starts-other k (b ∷ u) o h = rw (kind-test-fails k b o h)
+
 -- ---- at a cursor
 
 -- at the end of the text there is no kind
@@ -194,10 +234,16 @@ pub kind-end : (s : List ℕ) (at : ℕ) → length s ≤ at → kindAt (drop at
 unfolding kindAt
 kind-end s at h = rw (drop-of-length-le s h)
 
--- before it there is a byte
-pub kind-at : (s : List ℕ) (at : ℕ) → at < length s → kindAt (drop at s) ≡ kindOf (getD s at 0)
-unfolding kindAt
-kind-at s at h = rw (drop-cons s at 0 h)
+-- before it there is a byte, and past it 0 stands for one
+pub kind-at : (s : List ℕ) (at : ℕ) → kindAt (drop at s) ≡ kindOf (getD s at 0)
+unfolding kindAt kindOf
+kind-at s at = by-below at (length s)
+    (λ h. rw (drop-cons s at 0 h))
+    (λ h. rw (drop-of-length-le s h, List·getD-eq-default s 0 h))
+
+-- so the kind of the byte that is read at a cursor is that of the bytes there
+pub kind-read : {k : Kind} {b : ℕ} (s : List ℕ) (at : ℕ) → b ≡ getD s at 0 → k ≡ kindOf b → k ≡ kindAt (drop at s)
+kind-read s at e f = f ∙ ap kindOf e ∙ sym (kind-at s at)
 
 -- a byte of a kind that says which one it is, or that it is a digit, is inside the text
 pub kind-inside : (k : Kind) (s : List ℕ) (at : ℕ) → named k ≡ true → kindAt (drop at s) ≡ k → at < length s
@@ -219,25 +265,7 @@ digit-at s at h = rw (drop-cons s at 0 h)
 pub digit-inside : (s : List ℕ) (at : ℕ) → digitNext (drop at s) ≡ true → at < length s
 digit-inside s at e = by-below at (length s) (λ h. h) (λ h. clash e (digit-end s at h))
 
--- at the end of the text there is no byte
-pub byte-end : (b : ℕ) (s : List ℕ) (at : ℕ) → length s ≤ at → startsWith (b ∷ []) (drop at s) ≡ false
-unfolding startsWith
-byte-end b s at h = rw (drop-of-length-le s h)
-
--- before it the byte is compared
-pub byte-at : (b : ℕ) (s : List ℕ) (at : ℕ) → at < length s → startsWith (b ∷ []) (drop at s) ≡ eqb (getD s at 0) b
-unfolding startsWith
-byte-at b s at h = rw (drop-cons s at 0 h) (go (eqb (getD s at 0) b))
-  where
-    go : (t : Bool) → _&&_ t true ≡ t
-    go true = refl
-    go false = refl
-
--- a byte that is there is inside the text
-pub byte-inside : (b : ℕ) (s : List ℕ) (at : ℕ) → startsWith (b ∷ []) (drop at s) ≡ true → at < length s
-byte-inside b s at e = by-below at (length s) (λ h. h) (λ h. clash e (byte-end b s at h))
-
--- the bytes there are it and those after it
+-- the bytes that begin with a certain one are it and those after it
 pub byte-first : (b : ℕ) (s : List ℕ) (at : ℕ) → startsWith (b ∷ []) (drop at s) ≡ true → drop at s ≡ b ∷ drop (at + 1) s
 byte-first b s at e = starts-is (b ∷ []) (drop at s) e ∙ ap (λ (u : List ℕ). b ∷ u) (drop-drop 1 at s)
 

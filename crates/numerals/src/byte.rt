@@ -1,9 +1,8 @@
 // What a byte is in a text.
 ghost use mathlib.Core.Path.{_≡_};
-ghost use mathlib.Core.List.{[], _∷_};
-ghost use lib.ListN.{drop};
+ghost use lib.ListN.{getD, drop};
 ghost use Rattle.numerals.specs.Bytes.{kindOf};
-ghost use Rattle.numerals.specs.Parsing.{startsWith, kindAt, digitNext};
+ghost use Rattle.numerals.specs.Parsing.{startsWith, digitNext};
 
 pub enum Kind {
     Digit,
@@ -30,39 +29,25 @@ pub fn kind_of(b: u8) -> Kind
     }
 }
 
-// The kind of the byte at the cursor; at the end of the text it is none of the named ones.
-pub fn kind_at(s: &[u8], at: usize) -> Kind
-    ensures { λ r. ⌜ r ≡ kindAt (drop at (now (s .entry))) ⌝ }
+// The byte at the cursor; at the end of the text it is 0, which has none of the named kinds.
+pub fn byte_at(s: &[u8], at: usize) -> u8
+    ensures { λ r. ⌜ r ≡ getD (now (s .entry)) at 0 ⌝ }
 {
     if s.len() <= at {
-        return Kind::Other;
+        return 0;
     }
-    let b = s[at];
-    kind_of(b)
+    s[at]
 }
 
-// Whether the byte at the cursor is a digit, without asking what else it may be.
+// Whether the byte at the cursor is a digit.
 pub fn is_digit_at(s: &[u8], at: usize) -> bool
     ensures { λ r. ⌜ r ≡ digitNext (drop at (now (s .entry))) ⌝ }
 {
-    if s.len() <= at {
+    let kind = kind_of(byte_at(s, at));
+    let Kind::Digit = kind else {
         return false;
-    }
-    let b = s[at];
-    match b {
-        b'0'..=b'9' => true,
-        _ => false,
-    }
-}
-
-// Whether the byte at the cursor is `b`.
-pub fn is_at(s: &[u8], at: usize, b: u8) -> bool
-    ensures { λ r. ⌜ r ≡ startsWith (b ∷ []) (drop at (now (s .entry))) ⌝ }
-{
-    if s.len() <= at {
-        return false;
-    }
-    s[at] == b
+    };
+    true
 }
 
 // Whether the text goes on at the cursor with the bytes of `key`.

@@ -1,17 +1,16 @@
 -- `count::count_line` meets its contract: the key, the number and the line's end are read in turn, and then the number's limits are tested.
 -- Assumes nothing.
-use mathlib.Core.Path.{_≡_, sym, _∙_, ap}
+use mathlib.Core.Path.{_≡_, refl, sym, _∙_, ap}
 use mathlib.Core.Bool.{true}
-use mathlib.Core.List.{[], _∷_}
 use Prim.Native.Nat.{ℕ, _+_, _<_}
 use native.Mathlib.Omega.{arith}
 use lib.ListN.{length, drop, length-drop}
 use denote.Ref.{now}
 use borrow.Author.Needs.{needs}
 use borrow.Author.Tests.{not-true, not-false}
-use Rattle.numerals.specs.Bytes.{newline}
-use Rattle.numerals.specs.Parsing.{parsed, andThen, startsWith}
-use Rattle.numerals.proofs.Keys.{byte-inside, starts-length}
+use Rattle.numerals.specs.declared.byte.Kind.the-variants.{LineEnd}
+use Rattle.numerals.specs.Parsing.{parsed, andThen, startsWith, kindAt}
+use Rattle.numerals.proofs.Keys.{kind-else, kind-read, kind-inside, starts-length}
 use Rattle.numerals.proofs.Numerals.{NumeralFound, numeral-found, numeral-none}
 use Rattle.lines.specs.declared.answer.Answer.the-variants.{Count}
 use Rattle.lines.specs.Lines.{ended, countJudged}
@@ -61,8 +60,14 @@ returns-2 c = let n = c .before .before .before in let a = n .before .before .be
     ∙ rw (numeral-none (now (a .s)) (a .at + length (now (a .key))) (sym (n .numeral-at .ensures) ∙ c .before .enum-told .given .1))
     (count-malformed (now (a .s)) (a .least) (a .most) (a .line)))
 
-is-at-requires : tie.Need-is-at-requires
-is-at-requires c κs = search needs
+byte-at-requires : tie.Need-byte-at-requires
+byte-at-requires c κs = search needs
+
+kind-of-requires : tie.Need-kind-of-requires
+kind-of-requires c κs = search needs
+
+enum-told-2 : tie.Need-enum-told-2
+enum-told-2 c = search needs
 
 -- where the function began
 abbrev start : tie.After-got → tie.Start
@@ -82,62 +87,68 @@ unfolding andThen
 numbered c = let a = start c .args in
     count-keyed (now (a .s)) (a .least) (a .most) (a .line) (now (a .key)) (a .at) (keyed (c .before .before .before)) ∙ rw (found c .is)
 
+-- the kind is that of the byte after it
+kind-is : (c : tie.After-kind-of) → let g = c .before .before .before in let a = start g .args in
+    c .kind-of .result ≡ kindAt (drop (g .got .given .0 .1 .0) (now (a .s)))
+kind-is c = let g = c .before .before .before in let a = start g .args in
+    kind-read (now (a .s)) (g .got .given .0 .1 .0) (c .before .byte-at .ensures) (c .kind-of .ensures)
+
 malformed-requires-3 : tie.Need-malformed-requires-3
 malformed-requires-3 c κs = search needs
 
 returns-3 : tie.Need-returns-3
-returns-3 c = let k = c .before .before in let g = k .before .before in let a = start g .args in
+returns-3 c = let k = c .before .before in let g = k .before .before .before in let a = start g .args in
     c .malformed3 .ensures
     ∙ sym (numbered g
     ∙ rw (ended-not (found g .value) (drop (g .got .given .0 .1 .0) (now (a .s)))
-    (sym (k .is-at .ensures) ∙ not-true (k .is-at .result) (c .before .if2 .taken)))
+    (λ e. kind-else LineEnd (k .kind-of .result) (c .before .match2 .keys2) (kind-is k ∙ e)))
     (count-malformed (now (a .s)) (a .least) (a .most) (a .line)))
 
 -- the line ends after the number
-line-end : (c : tie.Else2) → let g = c .before .before .before in let a = start g .args in
-    startsWith (newline ∷ []) (drop (g .got .given .0 .1 .0) (now (a .s))) ≡ true
-line-end c = let k = c .before in sym (k .is-at .ensures) ∙ not-false (k .is-at .result) (c .if2 .left)
+line-end : (c : tie.After-enum-told2) → let g = c .before .before .before .before .before in let a = start g .args in
+    kindAt (drop (g .got .given .0 .1 .0) (now (a .s))) ≡ LineEnd
+line-end c = sym (kind-is (c .before .before)) ∙ c .enum-told2 .given .1
 
 -- inside the text
-end-inside : (c : tie.Else2) → let g = c .before .before .before in let a = start g .args in
+end-inside : (c : tie.After-enum-told2) → let g = c .before .before .before .before .before in let a = start g .args in
     g .got .given .0 .1 .0 < length (now (a .s))
-end-inside c = let g = c .before .before .before in let a = start g .args in
-    byte-inside newline (now (a .s)) (g .got .given .0 .1 .0) (line-end c)
+end-inside c = let g = c .before .before .before .before .before in let a = start g .args in
+    kind-inside LineEnd (now (a .s)) (g .got .given .0 .1 .0) refl (line-end c)
 
 -- the answer is that of the number
-read : (c : tie.Else2) → let g = c .before .before .before in let a = start g .args in
+read : (c : tie.After-enum-told2) → let g = c .before .before .before .before .before in let a = start g .args in
     countAnswer (now (a .s)) (countJudged (now (a .key)) (a .least) (a .most) (a .line) (drop (a .at) (now (a .s))))
     ≡ formAnswer (now (a .s)) (a .least) (a .most) (a .line) (parsed (found g .value) (drop (g .got .given .0 .1 .0 + 1) (now (a .s))))
-read c = let g = c .before .before .before in let a = start g .args in
+read c = let g = c .before .before .before .before .before in let a = start g .args in
     numbered g ∙ rw (ended-here (found g .value) (now (a .s)) (g .got .given .0 .1 .0) (line-end c))
 
 out-of-limit-requires : tie.Need-out-of-limit-requires
 out-of-limit-requires c κs = search needs
 
 returns-4 : tie.Need-returns-4
-returns-4 c = let e = c .before .before in let g = e .before .before .before in let st = start g in let a = st .args in
+returns-4 c = let e = c .before .before in let g = e .before .before .before .before .before in let st = start g in let a = st .args in
     c .out-of-limit .ensures
     ∙ sym (read e ∙ count-low (now (a .s)) (a .least) (a .most) (a .line) (found g .value) _ (st .pre .0)
-    (omega (arith, found g .told, c .before .if3 .taken)))
+    (omega (arith, found g .told, c .before .if2 .taken)))
 
 out-of-limit-requires-2 : tie.Need-out-of-limit-requires-2
 out-of-limit-requires-2 c κs = search needs
 
 returns-5 : tie.Need-returns-5
-returns-5 c = let e = c .before .before .before in let g = e .before .before .before in let st = start g in let a = st .args in
+returns-5 c = let e = c .before .before .before in let g = e .before .before .before .before .before in let st = start g in let a = st .args in
     c .out-of-limit2 .ensures
     ∙ sym (read e ∙ count-high (now (a .s)) (a .least) (a .most) (a .line) (found g .value) _ (st .pre .0) (st .pre .1)
-    (omega (arith, found g .told, c .before .before .if3 .left)) (omega (arith, found g .told, c .before .if4 .taken)))
+    (omega (arith, found g .told, c .before .before .if2 .left)) (omega (arith, found g .told, c .before .if3 .taken)))
 
 add-t14 : tie.Need-add-t14
 add-t14 c = omega (arith, end-inside (c .before .before))
 
 returns-6 : tie.Need-returns-6
-returns-6 c = let e = c .before .before in let g = e .before .before .before in let st = start g in let a = st .args in
+returns-6 c = let e = c .before .before in let g = e .before .before .before .before .before in let st = start g in let a = st .args in
     let next : ℕ = g .got .given .0 .1 .0 in
     sym (read e
     ∙ count-inside (now (a .s)) (a .least) (a .most) (a .line) (found g .value) (next + 1) (st .pre .0) (st .pre .1)
-    (omega (arith, found g .told, c .before .if3 .left)) (omega (arith, found g .told, c .if4 .left)) (omega (arith, end-inside e))
+    (omega (arith, found g .told, c .before .if2 .left)) (omega (arith, found g .told, c .if3 .left)) (omega (arith, end-inside e))
     ∙ ap (λ (v : ℕ). Count v (next + 1)) (sym (found g .told)))
 
 pub count-line-spec : {M : Type 1} → statement M
@@ -153,7 +164,9 @@ count-line-spec =
     enum-told
     malformed-requires-2
     returns-2
-    is-at-requires
+    byte-at-requires
+    kind-of-requires
+    enum-told-2
     malformed-requires-3
     returns-3
     out-of-limit-requires

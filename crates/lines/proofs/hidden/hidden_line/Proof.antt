@@ -9,7 +9,7 @@ use borrow.Author.Needs.{needs}
 use borrow.Author.Tests.{not-true, not-false}
 use Rattle.numerals.specs.declared.byte.Kind.the-variants.{LineEnd}
 use Rattle.numerals.specs.Parsing.{startsWith, kindAt}
-use Rattle.numerals.proofs.Keys.{kind-else, kind-inside, starts-length}
+use Rattle.numerals.proofs.Keys.{kind-else, kind-read, kind-inside, starts-length}
 use Rattle.lines.specs.Spelling.{hiddenKey}
 use Rattle.lines.proofs.Members.{hidden-unkeyed, hidden-none, hidden-some}
 use Rattle.lines.proofs.hidden.hidden_line.Statement.{statement}
@@ -39,33 +39,42 @@ add-from : tie.Need-add-from
 add-from c = let a = start (c .before) .args in
     omega (arith, starts-length hiddenKey (drop (a .at) (now (a .s))) (keyed c), length-drop (a .at) (now (a .s)))
 
-kind-at-requires : tie.Need-kind-at-requires
-kind-at-requires c κs = search needs
+byte-at-requires : tie.Need-byte-at-requires
+byte-at-requires c κs = search needs
+
+kind-of-requires : tie.Need-kind-of-requires
+kind-of-requires c κs = search needs
 
 enum-told : tie.Need-enum-told
 enum-told c = search needs
+
+-- the kind is that of the byte after it
+kind-is : (c : tie.After-kind-of) → let a = start (c .before .before .before) .args in
+    c .kind-of .result ≡ kindAt (drop (a .at + length hiddenKey) (now (a .s)))
+kind-is c = let a = start (c .before .before .before) .args in
+    kind-read (now (a .s)) (a .at + length hiddenKey) (c .before .byte-at .ensures) (c .kind-of .ensures)
 
 listed-requires : tie.Need-listed-requires
 listed-requires c κs = search needs
 
 returns-2 : tie.Need-returns-2
-returns-2 c = let k = c .before .before in let a = start (k .before .before) .args in
+returns-2 c = let k = c .before .before in let a = start (k .before .before .before) .args in
     c .listed .ensures
-    ∙ sym (hidden-some (a .n) (a .line) (now (a .s)) (a .at) (keyed (k .before))
-    (λ e. kind-else LineEnd (k .kind-at .result) (c .before .match .keys2) (k .kind-at .ensures ∙ e)))
+    ∙ sym (hidden-some (a .n) (a .line) (now (a .s)) (a .at) (keyed (k .before .before))
+    (λ e. kind-else LineEnd (k .kind-of .result) (c .before .match .keys2) (kind-is k ∙ e)))
 
 -- the line ends after it
-line-end : (c : tie.After-enum-told) → let a = start (c .before .before .before .before) .args in
+line-end : (c : tie.After-enum-told) → let a = start (c .before .before .before .before .before) .args in
     kindAt (drop (a .at + length hiddenKey) (now (a .s))) ≡ LineEnd
-line-end c = sym (c .before .before .kind-at .ensures) ∙ c .enum-told .given .1
+line-end c = sym (kind-is (c .before .before)) ∙ c .enum-told .given .1
 
-add-t13 : tie.Need-add-t13
-add-t13 c = let a = start (c .before .before .before .before) .args in
+add-t14 : tie.Need-add-t14
+add-t14 c = let a = start (c .before .before .before .before .before) .args in
     omega (arith, kind-inside LineEnd (now (a .s)) (a .at + length hiddenKey) refl (line-end c))
 
 returns-3 : tie.Need-returns-3
-returns-3 c = let k = c .before .before in let a = start (k .before .before) .args in
-    sym (hidden-none (a .n) (a .line) (now (a .s)) (a .at) (keyed (k .before)) (line-end c))
+returns-3 c = let k = c .before .before in let a = start (k .before .before .before) .args in
+    sym (hidden-none (a .n) (a .line) (now (a .s)) (a .at) (keyed (k .before .before)) (line-end c))
 
 pub hidden-line-spec : {M : Type 1} → statement M
 hidden-line-spec =
@@ -75,9 +84,10 @@ hidden-line-spec =
     malformed-requires
     returns
     add-from
-    kind-at-requires
+    byte-at-requires
+    kind-of-requires
     enum-told
     listed-requires
     returns-2
-    add-t13
+    add-t14
     returns-3)

@@ -11,7 +11,7 @@ use borrow.Author.Tests.{not-true, not-false}
 use Rattle.numerals.specs.declared.byte.Kind.the-variants.{Comma}
 use Rattle.numerals.specs.Order.{smallerNumeral}
 use Rattle.numerals.specs.Parsing.{kindAt}
-use Rattle.numerals.proofs.Keys.{kind-else}
+use Rattle.numerals.proofs.Keys.{kind-else, kind-read}
 use Rattle.numerals.proofs.Numerals.{NumeralFound, numeral-found, numeral-none}
 use Rattle.lines.specs.Listed.{listAnswer}
 use Rattle.lines.proofs.Members.{Reading, reading-first, reading-none, reading-past, reading-unordered, reading-room, reading-end, reading-more}
@@ -98,38 +98,47 @@ with-requires : tie.Need-with-requires Inv-loop μ-loop
 with-requires c κs = let g = c .before .before .before .before .before in
     (start (turn g) .pre, reading-room (turn g .loop .inv) (found g) (above c) (start (turn g) .pre))
 
-kind-at-requires : tie.Need-kind-at-requires Inv-loop μ-loop
-kind-at-requires c κs = search needs
+byte-at-requires : tie.Need-byte-at-requires Inv-loop μ-loop
+byte-at-requires c κs = search needs
+
+kind-of-requires : tie.Need-kind-of-requires Inv-loop μ-loop
+kind-of-requires c κs = search needs
 
 enum-told-2 : tie.Need-enum-told-2 Inv-loop μ-loop
 enum-told-2 c = search needs
 
+-- the kind is that of the byte after it
+kind-is : (c : tie.After-kind-of Inv-loop μ-loop) → let g = c .before .before .before .before .before .before .before .before in
+    c .kind-of .result ≡ kindAt (drop (g .got .given .0 .1 .0) (now (start (turn g) .args .s)))
+kind-is c = let g = c .before .before .before .before .before .before .before .before in
+    kind-read (now (start (turn g) .args .s)) (g .got .given .0 .1 .0) (c .before .byte-at .ensures) (c .kind-of .ensures)
+
 add-answer : tie.Need-add-answer Inv-loop μ-loop
-add-answer c = omega (arith, found (c .before .before .before .before .before .before .before .before) .inside)
+add-answer c = omega (arith, found (c .before .before .before .before .before .before .before .before .before) .inside)
 
 answer-requires : tie.Need-answer-requires Inv-loop μ-loop
 answer-requires c κs = search needs
 
 returns-3 : tie.Need-returns-3 Inv-loop μ-loop
-returns-3 c = let k = c .before .before in let w = k .before in let e = w .before in let g = e .before .before .before .before .before in
+returns-3 c = let k = c .before .before in let w = k .before .before in let e = w .before in let g = e .before .before .before .before .before in
     let l = turn g in
     reading-end (l .loop .inv) (found g) (above e) (c .answer .result) (start l .pre)
-    (λ q. kind-else Comma (k .kind-at .result) (c .before .match2 .keys2) (k .kind-at .ensures ∙ q))
-    (rw (w .with .ensures .0, w .with .ensures .1, k .kind-at .ensures) at (c .answer .ensures))
+    (λ q. kind-else Comma (k .kind-of .result) (c .before .match2 .keys2) (kind-is k ∙ q))
+    (rw (w .with .ensures .0, w .with .ensures .1, kind-is k) at (c .answer .ensures))
 
 -- a comma follows
-comma-here : (c : tie.After-enum-told2 Inv-loop μ-loop) → let g = c .before .before .before .before .before .before .before .before .before in
+comma-here : (c : tie.After-enum-told2 Inv-loop μ-loop) → let g = c .before .before .before .before .before .before .before .before .before .before in
     kindAt (drop (g .got .given .0 .1 .0) (now (start (turn g) .args .s))) ≡ Comma
-comma-here c = sym (c .before .before .kind-at .ensures) ∙ c .enum-told2 .given .1
+comma-here c = sym (kind-is (c .before .before)) ∙ c .enum-told2 .given .1
 
 add-from : tie.Need-add-from Inv-loop μ-loop
-add-from c = omega (arith, found (c .before .before .before .before .before .before .before .before .before) .inside)
+add-from c = omega (arith, found (c .before .before .before .before .before .before .before .before .before .before) .inside)
 
 loop-less : tie.Need-loop-less Inv-loop μ-loop
-loop-less c = let g = c .before .before .before .before .before .before .before .before .before in omega (arith, found g .after)
+loop-less c = let g = c .before .before .before .before .before .before .before .before .before .before in omega (arith, found g .after)
 
 loop-again : tie.Need-loop-again Inv-loop μ-loop
-loop-again c = let w = c .before .before .before in let e = w .before in let g = e .before .before .before .before .before in
+loop-again c = let w = c .before .before .before .before in let e = w .before in let g = e .before .before .before .before .before in
     let l = turn g in
     rw (w .with .ensures .0, w .with .ensures .1) (reading-more (l .loop .inv) (found g) (above e) (start l .pre) (comma-here c))
 
@@ -161,7 +170,8 @@ listed-spec =
     malformed-requires-2
     returns-2
     with-requires
-    kind-at-requires
+    byte-at-requires
+    kind-of-requires
     enum-told-2
     add-answer
     answer-requires

@@ -1,18 +1,15 @@
 -- `signed::bound_line` meets its contract: after the bound its line ends. Assumes nothing.
-use mathlib.Core.Path.{_≡_, sym, _∙_, ap, ap₂}
-use mathlib.Core.Bool.{true}
-use mathlib.Core.List.{[], _∷_}
+use mathlib.Core.Path.{_≡_, refl, sym, _∙_, ap, ap₂}
 use Prim.Native.Nat.{ℕ, _+_, _<_}
 use native.Mathlib.Omega.{arith}
 use lib.ListN.{length, drop}
 use denote.Ref.{now}
 use borrow.Author.Needs.{needs}
-use borrow.Author.Tests.{not-true, not-false}
 use Rattle.integers.proofs.Parts.{held-value}
-use Rattle.numerals.specs.Bytes.{newline}
-use Rattle.numerals.specs.Parsing.{andThen, startsWith}
+use Rattle.numerals.specs.declared.byte.Kind.the-variants.{LineEnd}
+use Rattle.numerals.specs.Parsing.{andThen, kindAt}
 use Rattle.numerals.proofs.Cursors.{cursor-here}
-use Rattle.numerals.proofs.Keys.{byte-inside}
+use Rattle.numerals.proofs.Keys.{kind-else, kind-read, kind-inside}
 use Rattle.lines.specs.declared.signed.Signed.the-variants.{Read}
 use Rattle.lines.specs.Lines.{boundAt, boundLine, ended}
 use Rattle.lines.specs.Answers.{told, signedAnswer}
@@ -47,31 +44,43 @@ after : (c : tie.After-known-told) → let g = c .before in let a = g .before .b
 unfolding boundLine andThen
 after c = rw (bound c .is)
 
-is-at-requires : tie.Need-is-at-requires
-is-at-requires c κs = search needs
+byte-at-requires : tie.Need-byte-at-requires
+byte-at-requires c κs = search needs
+
+kind-of-requires : tie.Need-kind-of-requires
+kind-of-requires c κs = search needs
+
+enum-told-2 : tie.Need-enum-told-2
+enum-told-2 c = search needs
+
+-- the kind is that of the byte after it
+kind-is : (c : tie.After-kind-of) → let g = c .before .before .before in let a = g .before .before .before .before .args in
+    c .kind-of .result ≡ kindAt (drop (g .got .given .0 .1 .0) (now (a .s)))
+kind-is c = let g = c .before .before .before in let a = g .before .before .before .before .args in
+    kind-read (now (a .s)) (g .got .given .0 .1 .0) (c .before .byte-at .ensures) (c .kind-of .ensures)
 
 returns-2 : tie.Need-returns-2
 unfolding signedAnswer
-returns-2 c = let k = c .before in let t = k .before in let g = t .before in let a = g .before .before .before .before .args in
+returns-2 c = let k = c .before in let t = k .before .before in let g = t .before in let a = g .before .before .before .before .args in
     ap (signedAnswer (now (a .s))) (sym (after t ∙ ended-not (bound t .value) (drop (g .got .given .0 .1 .0) (now (a .s)))
-    (sym (k .is-at .ensures) ∙ not-true (k .is-at .result) (c .if1 .taken))))
+    (λ e. kind-else LineEnd (k .kind-of .result) (c .match2 .keys2) (kind-is k ∙ e))))
 
 -- the line ends
-end-here : (c : tie.Else1) → let g = c .before .before .before in let a = g .before .before .before .before .args in
-    startsWith (newline ∷ []) (drop (g .got .given .0 .1 .0) (now (a .s))) ≡ true
-end-here c = let k = c .before in sym (k .is-at .ensures) ∙ not-false (k .is-at .result) (c .if1 .left)
+end-here : (c : tie.After-enum-told2) → let g = c .before .before .before .before .before in let a = g .before .before .before .before .args in
+    kindAt (drop (g .got .given .0 .1 .0) (now (a .s))) ≡ LineEnd
+end-here c = sym (kind-is (c .before .before)) ∙ c .enum-told2 .given .1
 
-inside : (c : tie.Else1) → let g = c .before .before .before in let a = g .before .before .before .before .args in
+inside : (c : tie.After-enum-told2) → let g = c .before .before .before .before .before in let a = g .before .before .before .before .args in
     g .got .given .0 .1 .0 < length (now (a .s))
-inside c = let g = c .before .before .before in let a = g .before .before .before .before .args in
-    byte-inside newline (now (a .s)) (g .got .given .0 .1 .0) (end-here c)
+inside c = let g = c .before .before .before .before .before in let a = g .before .before .before .before .args in
+    kind-inside LineEnd (now (a .s)) (g .got .given .0 .1 .0) refl (end-here c)
 
 add-t8 : tie.Need-add-t8
 add-t8 c = omega (arith, inside c)
 
 returns-3 : tie.Need-returns-3
 unfolding signedAnswer
-returns-3 c = let t = c .before .before in let g = t .before in let a = g .before .before .before .before .args in
+returns-3 c = let t = c .before .before .before .before in let g = t .before in let a = g .before .before .before .before .args in
     let next : ℕ = g .got .given .0 .1 .0 in
     ap₂ Read (held-value (t .known-told .given .0 .1) ∙ sym (bound t .told)) (sym (cursor-here (now (a .s)) (next + 1) (omega (arith, inside c))))
     ∙ ap (signedAnswer (now (a .s))) (sym (after t ∙ ended-here (bound t .value) (now (a .s)) next (end-here c)))
@@ -84,7 +93,9 @@ bound-line-spec =
     enum-known-got
     enum-told
     returns
-    is-at-requires
+    byte-at-requires
+    kind-of-requires
+    enum-told-2
     returns-2
     add-t8
     returns-3)

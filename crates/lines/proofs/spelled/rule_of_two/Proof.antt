@@ -1,17 +1,16 @@
 -- `spelled::rule_of_two` meets its contract: a second term, a colon and the bound follow. Assumes nothing.
-use mathlib.Core.Path.{_≡_, sym, _∙_, ap}
-use mathlib.Core.Bool.{true}
+use mathlib.Core.Path.{_≡_, refl, sym, _∙_, ap}
 use mathlib.Core.List.{List, [], _∷_}
 use Prim.Native.Nat.{ℕ, _+_}
 use native.Mathlib.Omega.{arith}
 use lib.ListN.{drop}
 use denote.Ref.{now}
 use borrow.Author.Needs.{needs}
-use borrow.Author.Tests.{not-true, not-false}
 use Rattle.integers.proofs.Parts.{word-value, held-value}
+use Rattle.numerals.specs.declared.byte.Kind.the-variants.{Colon}
 use Rattle.numerals.specs.Bytes.{colon}
-use Rattle.numerals.specs.Parsing.{Parsed, parsed, andThen, expect, startsWith}
-use Rattle.numerals.proofs.Keys.{expect-not, byte-inside, byte-passed}
+use Rattle.numerals.specs.Parsing.{Parsed, parsed, andThen, expect, kindAt}
+use Rattle.numerals.proofs.Keys.{kind-else, kind-read, kind-inside, starts-kind, starts-other, expect-not, byte-passed}
 use Rattle.lines.specs.Spelling.{Term, Written, two, signedQuantity}
 use Rattle.lines.specs.Lines.{termOf, boundLine}
 use Rattle.lines.specs.Answers.{told, spelledAnswer, twoAfter}
@@ -51,31 +50,44 @@ after-second : (c : tie.After-known-told) (x : Term) → let g = c .before in le
 unfolding andThen
 after-second c x = rw (second c .is)
 
-is-at-requires : tie.Need-is-at-requires
-is-at-requires c κs = search needs
+byte-at-requires : tie.Need-byte-at-requires
+byte-at-requires c κs = search needs
+
+kind-of-requires : tie.Need-kind-of-requires
+kind-of-requires c κs = search needs
+
+enum-told-2 : tie.Need-enum-told-2
+enum-told-2 c = search needs
+
+-- the kind is that of the byte after it
+kind-is : (c : tie.After-kind-of) → let g = c .before .before .before in let a = g .before .before .before .before .args in
+    c .kind-of .result ≡ kindAt (drop (g .got .given .0 .1 .0) (now (a .s)))
+kind-is c = let g = c .before .before .before in let a = g .before .before .before .before .args in
+    kind-read (now (a .s)) (g .got .given .0 .1 .0) (c .before .byte-at .ensures) (c .kind-of .ensures)
 
 returns-2 : tie.Need-returns-2
 unfolding spelledAnswer
-returns-2 c = let k = c .before in let t = k .before in let a = t .before .before .before .before .before .args in record {
+returns-2 c = let k = c .before in let t = k .before .before in let a = t .before .before .before .before .before .args in record {
   answer = λ x e. ap (spelledAnswer (now (a .s))) (sym (after-second t x ∙ expect-not (colon ∷ []) _ (rule-at x (second t .value))
-      (sym (k .is-at .ensures) ∙ not-true (k .is-at .result) (c .if1 .taken))));
+      (starts-other Colon _ refl (λ q. kind-else Colon (k .kind-of .result) (c .match2 .keys2) (kind-is k ∙ q)))));
 }
 
 -- a colon is after it
-colon-here : (c : tie.Else1) → let g = c .before .before .before in let a = g .before .before .before .before .args in
-    startsWith (colon ∷ []) (drop (g .got .given .0 .1 .0) (now (a .s))) ≡ true
-colon-here c = let k = c .before in sym (k .is-at .ensures) ∙ not-false (k .is-at .result) (c .if1 .left)
+colon-here : (c : tie.After-enum-told2) → let g = c .before .before .before .before .before in let a = g .before .before .before .before .args in
+    kindAt (drop (g .got .given .0 .1 .0) (now (a .s))) ≡ Colon
+colon-here c = sym (kind-is (c .before .before)) ∙ c .enum-told2 .given .1
 
 -- after the colon
-after-colon : (c : tie.Else1) (x : Term) → let t = c .before .before in let g = t .before in
+after-colon : (c : tie.After-enum-told2) (x : Term) → let t = c .before .before .before .before in let g = t .before in
     let a = g .before .before .before .before .args in
     twoAfter (drop (a .at) (now (a .s))) x ≡ rule-at x (second t .value) (drop (g .got .given .0 .1 .0 + 1) (now (a .s)))
-after-colon c x = let t = c .before .before in let g = t .before in let a = g .before .before .before .before .args in
-    after-second t x ∙ byte-passed colon (now (a .s)) (g .got .given .0 .1 .0) (rule-at x (second t .value)) (colon-here c)
+after-colon c x = let t = c .before .before .before .before in let g = t .before in let a = g .before .before .before .before .args in
+    after-second t x
+    ∙ byte-passed colon (now (a .s)) (g .got .given .0 .1 .0) (rule-at x (second t .value)) (starts-kind Colon _ refl (colon-here c))
 
 add-bound-line : tie.Need-add-bound-line
-add-bound-line c = let g = c .before .before .before in let a = g .before .before .before .before .args in
-    omega (arith, byte-inside colon (now (a .s)) (g .got .given .0 .1 .0) (colon-here c))
+add-bound-line c = let g = c .before .before .before .before .before in let a = g .before .before .before .before .args in
+    omega (arith, kind-inside Colon (now (a .s)) (g .got .given .0 .1 .0) refl (colon-here c))
 
 bound-line-requires : tie.Need-bound-line-requires
 bound-line-requires c κs = search needs
@@ -83,18 +95,18 @@ bound-line-requires c κs = search needs
 enum-known-ending : tie.Need-enum-known-ending
 enum-known-ending c = search needs
 
-enum-told-2 : tie.Need-enum-told-2
-enum-told-2 c = search needs
+enum-told-3 : tie.Need-enum-told-3
+enum-told-3 c = search needs
 
 returns-3 : tie.Need-returns-3
 unfolding spelledAnswer andThen
-returns-3 c = let b = c .before .before in let o = b .before in let g = o .before .before .before in
+returns-3 c = let b = c .before .before in let o = b .before in let g = o .before .before .before .before .before in
     let s = now (g .before .before .before .before .args .s) in record {
-      answer = λ x e. sym (ap (spelledAnswer s) (after-colon o x) ∙ rw (bound-missing s _ (sym (b .bound-line .ensures) ∙ c .enum-told2 .given .1)));
+      answer = λ x e. sym (ap (spelledAnswer s) (after-colon o x) ∙ rw (bound-missing s _ (sym (b .bound-line .ensures) ∙ c .enum-told3 .given .1)));
     }
 
 returns-4 : tie.Need-returns-4
-returns-4 c = let n = c .before in let b = n .before .before in let o = b .before in let t = o .before .before in
+returns-4 c = let n = c .before in let b = n .before .before in let o = b .before in let t = o .before .before .before .before in
     let start = t .before .before .before .before .before in let a = start .args in
     let first = word-value (start .fits .first) in let second-value = held-value {z = t .before .got .given .0 .0} (t .known-told .given .0 .1) in
     rw (first, second-value, held-value (c .known-told2 .given .0 .1)) record {
@@ -111,11 +123,13 @@ rule-of-two-spec =
     enum-known-got
     enum-told
     returns
-    is-at-requires
+    byte-at-requires
+    kind-of-requires
+    enum-told-2
     returns-2
     add-bound-line
     bound-line-requires
     enum-known-ending
-    enum-told-2
+    enum-told-3
     returns-3
     returns-4)

@@ -1,7 +1,7 @@
 -- `spelled::spelled_at` meets its contract: the key, a term, and what follows it. Assumes nothing.
-use mathlib.Core.Path.{_≡_, sym, _∙_, ap}
+use mathlib.Core.Path.{_≡_, refl, sym, _∙_, ap}
 use mathlib.Core.Bool.{true}
-use mathlib.Core.List.{List, [], _∷_}
+use mathlib.Core.List.{List}
 use Prim.Native.Nat.{ℕ, _+_}
 use native.Mathlib.Omega.{arith}
 use lib.ListN.{drop, length-drop}
@@ -10,9 +10,9 @@ use denote.Ref.{now}
 use borrow.Author.Needs.{needs}
 use borrow.Author.Tests.{not-true, not-false}
 use Rattle.integers.proofs.Parts.{held-value}
-use Rattle.numerals.specs.Bytes.{colon}
-use Rattle.numerals.specs.Parsing.{andThen, startsWith}
-use Rattle.numerals.proofs.Keys.{byte-inside, expect-key, expect-not, starts-length}
+use Rattle.numerals.specs.declared.byte.Kind.the-variants.{Colon}
+use Rattle.numerals.specs.Parsing.{andThen, startsWith, kindAt}
+use Rattle.numerals.proofs.Keys.{kind-else, kind-read, kind-inside, expect-key, expect-not, starts-length}
 use Rattle.lines.specs.Spelling.{ruleKey, signedQuantity}
 use Rattle.lines.specs.Lines.{termOf, afterTerm, ruleLine}
 use Rattle.lines.specs.Answers.{told, spelledAnswer}
@@ -73,37 +73,51 @@ after-first : (c : tie.After-known-told) → let g = c .before in let a = g .bef
 unfolding andThen
 after-first c = after-key (c .before .before .before .before) ∙ rw (first c .is)
 
-is-at-requires : tie.Need-is-at-requires
-is-at-requires c κs = search needs
+byte-at-requires : tie.Need-byte-at-requires
+byte-at-requires c κs = search needs
 
--- a colon is after it
-colon-here : (c : tie.Then2) → let g = c .before .before .before in
-    let a = g .before .before .before .before .before .before .before .before .args in
-    startsWith (colon ∷ []) (drop (g .got .given .0 .1 .0) (now (a .s))) ≡ true
-colon-here c = sym (c .before .is-at .ensures) ∙ c .if2 .taken
+kind-of-requires : tie.Need-kind-of-requires
+kind-of-requires c κs = search needs
 
-add-rule-of-one : tie.Need-add-rule-of-one
-add-rule-of-one c = let g = c .before .before .before in let a = g .before .before .before .before .before .before .before .before .args in
-    omega (arith, byte-inside colon (now (a .s)) (g .got .given .0 .1 .0) (colon-here c))
-
-rule-of-one-requires : tie.Need-rule-of-one-requires
-rule-of-one-requires c κs = search needs
-
-returns-3 : tie.Need-returns-3
-returns-3 c = let o = c .before in let t = o .before .before in let g = t .before in
-    let a = g .before .before .before .before .before .before .before .before .args in
-    c .rule-of-one .ensures .answer (first t .value) (first t .told ∙ sym (held-value (t .known-told .given .0 .1)))
-    ∙ ap (spelledAnswer (now (a .s))) (sym (after-first t ∙ after-colon (first t .value) (now (a .s)) (g .got .given .0 .1 .0) (colon-here o)))
+enum-told-2 : tie.Need-enum-told-2
+enum-told-2 c = search needs
 
 rule-of-two-requires : tie.Need-rule-of-two-requires
 rule-of-two-requires c κs = search needs
 
-returns-4 : tie.Need-returns-4
-returns-4 c = let o = c .before in let k = o .before in let t = k .before in let g = t .before in
+-- the kind is that of the byte after it
+kind-is : (c : tie.After-kind-of) → let g = c .before .before .before in
+    let a = g .before .before .before .before .before .before .before .before .args in
+    c .kind-of .result ≡ kindAt (drop (g .got .given .0 .1 .0) (now (a .s)))
+kind-is c = let g = c .before .before .before in let a = g .before .before .before .before .before .before .before .before .args in
+    kind-read (now (a .s)) (g .got .given .0 .1 .0) (c .before .byte-at .ensures) (c .kind-of .ensures)
+
+returns-3 : tie.Need-returns-3
+returns-3 c = let o = c .before in let k = o .before in let t = k .before .before in let g = t .before in
     let a = g .before .before .before .before .before .before .before .before .args in
     c .rule-of-two .ensures .answer (first t .value) (first t .told ∙ sym (held-value (t .known-told .given .0 .1)))
     ∙ ap (spelledAnswer (now (a .s))) (sym (after-first t ∙ after-other (first t .value) (drop (g .got .given .0 .1 .0) (now (a .s)))
-    (sym (k .is-at .ensures) ∙ o .if2 .left)))
+    (λ e. kind-else Colon (k .kind-of .result) (o .match2 .keys2) (kind-is k ∙ e))))
+
+-- a colon is after it
+colon-here : (c : tie.After-enum-told2) → let g = c .before .before .before .before .before in
+    let a = g .before .before .before .before .before .before .before .before .args in
+    kindAt (drop (g .got .given .0 .1 .0) (now (a .s))) ≡ Colon
+colon-here c = sym (kind-is (c .before .before)) ∙ c .enum-told2 .given .1
+
+add-rule-of-one : tie.Need-add-rule-of-one
+add-rule-of-one c = let g = c .before .before .before .before .before in
+    let a = g .before .before .before .before .before .before .before .before .args in
+    omega (arith, kind-inside Colon (now (a .s)) (g .got .given .0 .1 .0) refl (colon-here c))
+
+rule-of-one-requires : tie.Need-rule-of-one-requires
+rule-of-one-requires c κs = search needs
+
+returns-4 : tie.Need-returns-4
+returns-4 c = let o = c .before in let t = o .before .before .before .before in let g = t .before in
+    let a = g .before .before .before .before .before .before .before .before .args in
+    c .rule-of-one .ensures .answer (first t .value) (first t .told ∙ sym (held-value (t .known-told .given .0 .1)))
+    ∙ ap (spelledAnswer (now (a .s))) (sym (after-first t ∙ after-colon (first t .value) (now (a .s)) (g .got .given .0 .1 .0) (colon-here o)))
 
 pub spelled-at-spec : {M : Type 1} → statement M
 spelled-at-spec =
@@ -116,9 +130,11 @@ spelled-at-spec =
     enum-known-got
     enum-told
     returns-2
-    is-at-requires
+    byte-at-requires
+    kind-of-requires
+    enum-told-2
+    rule-of-two-requires
+    returns-3
     add-rule-of-one
     rule-of-one-requires
-    returns-3
-    rule-of-two-requires
     returns-4)

@@ -11,7 +11,7 @@ const BYTES: usize = Sheet::MAX_TEXT + 1;
 
 fn main() {
     let mut text = [0; BYTES];
-    let length = io::read_full(IN, &mut text);
+    let length = input::read_text(IN, &mut text);
     let mut out = [0; key::ROOM];
     let end = key::print_key(&text[..length], &mut out);
     io::write_all(OUT, &out[..end]);

@@ -16,7 +16,7 @@ fn read_file(path: &[u8], text: &mut [u8]) -> usize
     if file < 0 {
         return 0;
     }
-    let length = io::read_full(file, text);
+    let length = input::read_text(file, text);
     libc::close(file);
     length
 }

@@ -2,9 +2,16 @@
 use crate::sheet;
 use rules::rule::Rule;
 use rules::sheet::Sheet;
+ghost use mathlib.Core.Path.{_≡_};
+ghost use Rattle.integers.specs.Bound.{saturated};
+ghost use Rattle.rules.specs.Meaning.{literalValue};
+ghost use Rattle.tables.specs.Meaning.{assignmentOf};
+ghost use Rattle.worked.specs.Values.{termWord};
 
-// The value of a literal; a quantity without a value counts as 0.
-fn literal_value(values: &[i64], x: u32) -> i64 {
+// The word nearest to the value of a literal; a quantity without a value counts as 0.
+fn literal_value(values: &[i64], x: u32) -> i64
+    ensures { λ r. ⌜ r ≡ saturated (literalValue (assignmentOf (now (values .entry))) x) ⌝ }
+{
     let j = x as usize / 2;
     if values.len() <= j {
         return 0;
@@ -16,8 +23,10 @@ fn literal_value(values: &[i64], x: u32) -> i64 {
     integers::saturating_add(integers::opposite(value), 1)
 }
 
-// The value of a rule's term. Past the range of words the nearest word stands for it, which is above every bound or below none.
-fn term_value(values: &[i64], rule: Rule) -> i64 {
+// The value of a rule's term. Past the range of words the nearest word stands for it.
+fn term_value(values: &[i64], rule: Rule) -> i64
+    ensures { λ r. ⌜ r ≡ termWord (assignmentOf (now (values .entry))) rule ⌝ }
+{
     match rule {
         Rule::One { literal, bound: _ } => literal_value(values, literal),
         Rule::Two {
@@ -30,7 +39,7 @@ fn term_value(values: &[i64], rule: Rule) -> i64 {
 }
 
 // Prints the first rule by place that the values break, or that every rule is met.
-fn print_broken(n: usize, table: &[i64], values: &[i64]) {
+pub(crate) fn print_broken(n: usize, table: &[i64], values: &[i64]) {
     let mut k = 0;
     while k < sheet::PLACES {
         let word = sheet::word_at(n, table, k);

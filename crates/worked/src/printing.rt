@@ -23,7 +23,7 @@ pub(crate) fn print_signed(c: i64) {
 }
 
 // A literal, as +1 or -3.
-fn print_literal(x: u32) {
+pub(crate) fn print_literal(x: u32) {
     if x % 2 == 0 {
         print_text(b"+");
     } else {

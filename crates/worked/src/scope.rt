@@ -14,7 +14,7 @@ pub(crate) fn run(table: &mut [i64]) {
 }
 
 // The rules of sheet A.
-fn rules_of_a(table: &mut [i64]) {
+pub(crate) fn rules_of_a(table: &mut [i64]) {
     sheet::put(3, table, 1, 2, 5);
     sheet::put(3, table, 1, -2, 2);
     sheet::put(3, table, 3, -2, 0);

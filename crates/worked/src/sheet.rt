@@ -2,6 +2,10 @@
 use crate::printing;
 use rules::rule::Rule;
 use rules::sheet::Sheet;
+ghost use mathlib.Core.Path.{_≡_};
+ghost use lib.ListN.{getD, take};
+ghost use Rattle.rules.specs.Limits.{noRule};
+ghost use Rattle.tables.specs.Tables.{tableSize};
 
 // The places of a table over 6 quantities, the most that an example here has.
 pub const PLACES: usize = 72;
@@ -55,7 +59,9 @@ pub(crate) fn key(n: usize, hidden: u32, table: &mut [i64]) {
 }
 
 // The word of a place of a table over `n` quantities; the no-rule word where it has no such place.
-pub(crate) fn word_at(n: usize, table: &[i64], k: usize) -> i64 {
+pub(crate) fn word_at(n: usize, table: &[i64], k: usize) -> i64
+    ensures { λ r. ⌜ r ≡ getD (take (tableSize n) (now (table .entry))) k noRule ⌝ }
+{
     if tables::table::size(n) <= k {
         return Sheet::NO_RULE;
     }

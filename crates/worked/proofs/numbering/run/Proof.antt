@@ -31,18 +31,6 @@ loop-less c = search needs
 loop-again : tie.Need-loop-again Inv-loop μ-loop
 loop-again c = search needs
 
-print-half-requires : tie.Need-print-half-requires Inv-loop μ-loop
-print-half-requires c κs = search needs
-
-print-half-requires-2 : tie.Need-print-half-requires-2 Inv-loop μ-loop
-print-half-requires-2 c κs = search needs
-
-print-half-requires-3 : tie.Need-print-half-requires-3 Inv-loop μ-loop
-print-half-requires-3 c κs = search needs
-
-print-half-requires-4 : tie.Need-print-half-requires-4 Inv-loop μ-loop
-print-half-requires-4 c κs = search needs
-
 returns : tie.Need-returns Inv-loop μ-loop
 returns c = search needs
 
@@ -59,8 +47,4 @@ run-spec =
     add-place
     loop-less
     loop-again
-    print-half-requires
-    print-half-requires-2
-    print-half-requires-3
-    print-half-requires-4
     returns)

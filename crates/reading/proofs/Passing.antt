@@ -14,6 +14,7 @@ use Rattle.reading.specs.Meaning.{Passes}
 use Rattle.reading.specs.Reading.{checkText, checkedOf}
 use Rattle.reading.specs.Promises.{TextChecked}
 use Rattle.reading.proofs.Means.{text-means, spelled-check}
+use Rattle.reading.proofs.Numbers.{answers-failed, failed-answers, answers-passed, passed-answers}
 
 -- a text that passed, with the hidden set too
 pub record Sheeted (s : List ℕ) (n set m body : ℕ) : Type 0 where
@@ -57,9 +58,13 @@ pub check-promised : (s : List ℕ) (r : Checked) → r ≡ checkedOf (checkText
 unfolding checkedOf
 check-promised s r e = record {
   reply = e;
-  refused = λ f. (λ q. text-means s (refused f) .0 (failed-refused s r f e q), λ h. e ∙ ap checkedOf (text-means s (refused f) .1 h));
+  refused = λ f. (
+    λ q. text-means s (refused f) .0 (failed-refused s r f e (answers-failed r f q)),
+    λ h. failed-answers r f (e ∙ ap checkedOf (text-means s (refused f) .1 h)),
+  );
   passed = λ n set m body. (
-    λ q. let p = sheet-passed s r n set m body e q in (p .text, p .hides),
-    λ w. let p = w .0 in e ∙ ap checkedOf (spelled-check s (p .contents) (p .small) (p .spelled)) ∙ rw (p .counts, w .1, p .rules, p .begins),
+    λ q. let p = sheet-passed s r n set m body e (answers-passed r n set m body q) in (p .text, p .hides),
+    λ w. let p = w .0 in passed-answers r n set m body
+        (e ∙ ap checkedOf (spelled-check s (p .contents) (p .small) (p .spelled)) ∙ rw (p .counts, w .1, p .rules, p .begins)),
   );
 }

@@ -16,18 +16,16 @@ use Rattle.tables.specs.Tables.{tableOf, smallestAt}
 use Rattle.tables.specs.Meaning.{Satisfies, MeetsAll}
 use Rattle.lines.specs.Spelling.{writtenRules}
 use Rattle.reading.specs.declared.check.Checked.{Checked}
-use Rattle.reading.specs.declared.check.Checked.the-variants.{Passed}
-use Rattle.reading.specs.declared.check.Checked.the-variants.{Refused as Failed}
 use Rattle.reading.specs.declared.read.Reading.{Reading}
 use Rattle.reading.specs.Texts.{Contents}
 use Rattle.reading.specs.Meaning.{Spells, FailsFor, Passes, RefusedFor, AcceptedAs}
-use Rattle.reading.specs.Reading.{checkText, checkedOf, readReply, readTable, readingNumber, Returns}
+use Rattle.reading.specs.Reading.{checkText, checkedOf, readReply, readTable, readingNumber, Answers, Returns}
 
--- a text checked: refused exactly for these reasons, and passed exactly where it is spelled so
+-- a text checked, by document 01's numbers and values: refused exactly for these reasons, and passed exactly where it is spelled so
 pub record TextChecked (s : List ℕ) (r : Checked) : Type 0 where
   pub reply : r ≡ checkedOf (checkText s)
-  pub refused : (f : Refusal) → (r ≡ Failed f) ↔ FailsFor s f
-  pub passed : (n set m body : ℕ) → (r ≡ Passed n set m body) ↔ ((p : Passes s n m body) × (set ≡ setOf (p .contents .hiddens)))
+  pub refused : (f : Refusal) → Answers r (refusalNumber f) (refusalValues f) ↔ FailsFor s f
+  pub passed : (n set m body : ℕ) → Answers r 0 (n ∷ set ∷ m ∷ body ∷ []) ↔ ((p : Passes s n m body) × (set ≡ setOf (p .contents .hiddens)))
 
 -- a text read into a table
 pub record ReadInto (s : List ℕ) (table : List ℤ) (r : Reading) (table' : List ℤ) : Type 0 where

@@ -96,6 +96,18 @@ abbrev pub readingValue : Reading → ℕ
 readingValue (Accepted n set) = 0
 readingValue (Refused r) = refusalValue r
 
+-- the same of a text that is checked; beside 0 stand n, the hidden set, the number of rules and the cursor at which their lines begin
+abbrev pub checkedNumber : Checked → ℕ
+checkedNumber (Passed n set m body) = 0
+checkedNumber (Failed r) = refusalNumber r
+
+abbrev pub checkedValues : Checked → List ℕ
+checkedValues (Passed n set m body) = n ∷ set ∷ m ∷ body ∷ []
+checkedValues (Failed r) = refusalValues r
+
+abbrev pub Answers : Checked → ℕ → List ℕ → Type 0
+Answers r number values = (checkedNumber r ≡ number) × (checkedValues r ≡ values)
+
 -- the reply is returned by this number and these values
 abbrev pub Returns : Reading → ℕ → List ℕ → Type 0
 Returns r number values = (readingNumber r ≡ number) × (readingValues r ≡ values)

@@ -1,6 +1,7 @@
 // The calls for hosts in C and Rust. A call answers with document 01's number of its reply, 0 where it is not refused, and writes to `value` what document 01
 // returns beside it, a line or a length, 0 where there is nothing. Marking answers a verdict's number, or the refusal's, alone. C sees a slice as a pointer and its
-// length in elements, words or bytes. The host passes true lengths, and no slice overlaps another.
+// length in elements, words or bytes. The host passes true lengths and no null pointer, and what a call may
+// change, slice or single word, overlaps nothing else that it is given.
 use reading::read::Reading;
 use rules::sheet::Sheet;
 use scripts::own;

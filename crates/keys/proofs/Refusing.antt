@@ -18,12 +18,12 @@ use Rattle.rules.proofs.Refusals.{same-refusal, refusal-number}
 use Rattle.tables.specs.declared.reply.Reply.{Reply}
 use Rattle.tables.specs.declared.reply.Reply.the-variants.{Done, Refused}
 use Rattle.tables.specs.Tables.{serves, replyNumber, replyValues, Replies}
-use Rattle.tables.specs.Meaning.{Unsatisfiable}
-use Rattle.tables.proofs.Tests.{clash, both-true, refused-done}
-use Rattle.tables.proofs.Sizes.{serves-tells, long-serves}
+use Rattle.tables.specs.Meaning.{TableSized, Unsatisfiable}
+use Rattle.tables.proofs.Tests.{both-true, refused-done, fails, not-so}
+use Rattle.tables.proofs.Sizes.{serves-sized}
 use Rattle.tables.proofs.Limits.{wordsInLimit-within}
 use Rattle.keys.specs.Keys.{refuted, andThen, lengthReply, limitReply, orNoAssignment, lentChecks, inSheetLimit, keyChecks, keyReply, assignmentChecks, assignmentReply}
-use Rattle.keys.specs.Meaning.{TableSized, BoundsWithin, NumbersWithin, KeyRefused, AssignmentRefused}
+use Rattle.keys.specs.Meaning.{BoundsWithin, NumbersWithin, KeyRefused, AssignmentRefused}
 use Rattle.keys.proofs.Fitting.{sheet-fits}
 use Rattle.keys.proofs.Deciding.{refuted-exactly}
 
@@ -41,18 +41,6 @@ refused-same : {f g : Refusal} → Refused g ≡ Refused f → f ≡ g
 refused-same e = cc
 
 -- ---- the tests, and what they mean
-
-sized : (n words : ℕ) → (serves n words ≡ true) ↔ TableSized n words
-sized n words =
-    (λ e. let s = serves-tells n words e in record { some = s .some; most = s .most; room = s .room }, λ s. long-serves n words (s .some) (s .most) (s .room))
-
--- a test that fails says that what it tests is not so
-fails : {P : Type 0} {b : Bool} → (b ≡ true) ↔ P → b ≡ false → P → ⊥
-fails w e p = clash (w .1 p) e
-
-not-so : {P : Type 0} {b : Bool} → (b ≡ true) ↔ P → (P → ⊥) → b ≡ false
-not-so {b = true} w h = absurd (h (w .0 refl))
-not-so {b = false} w h = refl
 
 bounds : (n : ℕ) (t : List ℤ) → (inSheetLimit n t ≡ true) ↔ BoundsWithin n t
 bounds n t = wordsInLimit-within (blockStart n) (pos maxBound) t
@@ -91,24 +79,24 @@ key-reason n set t w f e = go (serves n (length t)) (ltb w (blockStart n)) (setW
   where
     go : (a b c d : Bool) → serves n (length t) ≡ a → ltb w (blockStart n) ≡ b → (setWithin n set && inSheetLimit n t) ≡ c → refuted n t ≡ d
         → key-tested n a b c d ≡ Refused f → KeyRefused n set t w f
-    go false b c d p q r s e = inl (fails (sized n (length t)) p, refused-same e)
-    go true true c d p q r s e = inr (inl (sized n (length t) .0 p, ltb-true w (blockStart n) q, refused-same e))
-    go true false false d p q r s e = inr (inr (inl (sized n (length t) .0 p, ltb-false w (blockStart n) q, fails (numbers n set t) r, refused-same e)))
+    go false b c d p q r s e = inl (fails (serves-sized n (length t)) p, refused-same e)
+    go true true c d p q r s e = inr (inl (serves-sized n (length t) .0 p, ltb-true w (blockStart n) q, refused-same e))
+    go true false false d p q r s e = inr (inr (inl (serves-sized n (length t) .0 p, ltb-false w (blockStart n) q, fails (numbers n set t) r, refused-same e)))
     go true false true true p q r s e =
-        let z = sized n (length t) .0 p in
+        let z = serves-sized n (length t) .0 p in
         let m = numbers n set t .0 r in
         inr (inr (inr (z, ltb-false w (blockStart n) q, m, none n t z (m .1) .0 s, refused-same e)))
     go true false true false p q r s e = absurd (refused-done (sym e))
 
 key-given : (n set : ℕ) (t : List ℤ) (w : ℕ) (f : Refusal) → KeyRefused n set t w f → keyReply n set t w ≡ Refused f
-key-given n set t w f (inl p) = rw (key-tests n set t w, not-so (sized n (length t)) (p .0), p .1)
-key-given n set t w f (inr (inl p)) = rw (key-tests n set t w, sized n (length t) .1 (p .0), lt-ltb w (blockStart n) (p .1), p .2)
+key-given n set t w f (inl p) = rw (key-tests n set t w, not-so (serves-sized n (length t)) (p .0), p .1)
+key-given n set t w f (inr (inl p)) = rw (key-tests n set t w, serves-sized n (length t) .1 (p .0), lt-ltb w (blockStart n) (p .1), p .2)
 key-given n set t w f (inr (inr (inl p))) =
-    rw (key-tests n set t w, sized n (length t) .1 (p .0), le-ltb w (blockStart n) (p .1), not-so (numbers n set t) (p .2), p .3)
+    rw (key-tests n set t w, serves-sized n (length t) .1 (p .0), le-ltb w (blockStart n) (p .1), not-so (numbers n set t) (p .2), p .3)
 key-given n set t w f (inr (inr (inr p))) =
     rw (
       key-tests n set t w,
-      sized n (length t) .1 (p .0),
+      serves-sized n (length t) .1 (p .0),
       le-ltb w (blockStart n) (p .1),
       numbers n set t .1 (p .2),
       none n t (p .0) (p .2 .1) .1 (p .3),
@@ -152,29 +140,29 @@ assignment-reason n t w v f e =
   where
     go : (a b c d g : Bool) → serves n (length t) ≡ a → ltb w (blockStart n) ≡ b → ltb v n ≡ c → inSheetLimit n t ≡ d → refuted n t ≡ g
         → assignment-tested n a b c d g ≡ Refused f → AssignmentRefused n t w v f
-    go false b c d g p q r s u e = inl (fails (sized n (length t)) p, refused-same e)
-    go true true c d g p q r s u e = inr (inl (sized n (length t) .0 p, ltb-true w (blockStart n) q, refused-same e))
+    go false b c d g p q r s u e = inl (fails (serves-sized n (length t)) p, refused-same e)
+    go true true c d g p q r s u e = inr (inl (serves-sized n (length t) .0 p, ltb-true w (blockStart n) q, refused-same e))
     go true false true d g p q r s u e =
-        inr (inr (inl (sized n (length t) .0 p, ltb-false w (blockStart n) q, ltb-true v n r, refused-same e)))
+        inr (inr (inl (serves-sized n (length t) .0 p, ltb-false w (blockStart n) q, ltb-true v n r, refused-same e)))
     go true false false false g p q r s u e =
-        inr (inr (inr (inl (sized n (length t) .0 p, ltb-false w (blockStart n) q, ltb-false v n r, fails (bounds n t) s, refused-same e))))
+        inr (inr (inr (inl (serves-sized n (length t) .0 p, ltb-false w (blockStart n) q, ltb-false v n r, fails (bounds n t) s, refused-same e))))
     go true false false true true p q r s u e =
-        let z = sized n (length t) .0 p in
+        let z = serves-sized n (length t) .0 p in
         let m = bounds n t .0 s in
         inr (inr (inr (inr (z, ltb-false w (blockStart n) q, ltb-false v n r, m, none n t z m .0 u, refused-same e))))
     go true false false true false p q r s u e = absurd (refused-done (sym e))
 
 assignment-given : (n : ℕ) (t : List ℤ) (w v : ℕ) (f : Refusal) → AssignmentRefused n t w v f → assignmentReply n t w v ≡ Refused f
-assignment-given n t w v f (inl p) = rw (assignment-tests n t w v, not-so (sized n (length t)) (p .0), p .1)
-assignment-given n t w v f (inr (inl p)) = rw (assignment-tests n t w v, sized n (length t) .1 (p .0), lt-ltb w (blockStart n) (p .1), p .2)
+assignment-given n t w v f (inl p) = rw (assignment-tests n t w v, not-so (serves-sized n (length t)) (p .0), p .1)
+assignment-given n t w v f (inr (inl p)) = rw (assignment-tests n t w v, serves-sized n (length t) .1 (p .0), lt-ltb w (blockStart n) (p .1), p .2)
 assignment-given n t w v f (inr (inr (inl p))) =
-    rw (assignment-tests n t w v, sized n (length t) .1 (p .0), le-ltb w (blockStart n) (p .1), lt-ltb v n (p .2), p .3)
+    rw (assignment-tests n t w v, serves-sized n (length t) .1 (p .0), le-ltb w (blockStart n) (p .1), lt-ltb v n (p .2), p .3)
 assignment-given n t w v f (inr (inr (inr (inl p)))) =
-    rw (assignment-tests n t w v, sized n (length t) .1 (p .0), le-ltb w (blockStart n) (p .1), le-ltb v n (p .2), not-so (bounds n t) (p .3), p .4)
+    rw (assignment-tests n t w v, serves-sized n (length t) .1 (p .0), le-ltb w (blockStart n) (p .1), le-ltb v n (p .2), not-so (bounds n t) (p .3), p .4)
 assignment-given n t w v f (inr (inr (inr (inr p)))) =
     rw (
       assignment-tests n t w v,
-      sized n (length t) .1 (p .0),
+      serves-sized n (length t) .1 (p .0),
       le-ltb w (blockStart n) (p .1),
       le-ltb v n (p .2),
       bounds n t .1 (p .3),

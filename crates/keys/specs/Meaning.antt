@@ -1,5 +1,5 @@
 -- When the key call and the assignment call succeed, and when and why they are refused (document 01, 'Returned to the caller'); and several quantities
--- hidden, in document 01's own words. No algorithm is in it.
+-- hidden, in document 01's own words. No order of work is in it but document 01's.
 use mathlib.Core.Bool.{Bool, true, false}
 use mathlib.Core.Path.{_≡_}
 use mathlib.Core.Logic.{_⊎_}
@@ -11,17 +11,11 @@ use Rattle.places.specs.Numbering.{blockStart}
 use Rattle.rules.specs.declared.refusal.Refusal.{Refusal}
 use Rattle.rules.specs.declared.refusal.Refusal.the-variants.{Size, OutOfLimit, NoAssignment, TooShort}
 use Rattle.rules.specs.Hidden.{setWithin}
-use Rattle.rules.specs.Limits.{maxQuantities, maxBound}
-use Rattle.tables.specs.Meaning.{Unsatisfiable, WordsWithin}
+use Rattle.rules.specs.Limits.{maxBound}
+use Rattle.tables.specs.Meaning.{TableSized, Unsatisfiable, WordsWithin}
 use Rattle.elimination.specs.ByRules.{HiddenByRules}
 
 -- ---- when the calls succeed, and why they are refused
-
--- n is in its range, and a table of so many words is long enough for it
-pub record TableSized (n words : ℕ) : Type 0 where
-  pub some : 1 ≤ n
-  pub most : n ≤ maxQuantities
-  pub room : blockStart n ≤ words
 
 -- the bounds of a table are in the sheet's limit
 abbrev pub BoundsWithin : ℕ → List ℤ → Type 0

@@ -15,7 +15,7 @@ ghost use Rattle.numerals.specs.Writing.{Spliced};
 ghost use Rattle.reports.specs.Marks.{paperKey, wordText, integersText, valuesText, shownText, verdictText, paperName, refusedMarkText};
 ghost use Rattle.reports.specs.Promises.{MarkPrinted};
 
-// Bytes enough for whatever is printed, which is at most 727: 14 for the verdict's line, 33 for the rule's, 680 for the values'.
+// Bytes enough for whatever is printed, which is at most 726: 14 for the verdict's line, 33 for the rule's, 679 for the values'.
 pub const ROOM: usize = 1024;
 
 // A line of a key and a word; answers the cursor after it.

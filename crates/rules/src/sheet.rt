@@ -3,7 +3,7 @@ ghost use mathlib.Core.Path.{_≡_};
 ghost use Rattle.rules.specs.Limits.{maxQuantities, maxBound, maxRules, noRule, maxText};
 ghost use lib.IntN.{pos};
 
-// The header of a sheet: how many quantities it has, and which of them are hidden.
+// The sheet type, whose associated constants are the limits. Calls hand its two parts on as numbers, as document 01 lends them.
 pub struct Sheet {
     pub quantities: usize,
     pub hidden: u32,

@@ -1,17 +1,19 @@
 -- The contracts' records from plain facts: a refusal and a success of each call on a table. Assumes nothing.
 use mathlib.Core.Path.{_≡_, refl, sym, _∙_, ap}
-use mathlib.Core.Bool.{true, false}
+use mathlib.Core.Bool.{Bool, true, false, cond}
 use mathlib.Core.List.{List, _++_}
 use mathlib.Core.Logic.{_⊎_, inl, inr}
-use Prim.Native.Nat.{ℕ, _≤_, _<_}
+use Prim.Native.Nat.{ℕ, _/_, _≤_, _<_}
 use native.Mathlib.Omega.{arith}
 use lib.IntN.{ℤ, pos}
 use lib.ListN.{length, drop, length-replicate, getD-replicate, List·getD-append}
 use borrow.Author.Tests.{le-leb, lt-leb}
 use Rattle.words.specs.Change.{wordAt, change, fillFrom}
 use Rattle.words.proofs.Change.{fill-front}
-use Rattle.places.specs.Numbering.{blockStart}
+use Rattle.places.specs.Numbering.{blockStart, isOne, higherAt, lowerAt}
+use Rattle.places.proofs.Numbering.{at-lower}
 use Rattle.rules.specs.declared.rule.Rule.{Rule}
+use Rattle.rules.specs.declared.rule.Rule.the-variants.{One, Two}
 use Rattle.rules.specs.declared.refusal.Refusal.{Refusal}
 use Rattle.rules.specs.declared.refusal.Refusal.the-variants.{Size, OutOfLimit}
 use Rattle.rules.specs.Limits.{noRule}
@@ -90,10 +92,19 @@ cleared-done n q t u e l h d = record { reply = rw (e, le-leb 1 q l, le-leb q n 
 
 -- ---- the rule of a place
 
+ruleAt-lower : (k : ℕ) (c : ℤ) (x y : ℕ) (b : ℤ) → ruleAt k c ≡ Two x y b → x / 2 < y / 2
+unfolding ruleAt
+ruleAt-lower k c x y b e = go (isOne k) refl e
+  where
+    go : (o : Bool) → isOne k ≡ o → cond o (One (higherAt k) c) (Two (lowerAt k) (higherAt k) c) ≡ Two x y b → x / 2 < y / 2
+    go true o f = let z : _≡_ {A = ℕ} 0 1 = cc in absurd (omega arith)
+    go false o f = let p : lowerAt k ≡ x = cc in let q : higherAt k ≡ y = cc in rw (p, q) at (at-lower k o)
+
 pub at-place : (k : ℕ) (c : ℤ) (r : Rule) → r ≡ ruleAt k c → AtPlace k c r
 at-place k c r e = record {
   reply = e;
   bound = rw e (ruleAt-bound k c);
   place = rw e (ruleAt-found k c);
   inside = λ n h. rw e (ruleAt-hasPlace n k c h);
+  lower-first = λ x y b f. ruleAt-lower k c x y b (sym e ∙ f);
 }

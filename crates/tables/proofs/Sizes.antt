@@ -1,6 +1,7 @@
 -- What it tells that a table serves n quantities, and when it does. Assumes nothing.
 use mathlib.Core.Path.{_≡_, refl, _∙_}
 use mathlib.Core.Bool.{Bool, true, false, cond, _&&_}
+use mathlib.Core.Logic.{_↔_}
 use Prim.Native.Nat.{ℕ, zero, suc, _*_, _≤_, _<_}
 use native.Mathlib.Nat.{mul-le-mul}
 use native.Mathlib.Omega.{arith}
@@ -10,6 +11,7 @@ use Rattle.places.specs.Numbering.{blockStart}
 use Rattle.places.proofs.Numbering.{blockStart-above}
 use Rattle.rules.specs.Limits.{maxQuantities}
 use Rattle.tables.specs.Tables.{tableSize, serves}
+use Rattle.tables.specs.Meaning.{TableSized}
 use Rattle.tables.proofs.Tests.{both-true}
 
 -- the square of an n in its range, and where its block starts, are small
@@ -62,3 +64,8 @@ pub long-serves : (n words : ℕ) → 1 ≤ n → n ≤ maxQuantities → blockS
 unfolding serves
 long-serves n words h g l =
     rw (size-whole n g, lt-ltb 0 (blockStart n) (omega (arith, blockStart-above n)), le-leb (blockStart n) words l)
+
+-- the test is true exactly where n is in its range and the table long enough
+pub serves-sized : (n words : ℕ) → (serves n words ≡ true) ↔ TableSized n words
+serves-sized n words =
+    (λ e. let s = serves-tells n words e in record { some = s .some; most = s .most; room = s .room }, λ s. long-serves n words (s .some) (s .most) (s .room))

@@ -1,6 +1,7 @@
 -- What a computed reply or test tells. Assumes nothing.
 use mathlib.Core.Path.{_≡_, refl}
 use mathlib.Core.Bool.{Bool, true, false, cond, _&&_}
+use mathlib.Core.Logic.{_↔_}
 use Prim.Native.Nat.{ℕ}
 use native.Mathlib.Omega.{arith}
 use Rattle.rules.specs.declared.refusal.Refusal.{Refusal}
@@ -27,3 +28,11 @@ not-refused false r f e = (refl, e)
 pub both-true : (a b : Bool) → _&&_ a b ≡ true → (a ≡ true) × (b ≡ true)
 both-true true b e = (refl, e)
 both-true false b e = clash e refl
+
+-- a test that fails says that what it tests is not so, and back
+pub fails : {P : Type 0} {b : Bool} → (b ≡ true) ↔ P → b ≡ false → P → ⊥
+fails w e p = clash (w .1 p) e
+
+pub not-so : {P : Type 0} {b : Bool} → (b ≡ true) ↔ P → (P → ⊥) → b ≡ false
+not-so {b = true} w h = absurd (h (w .0 refl))
+not-so {b = false} w h = refl

@@ -10,9 +10,16 @@ use Rattle.integers.specs.Bound.{Within}
 use Rattle.words.specs.Change.{wordAt}
 use Rattle.places.specs.Numbering.{blockStart}
 use Rattle.rules.specs.declared.rule.Rule.{Rule}
+use Rattle.rules.specs.Limits.{maxQuantities}
 use Rattle.rules.specs.Meaning.{Assignment, Meets, names}
 use Rattle.tables.specs.Places.{ruleAt}
 use Rattle.tables.specs.Tables.{hasRule}
+
+-- n is in its range, 1 to 32, and a table of so many words is long enough for it
+pub record TableSized (n words : ℕ) : Type 0 where
+  pub some : 1 ≤ n
+  pub most : n ≤ maxQuantities
+  pub room : blockStart n ≤ words
 
 -- place k of a table over n quantities holds a rule: it is one of the table's 2n² places, and its word is not the no-rule word
 pub record HoldsRule (n : ℕ) (t : List ℤ) (k : ℕ) : Type 0 where

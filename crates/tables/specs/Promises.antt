@@ -3,12 +3,13 @@ use mathlib.Core.Bool.{Bool, true, cond}
 use mathlib.Core.Path.{_≡_}
 use mathlib.Core.Logic.{_↔_}
 use mathlib.Core.List.{List, _++_}
-use Prim.Native.Nat.{ℕ, _<_}
+use Prim.Native.Nat.{ℕ, _/_, _<_}
 use lib.IntN.{ℤ}
 use lib.ListN.{length, drop}
 use Rattle.places.specs.declared.Place.the-variants.{At}
 use Rattle.places.specs.Numbering.{blockStart}
 use Rattle.rules.specs.declared.rule.Rule.{Rule}
+use Rattle.rules.specs.declared.rule.Rule.the-variants.{Two}
 use Rattle.rules.specs.declared.refusal.Refusal.the-variants.{Size}
 use Rattle.rules.specs.Meaning.{Assignment, Meets, boundOf}
 use Rattle.tables.specs.Places.{ruleAt, findPlace, HasPlace}
@@ -40,9 +41,10 @@ pub record InLimit (m : ℕ) (B : ℤ) (t : List ℤ) (r : Bool) : Type 0 where
   pub reply : r ≡ wordsInLimit m B t
   pub meaning : (r ≡ true) ↔ WordsWithin m B t
 
--- the rule of a place: its term has just that place, in every table that has the place
+-- the rule of a place: its term has just that place, in every table that has the place, and of two quantities the lower stands first
 pub record AtPlace (k : ℕ) (c : ℤ) (r : Rule) : Type 0 where
   pub reply : r ≡ ruleAt k c
   pub bound : boundOf r ≡ c
   pub place : findPlace r ≡ At k
   pub inside : (n : ℕ) → k < blockStart n → HasPlace n r
+  pub lower-first : (x y : ℕ) (b : ℤ) → r ≡ Two x y b → x / 2 < y / 2

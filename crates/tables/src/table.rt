@@ -117,7 +117,8 @@ fn store(table: &mut [i64], rule: Rule)
     }
 }
 
-// Puts a rule in, a doubled term halved first: the smaller bound stays.
+// Puts a rule in, a doubled term halved first: the smaller bound stays. A rule that the table cannot hold is refused by the number that fits best; any word but the
+// no-rule word is a bound here, the limit of a paper being for its reader to test.
 pub fn put(n: usize, table: &mut [i64], rule: Rule) -> Reply
     ensures { λ r. ⌜ Put n rule (now (table .entry)) r (now (table .exit)) ⌝ }
 {

@@ -1,13 +1,13 @@
 -- The reply of writing by its tests, and what is promised from it. Assumes nothing.
 use mathlib.Core.Path.{_≡_, refl, sym, _∙_, ap}
 use mathlib.Core.Bool.{Bool, true, false, cond}
-use mathlib.Core.Logic.{_↔_}
-use mathlib.Core.List.{List, [], _∷_}
+use mathlib.Core.Logic.{_↔_, inl, inr}
+use mathlib.Core.List.{List}
 use Prim.Native.Nat.{ℕ, _≤_, _<_}
 use native.Mathlib.Omega.{arith}
 use lib.Dec.{ltb}
 use lib.IntN.{ℤ}
-use lib.ListN.{length, getD, take, drop}
+use lib.ListN.{length, take, drop}
 use lib.Seq.{take-append-seam}
 use borrow.Author.Tests.{lt-ltb, le-ltb, ltb-true, ltb-false}
 use Rattle.places.specs.Numbering.{blockStart}
@@ -15,19 +15,20 @@ use Rattle.numerals.specs.Writing.{Spliced}
 use Rattle.numerals.proofs.Splices.{splice-start}
 use Rattle.rules.specs.declared.refusal.Refusal.{Refusal}
 use Rattle.rules.specs.declared.refusal.Refusal.the-variants.{Size, OutOfLimit, TooShort}
+use Rattle.rules.specs.Refusal.{refusalNumber, refusalValues}
 use Rattle.rules.specs.Hidden.{setWithin}
 use Rattle.tables.specs.Tables.{serves}
-use Rattle.tables.proofs.Sizes.{Served, serves-tells}
-use Rattle.tables.proofs.Tests.{clash}
+use Rattle.tables.proofs.Sizes.{Served, serves-tells, serves-sized}
+use Rattle.tables.proofs.Tests.{clash, fails, not-so}
 use Rattle.writing.specs.declared.write.Writing.{Writing}
 use Rattle.writing.specs.declared.write.Writing.the-variants.{Text, Refused}
 use Rattle.writing.specs.Writing.{writtenText, writeReply, isText, written, writingNumber, writingValues, Wrote}
-use Rattle.writing.specs.Promises.{TextWritten}
+use Rattle.writing.specs.Promises.{WriteRefused, TextWritten}
 use Rattle.writing.proofs.Meanings.{AreWords, words-clean, table-meaning}
 use Rattle.writing.proofs.Lengths.{longest-any}
 use Rattle.writing.proofs.Back.{spells-words, written-back}
 use Rattle.writing.proofs.Past.{written-past}
-use Rattle.writing.proofs.Numbers.{wrote-text, refused-number}
+use Rattle.writing.proofs.Numbers.{wrote-text, refused-number, returned-refused}
 
 -- ---- the reply
 
@@ -69,56 +70,50 @@ put n set t out r end out' e f s = rw (← e, f) (s .buffer ∙ splice-start out
 
 -- ---- when it is refused
 
+-- a refusal is not a text
+pub refused-text : {f : Refusal} {m : ℕ} → Refused f ≡ Text m → ⊥
+refused-text e = let z : _≡_ {A = ℕ} 0 1 = cc in omega arith
+
+-- which refusal it is
+refused-same : {f g : Refusal} → Refused g ≡ Refused f → f ≡ g
+refused-same e = cc
+
 -- the reply by its three tests
 abbrev byTests : Bool → Bool → Bool → ℕ → Writing
 byTests a b c k = cond a (cond b (cond c (Refused (TooShort k)) (Text k)) (Refused (OutOfLimit 0))) (Refused Size)
 
--- two statements that are both false
-neither : {A B : Type 0} → (A → ⊥) → (B → ⊥) → A ↔ B
-neither f g = (λ a. absurd (f a), λ b. absurd (g b))
-
--- 1 exactly where the table does not serve
-size-exactly : (n set : ℕ) (t : List ℤ) (room : ℕ) → (writingNumber (writeReply n set t room) ≡ 1) ↔ (serves n (length t) ≡ false)
+reply-tested : (n set : ℕ) (t : List ℤ) (room : ℕ)
+    → writeReply n set t room ≡ byTests (serves n (length t)) (setWithin n set) (ltb room (length (writtenText n set t))) (length (writtenText n set t))
 unfolding writeReply
-size-exactly n set t room = go (serves n (length t)) (setWithin n set) (ltb room (length (writtenText n set t)))
-  where
-    go : (a b c : Bool) → (writingNumber (byTests a b c (length (writtenText n set t))) ≡ 1) ↔ (a ≡ false)
-    go false b c = (λ e. refl, λ f. refl)
-    go true false c = neither (λ e. omega arith) (λ f. clash {b = true} refl f)
-    go true true false = neither (λ e. omega arith) (λ f. clash {b = true} refl f)
-    go true true true = neither (λ e. omega arith) (λ f. clash {b = true} refl f)
+reply-tested n set t room = refl
 
--- 3 exactly where it does, and the set has a quantity past n
-outside-exactly : (n set : ℕ) (t : List ℤ) (room : ℕ)
-    → (writingNumber (writeReply n set t room) ≡ 3) ↔ ((serves n (length t) ≡ true) × (setWithin n set ≡ false))
-unfolding writeReply
-outside-exactly n set t room = go (serves n (length t)) (setWithin n set) (ltb room (length (writtenText n set t)))
-  where
-    go : (a b c : Bool) → (writingNumber (byTests a b c (length (writtenText n set t))) ≡ 3) ↔ ((a ≡ true) × (b ≡ false))
-    go false b c = neither (λ e. omega arith) (λ f. clash (f .0) refl)
-    go true false c = (λ e. (refl, refl), λ f. refl)
-    go true true false = neither (λ e. omega arith) (λ f. clash {b = true} refl (f .1))
-    go true true true = neither (λ e. omega arith) (λ f. clash {b = true} refl (f .1))
-
--- 6 and the length needed exactly where all is well but the output too short for the text
-short-exactly : (n set : ℕ) (t : List ℤ) (room needed : ℕ)
-    → ((writingNumber (writeReply n set t room) ≡ 6) × (writingValues (writeReply n set t room) ≡ needed ∷ []))
-    ↔ ((serves n (length t) ≡ true) × (setWithin n set ≡ true) × (room < needed) × (needed ≡ length (writtenText n set t)))
-unfolding writeReply
-short-exactly n set t room needed = go (serves n (length t)) (setWithin n set) (ltb room k) refl
+-- for which reason it is
+reason : (n set : ℕ) (t : List ℤ) (room : ℕ) (f : Refusal) → writeReply n set t room ≡ Refused f → WriteRefused n set t room f
+reason n set t room f e = go (serves n (length t)) (setWithin n set) (ltb room k) refl refl refl (sym (reply-tested n set t room) ∙ e)
   where
     k : ℕ
     k = length (writtenText n set t)
 
-    go : (a b c : Bool) → ltb room k ≡ c → ((writingNumber (byTests a b c k) ≡ 6) × (writingValues (byTests a b c k) ≡ needed ∷ []))
-        ↔ ((a ≡ true) × (b ≡ true) × (room < needed) × (needed ≡ k))
-    go false b c l = neither (λ e. omega (arith, e .0)) (λ f. clash (f .0) refl)
-    go true false c l = neither (λ e. omega (arith, e .0)) (λ f. clash (f .1) refl)
-    go true true false l = neither (λ e. omega (arith, e .0)) (λ f. omega (arith, ltb-false room k l))
-    go true true true l = (
-      λ e. let same : k ≡ needed = ap (λ (v : List ℕ). getD v 0 0) (e .1) in (refl, refl, omega (arith, ltb-true room k l), sym same),
-      λ f. (refl, ap (λ (m : ℕ). m ∷ []) (sym (f .3))),
-    )
+    go : (a b c : Bool) → serves n (length t) ≡ a → setWithin n set ≡ b → ltb room k ≡ c → byTests a b c k ≡ Refused f → WriteRefused n set t room f
+    go false b c p q l e = inl (fails (serves-sized n (length t)) p, refused-same e)
+    go true false c p q l e = inr (inl (serves-sized n (length t) .0 p, q, refused-same e))
+    go true true true p q l e = inr (inr (serves-sized n (length t) .0 p, q, ltb-true room k l, refused-same e))
+    go true true false p q l e = absurd (refused-text (sym e))
+
+-- and where there is one, it is refused
+given : (n set : ℕ) (t : List ℤ) (room : ℕ) (f : Refusal) → WriteRefused n set t room f → writeReply n set t room ≡ Refused f
+given n set t room f (inl p) = rw (reply-tested n set t room, not-so (serves-sized n (length t)) (p .0), p .1)
+given n set t room f (inr (inl p)) = rw (reply-tested n set t room, serves-sized n (length t) .1 (p .0), p .1, p .2)
+given n set t room f (inr (inr p)) =
+    rw (reply-tested n set t room, serves-sized n (length t) .1 (p .0), p .1, lt-ltb room (length (writtenText n set t)) (p .2), p .3)
+
+reasons : (n set : ℕ) (t : List ℤ) (room : ℕ) (f : Refusal)
+    → ((writingNumber (writeReply n set t room) ≡ refusalNumber f) × (writingValues (writeReply n set t room) ≡ refusalValues f))
+    ↔ WriteRefused n set t room f
+reasons n set t room f = (
+  λ z. reason n set t room f (returned-refused (writeReply n set t room) f z),
+  λ z. let e = given n set t room f z in (ap writingNumber e, ap writingValues e),
+)
 
 -- ---- what a reply tells
 
@@ -128,10 +123,6 @@ pub record Told (n set : ℕ) (t : List ℤ) (room m : ℕ) : Type 0 where
   pub within : setWithin n set ≡ true
   pub size : m ≡ length (writtenText n set t)
   pub enough : m ≤ room
-
--- a refusal is not a text
-pub refused-text : {f : Refusal} {m : ℕ} → Refused f ≡ Text m → ⊥
-refused-text e = let z : _≡_ {A = ℕ} 0 1 = cc in omega arith
 
 -- texts of one reply have one length
 pub text-same : {m k : ℕ} → Text m ≡ Text k → m ≡ k
@@ -170,9 +161,7 @@ written-promised : (n set : ℕ) (t : List ℤ) (out : List ℕ) (r : Writing) (
 written-promised n set t out r out' e f words = record {
   reply = e;
   bytes = f;
-  size = rw e (size-exactly n set t (length out));
-  outside = rw e (outside-exactly n set t (length out));
-  short = λ needed. rw e (short-exactly n set t (length out) needed);
+  refused = λ f. rw e (reasons n set t (length out) f);
   kept = λ g. f ∙ sym (kept n set t out r e (refused-number r g));
   spelled = λ m q. let s = served m q in rw (front m q) (spells-words n set t (s .some) (s .most) (are m q));
   meaning = λ m q. table-meaning n t (served m q .room);

@@ -2,7 +2,7 @@
 -- read back, or refused by the reader where a bound is too large for it.
 use mathlib.Core.Path.{_≡_}
 use mathlib.Core.Bool.{true, false}
-use mathlib.Core.Logic.{_↔_}
+use mathlib.Core.Logic.{_↔_, _⊎_}
 use mathlib.Core.List.{List, [], _∷_, _++_}
 use Prim.Native.Nat.{ℕ, _*_, _+_, _^_, _≤_, _<_}
 use lib.IntN.{ℤ, pos}
@@ -10,11 +10,13 @@ use lib.ListN.{length, take, drop}
 use Rattle.integers.specs.Bound.{Within}
 use Rattle.words.specs.Change.{wordAt}
 use Rattle.places.specs.Numbering.{blockStart}
+use Rattle.rules.specs.declared.refusal.Refusal.{Refusal}
+use Rattle.rules.specs.declared.refusal.Refusal.the-variants.{Size, OutOfLimit, TooShort}
+use Rattle.rules.specs.Refusal.{refusalNumber, refusalValues}
 use Rattle.rules.specs.Hidden.{setWithin}
 use Rattle.rules.specs.Limits.{maxBound, maxRules, maxText}
 use Rattle.rules.specs.Meaning.{Assignment}
-use Rattle.tables.specs.Tables.{serves}
-use Rattle.tables.specs.Meaning.{HoldsRule, Satisfies, MeetsAll, WordsWithin}
+use Rattle.tables.specs.Meaning.{TableSized, HoldsRule, Satisfies, MeetsAll, WordsWithin}
 use Rattle.lines.specs.Spelling.{writtenRules}
 use Rattle.reading.specs.declared.read.Reading.the-variants.{Accepted}
 use Rattle.reading.specs.Meaning.{Spells}
@@ -47,15 +49,19 @@ pub record RefusedPast (n : ℕ) (table : List ℤ) (s : List ℕ) (t : List ℤ
   pub reply : Returns (readReply s (length t)) 3 (lineAt table place ∷ [])
   pub kept : readTable s t ≡ t
 
+-- the writer is refused by the first check that fails: 1, 3 for the hidden set only, 6 with the text's length
+abbrev pub WriteRefused : ℕ → ℕ → List ℤ → ℕ → Refusal → Type 0
+WriteRefused n set t room f =
+    ((TableSized n (length t) → ⊥) × (f ≡ Size))
+    ⊎ ((TableSized n (length t) × (setWithin n set ≡ false) × (f ≡ OutOfLimit 0))
+    ⊎ (TableSized n (length t) × (setWithin n set ≡ true) × (room < length (writtenText n set t)) × (f ≡ TooShort (length (writtenText n set t)))))
+
 -- a table and a hidden set written
 pub record TextWritten (n set : ℕ) (table : List ℤ) (out : List ℕ) (r : Writing) (out' : List ℕ) : Type 0 where
   pub reply : r ≡ writeReply n set table (length out)
   pub bytes : out' ≡ written n set table out
   -- by document 01's numbers and values: refused exactly for these reasons, and then the output stays
-  pub size : (writingNumber r ≡ 1) ↔ (serves n (length table) ≡ false)
-  pub outside : (writingNumber r ≡ 3) ↔ ((serves n (length table) ≡ true) × (setWithin n set ≡ false))
-  pub short : (needed : ℕ) → ((writingNumber r ≡ 6) × (writingValues r ≡ needed ∷ []))
-      ↔ ((serves n (length table) ≡ true) × (setWithin n set ≡ true) × (length out < needed) × (needed ≡ length (writtenText n set table)))
+  pub refused : (f : Refusal) → ((writingNumber r ≡ refusalNumber f) × (writingValues r ≡ refusalValues f)) ↔ WriteRefused n set table (length out) f
   pub kept : (writingNumber r ≡ 0 → ⊥) → out' ≡ out
   -- what is written is a spelling, with bounds of any word
   pub spelled : (m : ℕ) → Wrote r m → Spells (2 ^ 63) (take m out') (contentsOf n set table)

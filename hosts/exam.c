@@ -13,7 +13,7 @@
 static uint8_t sheet[ROOM];
 static uint8_t script[ROOM];
 
-/* Reads the beginning of a file into ROOM bytes and answers how many it has, 0 where it cannot be read. */
+/* Reads the beginning of a file into ROOM bytes and answers how many were read, 0 where it cannot be read. */
 static size_t held(const char *path, uint8_t *text)
 {
     FILE *file = fopen(path, "rb");

@@ -1,7 +1,8 @@
 /*
  * How much of the stack each call takes. A call is made on a thread of its own, whose stack is filled with one byte
- * beforehand, on papers of 32 quantities with a rule at every place that they may have; the bytes that have changed are
- * counted, the thread's own beginning included. Prints a line for each call, and first one for a thread that calls nothing.
+ * beforehand, on papers of 32 quantities with a rule at every place that they may have; what is
+ * counted is how far down the stack bytes have changed, the thread's own beginning included. Prints a line for each call,
+ * and first one for a thread that calls nothing.
  */
 #define _POSIX_C_SOURCE 200809L
 
@@ -59,7 +60,7 @@ static void *call_mark(void *unused)
     return unused;
 }
 
-/* The bytes of the stack that a thread with this call changes. */
+/* How many bytes down the stack a thread with this call writes. */
 static size_t taken(void *(*call)(void *))
 {
     pthread_attr_t attributes;

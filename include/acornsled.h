@@ -3,8 +3,8 @@
  *
  * A slice is lent as a pointer and a length in its own elements, bytes or words. No pointer is null, also not that of an
  * empty slice. The host passes true lengths, and a slice or a single word that a call may change overlaps nothing else that
- * the call is given. A call asks nothing further: bad input is answered with a number. No call keeps anything, and two
- * threads may call at once.
+ * the call is given. A call asks nothing further: bad input is answered with a number. No call keeps anything, and any
+ * number of threads may call at once.
  *
  * A table over n quantities has 2n^2 words, one for each term in place order; ACORNSLED_NO_RULE means that there is no
  * rule. Place order goes quantity by quantity: for q first +q, -q, then for each p below q, from 1 on, +p+q, +p-q, -p+q,
@@ -29,7 +29,7 @@
 enum {
     ACORNSLED_DONE = 0,
     ACORNSLED_SIZE = 1,          /* n outside 1 to 32, a table shorter than 2n^2 words, a text over 65,536 bytes */
-    ACORNSLED_MALFORMED = 2,     /* a line of a text is malformed or missing, or bytes follow the last */
+    ACORNSLED_MALFORMED = 2,     /* a line of a text is malformed or missing, or bytes follow the last rule */
     ACORNSLED_PAST_LIMIT = 3,    /* a number is outside its limit, in a text, a hidden set or a table */
     ACORNSLED_CANCELLING = 4,    /* a rule of a text is +q-q or -q+q */
     ACORNSLED_NO_ASSIGNMENT = 5, /* no integers satisfy the table */

@@ -12,7 +12,7 @@
 #define N 3
 #define HIDDEN 2 /* quantity 2 */
 #define WORDS (2 * N * N)
-#define LARGEST (2 * ACORNSLED_MOST_QUANTITIES * ACORNSLED_MOST_QUANTITIES)
+#define LARGEST ACORNSLED_TABLE_WORDS
 #define NONE ACORNSLED_NO_RULE
 #define WIDEST (INT64_C(1) << 62) /* an assignment's integers are no further from 0 */
 
@@ -40,10 +40,12 @@ static const int64_t key_table[WORDS] = {
 static int64_t table[LARGEST];
 static int64_t workspace[LARGEST];
 static int64_t values[LARGEST];
-static uint8_t out[ACORNSLED_MOST_BYTES + 1];
+static uint8_t out[ACORNSLED_TEXT_BYTES];
 static size_t quantities;
 static uint32_t hidden;
 static size_t value;
+static int64_t rule[ACORNSLED_RULE_WORDS];
+static uint32_t paper;
 
 static unsigned calls;
 
@@ -93,6 +95,8 @@ static void lend(const int64_t *words, size_t length)
     quantities = BEFORE;
     hidden = BEFORE;
     value = BEFORE;
+    paper = BEFORE;
+    rule[0] = rule[1] = rule[2] = BEFORE;
     if (length > 0) {
         memcpy(table, words, length * sizeof *words);
     }
@@ -237,6 +241,41 @@ static void marking(void)
     marked(sheet, ACORNSLED_MISMATCH);
 }
 
+/* Marks a script against sheet A with the reasons: the paper and the value, then n and the rule, BEFORE where they stay. */
+static void reasoned(const char *script, size_t words, uint32_t number, uint32_t paper_due, size_t value_due, size_t n,
+                     const int64_t *rule_due)
+{
+    lend(NULL, 0);
+    uint32_t answer = acornsled_mark_texts((const uint8_t *)sheet, strlen(sheet), (const uint8_t *)script, strlen(script),
+                                           values, words, &quantities, rule, &paper, &value);
+    due(script, answer, number, value_due);
+    holds(paper == paper_due && quantities == n, "the paper of a refusal, and the n of a verdict");
+    holds(memcmp(rule, rule_due, sizeof rule) == 0, "the rule of loose and tight");
+    holds(kept(values, answer == ACORNSLED_LOOSE || answer == ACORNSLED_TIGHT ? N : 0), "other words stay");
+}
+
+static void reasoning(void)
+{
+    static const int64_t none[] = {BEFORE, BEFORE, BEFORE}, sum[] = {1, 3, 5}, low[] = {1, 0, 2};
+    const char *loose = "quantities=3\nhidden=2\nrules=1\nrule=+1:3\n";
+
+    reasoned("quantities=3\nhidden=2\nrules=2\nrule=+1+1:7\nrule=+1+3:5\n", N, ACORNSLED_EQUAL, ACORNSLED_NO_PAPER, 0,
+             N, none);
+    reasoned(loose, LARGEST, ACORNSLED_LOOSE, ACORNSLED_NO_PAPER, 0, N, sum);
+    holds(values[0] <= 3 && values[1] == 0 && values[0] > 5 - values[2], "the integers of loose break its rule alone");
+    reasoned("quantities=3\nhidden=2\nrules=2\nrule=+1:2\nrule=+1+3:5\n", N, ACORNSLED_TIGHT, ACORNSLED_NO_PAPER, 0, N,
+             low);
+    holds(values[0] > 2 && values[0] <= 5 - values[1] && values[0] <= 2 + values[1] && values[2] <= values[1],
+          "the integers of tight satisfy sheet A and break the script's rule");
+    reasoned(loose, N - 1, ACORNSLED_TOO_SHORT, ACORNSLED_BOTH, N, BEFORE, none);
+    reasoned("quantities=3\nhidden=2\nrules=1\nrule=+3-3:5\n", 0, ACORNSLED_CANCELLING, ACORNSLED_SCRIPT, 4, BEFORE, none);
+    reasoned(sheet, N, ACORNSLED_MISMATCH, ACORNSLED_BOTH, 0, BEFORE, none);
+    lend(NULL, 0);
+    due("mark_texts", acornsled_mark_texts(out, 0, out, 0, values, N, &quantities, rule, &paper, &value),
+        ACORNSLED_MALFORMED, 1);
+    holds(paper == ACORNSLED_SHEET, "the sheet is refused first");
+}
+
 int main(void)
 {
     reading();
@@ -245,5 +284,6 @@ int main(void)
     keying();
     writing();
     marking();
+    reasoning();
     return printf("calls: %u calls from C answered as is due\n", calls) < 0 || fflush(stdout) != 0;
 }

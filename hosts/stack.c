@@ -14,16 +14,17 @@
 #include <string.h>
 
 #define N ACORNSLED_MOST_QUANTITIES
-#define WORDS (2 * N * N)
+#define WORDS ACORNSLED_TABLE_WORDS
 #define STACK (1 << 20)
 #define FILLED 0xA5
 
 static uint8_t stack[STACK] __attribute__((aligned(4096)));
 static int64_t table[WORDS], workspace[WORDS], values[N];
 static char sheet[ACORNSLED_MOST_BYTES], script[ACORNSLED_MOST_BYTES];
-static uint8_t out[67703];
+static uint8_t out[ACORNSLED_TEXT_BYTES];
 static size_t sheet_length, script_length, quantities, value;
-static uint32_t hidden, answer;
+static uint32_t hidden, paper_of, answer;
+static int64_t rule[ACORNSLED_RULE_WORDS];
 
 static void *call_nothing(void *unused)
 {
@@ -57,6 +58,13 @@ static void *call_key(void *unused)
 static void *call_mark(void *unused)
 {
     answer = acornsled_mark((uint8_t *)sheet, sheet_length, (uint8_t *)script, script_length);
+    return unused;
+}
+
+static void *call_mark_texts(void *unused)
+{
+    answer = acornsled_mark_texts((uint8_t *)sheet, sheet_length, (uint8_t *)script, script_length, values, N,
+                                  &quantities, rule, &paper_of, &value);
     return unused;
 }
 
@@ -128,5 +136,6 @@ int main(void)
     measure("acornsled_assignment", call_assignment, ACORNSLED_DONE);
     measure("acornsled_key", call_key, ACORNSLED_DONE);
     measure("acornsled_mark", call_mark, ACORNSLED_TIGHT);
+    measure("acornsled_mark_texts", call_mark_texts, ACORNSLED_TIGHT);
     return 0;
 }

@@ -1,5 +1,5 @@
 /*
- * The calls of the static library libacornsled.a, which `rt staticlib acornsled` builds, for hosts in C and C++.
+ * The calls of the static library libacornsled.a, for hosts in C and C++.
  *
  * A slice is lent as a pointer and a length in its own elements, bytes or words. No pointer is null, also not that of an
  * empty slice. The host passes true lengths, and a slice or a single word that a call may change overlaps nothing else that
@@ -18,6 +18,12 @@
 #include <stddef.h>
 #include <stdint.h>
 
+/* The version of this header and of the library that it is installed with. */
+#define ACORNSLED_VERSION_MAJOR 0
+#define ACORNSLED_VERSION_MINOR 1
+#define ACORNSLED_VERSION_PATCH 0
+#define ACORNSLED_VERSION "0.1.0"
+
 /* The limits of a sheet. Bounds are from -ACORNSLED_MOST_BOUND to ACORNSLED_MOST_BOUND; those of a key may be larger. */
 #define ACORNSLED_MOST_QUANTITIES 32
 #define ACORNSLED_MOST_BOUND 1000000000
@@ -25,10 +31,17 @@
 #define ACORNSLED_MOST_BYTES 65536
 #define ACORNSLED_NO_RULE INT64_MAX
 
-/* The answers. 0 is the answer of a call on one paper that is not refused, and the last three are those of acornsled_mark. */
+/* Lengths that are enough for every sheet: words of a table or a workspace, bytes of a text written, words of an assignment,
+ * words of a rule. */
+#define ACORNSLED_TABLE_WORDS 2048
+#define ACORNSLED_TEXT_BYTES 67703
+#define ACORNSLED_VALUES_WORDS ACORNSLED_MOST_QUANTITIES
+#define ACORNSLED_RULE_WORDS 3
+
+/* The answers. 0 is the answer of a call on one paper that is not refused, and the last three are verdicts. */
 enum {
     ACORNSLED_DONE = 0,
-    ACORNSLED_SIZE = 1,          /* n outside 1 to 32, a table shorter than 2n^2 words, a text over 65,536 bytes */
+    ACORNSLED_SIZE = 1,          /* a call's n outside 1 to 32, a table shorter than 2n^2 words, a text over 65,536 bytes */
     ACORNSLED_MALFORMED = 2,     /* a line of a text is malformed or missing, or bytes follow the last rule */
     ACORNSLED_PAST_LIMIT = 3,    /* a number is outside its limit, in a text, a hidden set or a table */
     ACORNSLED_CANCELLING = 4,    /* a rule of a text is +q-q or -q+q */
@@ -38,6 +51,14 @@ enum {
     ACORNSLED_EQUAL = 100,       /* the script allows what the sheet allows */
     ACORNSLED_LOOSE = 101,       /* it allows something that the sheet does not, whatever it forbids */
     ACORNSLED_TIGHT = 102        /* it only forbids more */
+};
+
+/* The paper that a refusal of acornsled_mark_texts is about. */
+enum {
+    ACORNSLED_NO_PAPER = 0, /* with a verdict */
+    ACORNSLED_SHEET = 1,
+    ACORNSLED_SCRIPT = 2,
+    ACORNSLED_BOTH = 3 /* with 6 and 7 */
 };
 
 #ifdef __cplusplus
@@ -52,14 +73,14 @@ extern "C" {
 
 /*
  * Reads a text: 0, or 1, 2, 3, 4, 6. With 0 the table's first 2n^2 words hold the text's rules, and `quantities` and
- * `hidden` its n and its hidden set. A table of 2,048 words is long enough for every text.
+ * `hidden` its n and its hidden set. ACORNSLED_TABLE_WORDS are enough for every text.
  */
 uint32_t acornsled_read(const uint8_t *text, size_t text_length, int64_t *table, size_t table_length,
                         size_t *quantities, uint32_t *hidden, size_t *value);
 
 /*
- * Writes a table and a hidden set as a text: 0, or 1, 3, 6. With 0 the first `value` bytes of `out` are the text. An output of
- * 67,703 bytes is long enough for every table.
+ * Writes a table and a hidden set as a text: 0, or 1, 3, 6. With 0 the first `value` bytes of `out` are the text.
+ * ACORNSLED_TEXT_BYTES are enough for every table.
  */
 uint32_t acornsled_write(size_t n, uint32_t hidden, const int64_t *table, size_t table_length, uint8_t *out,
                          size_t out_length, size_t *value);
@@ -84,6 +105,28 @@ uint32_t acornsled_assignment(size_t n, const int64_t *table, size_t table_lengt
  * changed; the call takes some 68 KiB of the stack.
  */
 uint32_t acornsled_mark(const uint8_t *sheet, size_t sheet_length, const uint8_t *script, size_t script_length);
+
+/*
+ * Marks the same way and gives the reasons: 100, 101 or 102, or 1, 2, 3, 4, 6, 7. 6 comes where both texts are fine and
+ * `values` has fewer words than the sheet's n; it is checked before 7.
+ *
+ * A refusal writes to `paper` which paper it is about, and to `value` the line with 2, 3 and 4 and the length needed with 6, 0
+ * with 1 and 7; a verdict writes 0 to both. A verdict writes the sheet's n to `quantities`.
+ *
+ * Loose and tight write a rule to `rule`: for loose the first rule of the key, by place, that something which the script allows
+ * breaks; for tight the first rule of the script's table that something which satisfies the sheet breaks. Its words are two
+ * quantity numbers with their signs, +q as q and -q as -q, the lower quantity first, and the bound; a rule of one quantity has
+ * 0 for the second. Where the sheet itself allows nothing a loose verdict has no rule, and the words are 0, 0 and
+ * ACORNSLED_NO_RULE.
+ *
+ * Loose and tight also write to the first n words of `values` integers from -2^62 to 2^62 that show the verdict and break the
+ * rule: for loose the script allows the visible ones, no hidden values complete them, and the hidden words are 0; for tight all
+ * of them together satisfy the sheet, and the script forbids the visible ones. Nothing else is changed. The call takes some
+ * 68 KiB of the stack.
+ */
+uint32_t acornsled_mark_texts(const uint8_t *sheet, size_t sheet_length, const uint8_t *script, size_t script_length,
+                              int64_t *values, size_t values_length, size_t *quantities,
+                              int64_t rule[ACORNSLED_RULE_WORDS], uint32_t *paper, size_t *value);
 
 #ifdef __cplusplus
 }

@@ -1,14 +1,20 @@
--- The frauds against the exam host's call, refuted on document 01's sheet A: a function that returns 100 for all texts, and one that
--- returns 101 for all. Assumes nothing.
-use mathlib.Core.Path.{_≡_, ap, _∙_}
-use mathlib.Core.List.{List}
+-- The frauds against marking for hosts, refuted on document 01's sheet A: a function that returns 100 for all texts, one that returns 101 for all, and one that
+-- tells no reasons. Assumes nothing.
+use mathlib.Core.Path.{_≡_, refl, ap, _∙_}
+use mathlib.Core.List.{List, [], _∷_}
 use Prim.Native.Nat.{ℕ}
 use native.Mathlib.Omega.{arith}
+use lib.IntN.{ℤ, pos}
+use lib.ListN.{length, replicate}
+use Rattle.rules.specs.Limits.{maxQuantities}
+use Rattle.rules.specs.Steps.{ruleOf}
+use Rattle.marking.specs.declared.verdict.Verdict.the-variants.{Loose}
 use Rattle.numerals.specs.Bytes.{bytes}
-use Rattle.scripts.specs.Replies.{textNumber}
-use Rattle.reports.proofs.Cases.{wide, narrow}
-use Rattle.reports.proofs.Shown.{wide-loose, narrow-tight}
-use Rattle.acornsled.specs.Promises.{MarkAnswer}
+use Rattle.scripts.specs.declared.reply.TextMarking.the-variants.{Marked}
+use Rattle.scripts.specs.Replies.{textNumber, textPaper, textValue}
+use Rattle.reports.proofs.Cases.{sheetA, wide, narrow, reckoning}
+use Rattle.reports.proofs.Shown.{sumRule, wide-loose, narrow-tight}
+use Rattle.acornsled.specs.Promises.{hostReply, MarkAnswer, countMarked, ruleMarked, MarkTextsAnswer}
 
 -- the script +1:3 is loose, so 100 is not its number, nor is any but 101
 pub loose-alone : (r : ℕ) → MarkAnswer (bytes (wide .sheet)) (bytes (wide .script)) r → r ≡ 101
@@ -25,3 +31,40 @@ equal-on-all f = let e = loose-alone 100 (f (bytes (wide .sheet)) (bytes (wide .
 -- nor does one that returns 101 for all
 pub loose-on-all : ((sheet script : List ℕ) → MarkAnswer sheet script 101) → ⊥
 loose-on-all f = let e = tight-alone 101 (f (bytes (narrow .sheet)) (bytes (narrow .script))) in omega arith
+
+-- ---- the reasons
+
+-- the script +1:3 with an assignment of 32 words: no paper and no line, n, and the rule +1+3:5
+pub loose-reasons : (n : ℕ) (rule values : List ℤ) (r p v n' : ℕ) (rule' values' : List ℤ) → length values ≡ maxQuantities
+    → MarkTextsAnswer (bytes (wide .sheet)) (bytes (wide .script)) n rule values r p v n' rule' values'
+    → (r ≡ 101) × (p ≡ 0) × (v ≡ 0) × (n' ≡ 3) × (rule' ≡ pos 1 ∷ pos 3 ∷ pos 5 ∷ [])
+unfolding ruleOf
+loose-reasons n rule values r p v n' rule' values' h m =
+    let e : hostReply (bytes (wide .sheet)) (bytes (wide .script)) (length values) ≡ Marked 3 (Loose sumRule) = rw h wide-loose in (
+      m .number ∙ ap textNumber e,
+      m .paper ∙ ap textPaper e,
+      m .value ∙ ap textValue e,
+      m .count ∙ ap (countMarked n) e,
+      m .words ∙ ap (ruleMarked rule) e,
+    )
+
+-- so a function that leaves the rule's words does not meet the contract
+pub no-rule-on-all : ((sheet script : List ℕ) (n : ℕ) (rule values : List ℤ) → MarkTextsAnswer sheet script n rule values 101 0 0 3 rule values)
+    → ⊥
+no-rule-on-all f =
+    let words : List ℤ = replicate maxQuantities (pos 0) in
+    let e = loose-reasons 0 [] words 101 0 0 3 [] words refl (f (bytes (wide .sheet)) (bytes (wide .script)) 0 [] words) in
+    omega (arith, ap length (e .4))
+
+-- an empty script for sheet A is refused with 2 at its first line, whatever is lent: n and the rule's words stay
+pub refused-reasons : (n : ℕ) (rule : List ℤ) (r p v n' : ℕ) (rule' values' : List ℤ)
+    → MarkTextsAnswer (bytes (sheetA .sheet)) [] n rule [] r p v n' rule' values' → (r ≡ 2) × (p ≡ 2) × (v ≡ 1) × (n' ≡ n) × (rule' ≡ rule)
+unfolding reckoning
+refused-reasons n rule r p v n' rule' values' m = (m .number, m .paper, m .value, m .count, m .words)
+
+-- with no word for the assignment a script that is fine is refused with 6 and the length needed
+pub short-reasons : (n : ℕ) (rule : List ℤ) (r p v n' : ℕ) (rule' values' : List ℤ)
+    → MarkTextsAnswer (bytes (wide .sheet)) (bytes (wide .script)) n rule [] r p v n' rule' values'
+    → (r ≡ 6) × (p ≡ 3) × (v ≡ 3) × (n' ≡ n) × (rule' ≡ rule)
+unfolding reckoning
+short-reasons n rule r p v n' rule' values' m = (m .number, m .paper, m .value, m .count, m .words)

@@ -1,21 +1,34 @@
 -- The exported functions' contracts, from those of the calls. Assumes nothing.
 use mathlib.Core.Path.{_≡_, refl, sym, ap, _∙_}
 use mathlib.Core.Logic.{_↔_}
-use mathlib.Core.List.{List}
-use Prim.Native.Nat.{ℕ, _<_}
+use mathlib.Core.List.{List, [], _∷_}
+use Prim.Native.Nat.{ℕ, zero, suc, _<_, _≤_}
 use native.Mathlib.Omega.{arith}
 use lib.IntN.{ℤ}
+use lib.ListN.{length}
 use Rattle.tables.specs.declared.reply.Reply.{Reply}
 use Rattle.tables.specs.Tables.{replyNumber, replyValue}
 use Rattle.keys.specs.Promises.{Keyed, Assigned}
 use Rattle.rules.specs.declared.refusal.Refusal.{Refusal}
+use Rattle.rules.specs.Limits.{maxQuantities}
+use Rattle.rules.specs.Refusal.{refusalNumber, refusalValues, refusalValue}
+use Rattle.rules.proofs.Refusals.{same-refusal-value, refusal-below}
+use Rattle.tables.proofs.Tests.{clash}
+use Rattle.marking.specs.declared.verdict.Verdict.{Verdict}
 use Rattle.marking.specs.declared.verdict.Verdict.the-variants.{Equal, Loose, Tight}
+use Rattle.marking.specs.Verdicts.{verdictNumber, ruleValues, ruleIn, carriedWords, integersOf}
+use Rattle.marking.proofs.Carried.{verdict-from, words-rule}
+use Rattle.scripts.specs.declared.reply.Subject.{Subject}
+use Rattle.scripts.specs.declared.reply.Subject.the-variants.{Sheet, Script, Both}
+use Rattle.scripts.specs.declared.room.Lengths.{Lengths}
 use Rattle.scripts.specs.declared.reply.TextMarking.{TextMarking}
 use Rattle.scripts.specs.declared.reply.TextMarking.the-variants.{Marked}
 use Rattle.scripts.specs.declared.reply.TextMarking.the-variants.{Refused as NotMarked}
-use Rattle.scripts.specs.Replies.{textNumber}
+use Rattle.scripts.specs.Replies.{textNumber, textValue, paperNumber, textPaper, TextReturned}
+use Rattle.scripts.specs.Meaning.{AcceptedPair, RefusedPair}
 use Rattle.scripts.specs.Marking.{ownLengths}
-use Rattle.scripts.specs.Promises.{TextsJudged, MarkedInOwnRoom}
+use Rattle.scripts.specs.Promises.{TextsJudged, TextsShown, MarkedInOwnRoom}
+use Rattle.scripts.proofs.Judging.{returned-same}
 use Rattle.reading.specs.declared.read.Reading.{Reading}
 use Rattle.reading.specs.declared.read.Reading.the-variants.{Accepted, Refused}
 use Rattle.reading.specs.Reading.{readingNumber, readingValue}
@@ -23,7 +36,7 @@ use Rattle.reading.specs.Promises.{ReadInto}
 use Rattle.writing.specs.declared.write.Writing.{Writing}
 use Rattle.writing.specs.Writing.{writingNumber, writingValue}
 use Rattle.writing.specs.Promises.{TextWritten}
-use Rattle.acornsled.specs.Promises.{KeyAnswer, AssignmentAnswer, ReadAnswer, WriteAnswer, RefusedWith, MarkAnswer, countRead, setRead}
+use Rattle.acornsled.specs.Promises.{KeyAnswer, AssignmentAnswer, ReadAnswer, WriteAnswer, RefusedWith, MarkAnswer, countRead, setRead, countMarked, ruleMarked, Told, MarkTextsAnswer}
 
 pub key-answer : (n set : ℕ) (t w t' w' : List ℤ) (reply : Reply) (r v : ℕ) → Keyed n set t w reply t' w' → r ≡ replyNumber reply → v ≡ replyValue reply
     → KeyAnswer n set t w r v t' w'
@@ -64,25 +77,139 @@ read-accepted s t t' n set n' set' reply v k q d =
 -- ---- marking
 
 -- a reply's number below 100 is a refusal's
-refused-number : (sheet script : List ℕ) (r : TextMarking) → TextsJudged sheet script ownLengths r
+refused-number : (sheet script : List ℕ) (r : TextMarking) → TextsJudged sheet script (ownLengths maxQuantities) r
     → (k : ℕ) → k < 100 → (textNumber r ≡ k) ↔ RefusedWith sheet script k
 refused-number sheet script r j k h = (told r j, λ w. j .refused (w .paper) (w .refusal) .1 (w .reason) .0 ∙ sym (w .number))
   where
-    told : (x : TextMarking) → TextsJudged sheet script ownLengths x → textNumber x ≡ k → RefusedWith sheet script k
-    told (Marked n Equal) i e = absurd (omega arith)
-    told (Marked n (Loose rule)) i e = absurd (omega arith)
-    told (Marked n (Tight rule)) i e = absurd (omega arith)
+    told : (x : TextMarking) → TextsJudged sheet script (ownLengths maxQuantities) x → textNumber x ≡ k → RefusedWith sheet script k
+    told (Marked n v) i e = absurd (omega (arith, verdict-from v))
     told (NotMarked p f) i e = record { paper = p; refusal = f; reason = i .refused p f .0 (refl, refl, refl); number = sym e }
+
+-- a number from 100 on is a verdict's, exactly where both texts are accepted
+reply-accepted : {sheet script : List ℕ} {lent : Lengths} (r : TextMarking) → TextsJudged sheet script lent r
+    → (100 ≤ textNumber r) ↔ AcceptedPair sheet script lent
+reply-accepted (Marked n v) j = (λ h. j .accepted .0 refl, λ t. verdict-from v)
+reply-accepted (NotMarked w f) j = (λ h. absurd (omega (arith, refusal-below f)), λ t. clash (j .accepted .1 t) refl)
 
 -- the number of a reply
 pub mark-answer : (sheet script : List ℕ) (values values' : List ℤ) (reply : TextMarking) (r : ℕ) → MarkedInOwnRoom sheet script values reply values'
-    → r ≡ textNumber reply → MarkAnswer sheet script r
-mark-answer sheet script values values' reply r m e =
-    let j = m .judged in
+    → length values ≡ maxQuantities → r ≡ textNumber reply → MarkAnswer sheet script r
+mark-answer sheet script values values' reply r m h e =
+    let j : TextsJudged sheet script (ownLengths maxQuantities) reply = rw h at (m .judged) in
     record {
       number = e ∙ ap textNumber (j .reply);
       refused = rw e (refused-number sheet script reply j);
-      judged = rw (j .reply) at j;
+      accepted = rw e (reply-accepted reply j);
       demand = rw e (j .demand);
-      never = rw e (m .never);
+      never = rw e (m .never, λ six. let s = m .short .0 six in omega (arith, h, s .1, m .most));
+      judged = rw (j .reply) at j;
     }
+
+-- ---- marking with the reasons
+
+-- the paper of a number
+unfoldable paperFor : ℕ → Subject
+paperFor zero = Sheet
+paperFor (suc zero) = Sheet
+paperFor (suc (suc zero)) = Script
+paperFor (suc (suc (suc k))) = Both
+
+paper-for : (w : Subject) → paperFor (paperNumber w) ≡ w
+unfolding paperFor
+paper-for Sheet = refl
+paper-for Script = refl
+paper-for Both = refl
+
+same-paper : (w u : Subject) → paperNumber w ≡ paperNumber u → w ≡ u
+same-paper w u e = sym (paper-for w) ∙ ap paperFor e ∙ paper-for u
+
+-- a reply is told by number, paper and value as this refusal of this paper
+abbrev ToldAs : TextMarking → Subject → Refusal → Type 0
+ToldAs r w f = (textNumber r ≡ refusalNumber f) × (textPaper r ≡ paperNumber w) × (textValue r ≡ refusalValue f)
+
+-- exactly where it is
+told-refused : (sheet script : List ℕ) (lent : Lengths) (r : TextMarking) → TextsJudged sheet script lent r → (w : Subject) (f : Refusal)
+    → ToldAs r w f ↔ RefusedPair sheet script lent w f
+told-refused sheet script lent r j w f = (there r j, λ a. back r (j .refused w f .1 a))
+  where
+    there : (x : TextMarking) → TextsJudged sheet script lent x → ToldAs x w f → RefusedPair sheet script lent w f
+    there (Marked n v) i e = absurd (omega (arith, e .0, verdict-from v, refusal-below f))
+    there (NotMarked u g) i e =
+        let s = same-paper u w (e .1) in
+        let t = same-refusal-value g f (e .0) (e .2) in
+        rw (sym s, sym t) (i .refused u g .0 (refl, refl, refl))
+
+    back : (x : TextMarking) → TextReturned x (refusalNumber f) (integersOf (refusalValues f)) (w ∷ []) → ToldAs x w f
+    back (Marked n v) e = absurd (omega (arith, e .0, verdict-from v, refusal-below f))
+    back (NotMarked u g) e = let t = returned-same u w g f e in (e .0, ap paperNumber (t .0), ap refusalValue (t .1))
+
+-- a verdict is told with the sheet's n
+told-count : {sheet script : List ℕ} {lent : Lengths} (before : ℕ) (r : TextMarking) → TextsJudged sheet script lent r
+    → (t : AcceptedPair sheet script lent) → countMarked before r ≡ t .of-sheet .count
+told-count before (Marked n v) j t = let e = j .counts t in cc
+told-count before (NotMarked w f) j t = clash (j .accepted .1 t) refl
+
+-- the words of a loose verdict's rule are of the rule that it carries
+told-loose : (before : List ℤ) (r : TextMarking) → textNumber r ≡ 101 → TextReturned r 101 (ruleValues (ruleIn (ruleMarked before r))) []
+told-loose before (Marked n Equal) e = absurd (omega arith)
+told-loose before (Marked n (Loose rule)) e = (refl, ap ruleValues (sym (words-rule rule)), refl)
+told-loose before (Marked n (Tight rule)) e = absurd (omega arith)
+told-loose before (NotMarked w f) e = absurd (omega (arith, refusal-below f))
+
+-- and those of a tight one's
+told-tight : (before : List ℤ) (r : TextMarking) → textNumber r ≡ 102 → TextReturned r 102 (ruleValues (ruleIn (ruleMarked before r))) []
+told-tight before (Marked n Equal) e = absurd (omega arith)
+told-tight before (Marked n (Loose rule)) e = absurd (omega arith)
+told-tight before (Marked n (Tight rule)) e = (refl, ap ruleValues (sym (words-rule rule)), refl)
+told-tight before (NotMarked w f) e = absurd (omega (arith, refusal-below f))
+
+-- what a host is told of a reply
+reply-told : (sheet script : List ℕ) (lent : Lengths) (reply : TextMarking) (n : ℕ) (rule values : List ℤ) → TextsJudged sheet script lent reply
+    → TextsShown sheet script lent reply values
+    → Told sheet script lent (textNumber reply) (textPaper reply) (textValue reply) (countMarked n reply) (ruleMarked rule reply) values
+reply-told sheet script lent reply n rule values j s =
+    let x = ruleIn (ruleMarked rule reply) in
+    record {
+      refused = told-refused sheet script lent reply j;
+      accepted = reply-accepted reply j;
+      count = told-count n reply j;
+      demand = j .demand;
+      loose = λ t e. let w = told-loose rule reply e in (j .loose-rule t x w, s .loose-shown t x w);
+      tight = λ t e. let w = told-tight rule reply e in (j .tight-rule t x w, s .tight-shown t x w);
+    }
+
+-- a reply's numbers and words
+mark-texts-answer : (sheet script : List ℕ) (n n' : ℕ) (rule rule' values values' : List ℤ) (reply : TextMarking) (r p v : ℕ)
+    → MarkedInOwnRoom sheet script values reply values' → r ≡ textNumber reply → p ≡ textPaper reply → v ≡ textValue reply
+    → n' ≡ countMarked n reply → rule' ≡ ruleMarked rule reply → MarkTextsAnswer sheet script n rule values r p v n' rule' values'
+mark-texts-answer sheet script n n' rule rule' values values' reply r p v m e w d c u =
+    let j = m .judged in
+    record {
+      number = e ∙ ap textNumber (j .reply);
+      paper = w ∙ ap textPaper (j .reply);
+      value = d ∙ ap textValue (j .reply);
+      count = c ∙ ap (countMarked n) (j .reply);
+      words = u ∙ ap (ruleMarked rule) (j .reply);
+      written = rw (j .reply) at (m .written);
+      counted = m .count;
+      told = rw (e, w, d, c, u) (reply-told sheet script (ownLengths (length values)) reply n rule values' j (m .shown));
+      never = rw e (m .never);
+      short = rw e (m .short);
+      needed = rw (e, d) (m .needed);
+      judged = rw (j .reply) at j;
+    }
+
+-- a refusal leaves n and the rule's words
+pub mark-texts-refused : (sheet script : List ℕ) (n : ℕ) (rule values values' : List ℤ) (reply : TextMarking) (w : Subject) (f : Refusal) (r p v : ℕ)
+    → MarkedInOwnRoom sheet script values reply values' → reply ≡ NotMarked w f → r ≡ textNumber reply → p ≡ textPaper reply → v ≡ textValue reply
+    → MarkTextsAnswer sheet script n rule values r p v n rule values'
+mark-texts-refused sheet script n rule values values' reply w f r p v m q e u d =
+    mark-texts-answer sheet script n n rule rule values values' reply r p v m e u d (sym (ap (countMarked n) q)) (sym (ap (ruleMarked rule) q))
+
+-- a verdict gives n, and the words of the rule that it carries
+pub mark-texts-marked : (sheet script : List ℕ) (n n' : ℕ) (rule rule' values values' : List ℤ) (reply : TextMarking) (verdict : Verdict) (r p v : ℕ)
+    → MarkedInOwnRoom sheet script values reply values' → reply ≡ Marked n' verdict → r ≡ verdictNumber verdict → p ≡ textPaper reply
+    → v ≡ textValue reply → rule' ≡ carriedWords rule verdict → MarkTextsAnswer sheet script n rule values r p v n' rule' values'
+mark-texts-marked sheet script n n' rule rule' values values' reply verdict r p v m q e u d c =
+    mark-texts-answer sheet script n n' rule rule' values values' reply r p v m (e ∙ sym (ap textNumber q)) u d (sym (ap (countMarked n) q))
+    (c ∙ sym (ap (ruleMarked rule) q))

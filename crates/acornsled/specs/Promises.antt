@@ -2,27 +2,34 @@
 use mathlib.Core.Path.{_≡_}
 use mathlib.Core.Logic.{_↔_}
 use mathlib.Core.List.{List}
-use Prim.Native.Nat.{ℕ, _<_}
+use Prim.Native.Nat.{ℕ, _<_, _≤_}
 use lib.IntN.{ℤ}
 use lib.ListN.{length}
 use Rattle.rules.specs.declared.refusal.Refusal.{Refusal}
 use Rattle.rules.specs.Hidden.{hiddenIn}
-use Rattle.rules.specs.Refusal.{refusalNumber}
+use Rattle.rules.specs.Limits.{maxQuantities}
+use Rattle.rules.specs.Refusal.{refusalNumber, refusalValue}
 use Rattle.tables.specs.Tables.{replyNumber, replyValue}
 use Rattle.keys.specs.Keys.{keyReply, assignmentReply}
-use Rattle.keys.specs.Promises.{Keyed, Assigned}
-use Rattle.marking.specs.Meaning.{ByDemand}
+use Rattle.keys.specs.Promises.{Lent, Keyed, Assigned}
+use Rattle.marking.specs.Verdicts.{ruleIn, carriedWords}
+use Rattle.marking.specs.Meaning.{ByDemand, LooseRule, TightRule, LooseShown, TightShown}
 use Rattle.reading.specs.declared.read.Reading.{Reading}
 use Rattle.reading.specs.declared.read.Reading.the-variants.{Accepted, Refused}
 use Rattle.reading.specs.Reading.{readReply, readingNumber, readingValue}
 use Rattle.reading.specs.Promises.{ReadInto}
+use Rattle.reading.specs.Texts.{Contents}
 use Rattle.reading.specs.Meaning.{rulesOf}
 use Rattle.writing.specs.Writing.{writeReply, writingNumber, writingValue}
 use Rattle.writing.specs.Promises.{TextWritten}
 use Rattle.scripts.specs.declared.reply.Subject.{Subject}
-use Rattle.scripts.specs.Replies.{textNumber}
-use Rattle.scripts.specs.Meaning.{setIn, AcceptedPair, RefusedPair}
-use Rattle.scripts.specs.Marking.{textsReply, ownLengths}
+use Rattle.scripts.specs.declared.room.Lengths.{Lengths}
+use Rattle.scripts.specs.declared.reply.TextMarking.{TextMarking}
+use Rattle.scripts.specs.declared.reply.TextMarking.the-variants.{Marked}
+use Rattle.scripts.specs.declared.reply.TextMarking.the-variants.{Refused as NotMarked}
+use Rattle.scripts.specs.Replies.{textNumber, textValue, textPaper, paperNumber, isTextShown}
+use Rattle.scripts.specs.Meaning.{setIn, tableIn, Reads, Readable, AcceptedPair, RefusedPair}
+use Rattle.scripts.specs.Marking.{textsReply, countIn, ownLengths}
 use Rattle.scripts.specs.Promises.{TextsJudged}
 
 -- n or the hidden set after reading: that of the text where it is accepted, else as it was
@@ -60,21 +67,75 @@ pub record AssignmentAnswer (n : ℕ) (table workspace values : List ℤ) (r v :
   pub value : v ≡ replyValue (assignmentReply n table (length workspace) (length values))
   pub call : Assigned n table workspace values (assignmentReply n table (length workspace) (length values)) workspace' values'
 
+-- ---- marking two texts
+
+-- the reply to a host that lends so many words for the assignment, with tables and a workspace for every sheet
+abbrev pub hostReply : List ℕ → List ℕ → ℕ → TextMarking
+hostReply sheet script words = textsReply sheet script (ownLengths words)
+
 -- a refusal's number k, with the paper that it is about and its reason
 pub record RefusedWith (sheet script : List ℕ) (k : ℕ) : Type 0 where
   pub paper : Subject
   pub refusal : Refusal
-  pub reason : RefusedPair sheet script ownLengths paper refusal
+  pub reason : RefusedPair sheet script (ownLengths maxQuantities) paper refusal
   pub number : k ≡ refusalNumber refusal
 
 -- marking two texts, for the exam host: its number r is that of the reply with room enough lent, a verdict's or a refusal's
 pub record MarkAnswer (sheet script : List ℕ) (r : ℕ) : Type 0 where
-  pub number : r ≡ textNumber (textsReply sheet script ownLengths)
-  -- a refusal's number exactly for these reasons, and a verdict's by demand 3, of the rules as written
+  pub number : r ≡ textNumber (hostReply sheet script maxQuantities)
+  -- a refusal's number exactly for these reasons, a verdict's exactly where both texts are accepted, and by demand 3, of the rules as written
   pub refused : (k : ℕ) → k < 100 → (r ≡ k) ↔ RefusedWith sheet script k
-  pub demand : (t : AcceptedPair sheet script ownLengths)
+  pub accepted : (100 ≤ r) ↔ AcceptedPair sheet script (ownLengths maxQuantities)
+  pub demand : (t : AcceptedPair sheet script (ownLengths maxQuantities))
       → ByDemand (hiddenIn (setIn (t .of-sheet))) (rulesOf (t .of-sheet)) (rulesOf (t .of-script)) r
   -- there is room for every sheet, so 6 does not come, and 5 is no reply of marking
   pub never : ((r ≡ 5) → ⊥) × ((r ≡ 6) → ⊥)
   -- what the reply promises beside
-  pub judged : TextsJudged sheet script ownLengths (textsReply sheet script ownLengths)
+  pub judged : TextsJudged sheet script (ownLengths maxQuantities) (hostReply sheet script maxQuantities)
+
+-- n after marking: with a verdict the sheet's, else as it was
+abbrev pub countMarked : ℕ → TextMarking → ℕ
+countMarked before (Marked n v) = n
+countMarked before (NotMarked p f) = before
+
+-- the rule's words after marking: with a verdict what it makes of them, else as they were
+abbrev pub ruleMarked : List ℤ → TextMarking → List ℤ
+ruleMarked before (Marked n v) = carriedWords before v
+ruleMarked before (NotMarked p f) = before
+
+-- what a host is told, with so much lent: the number r, the paper p, the line or length v, n, the rule's words and the assignment
+pub record Told (sheet script : List ℕ) (lent : Lengths) (r p v n : ℕ) (rule values : List ℤ) : Type 0 where
+  -- a refusal's number, with this paper and this line or length, exactly for these reasons
+  pub refused : (w : Subject) (f : Refusal)
+      → ((r ≡ refusalNumber f) × (p ≡ paperNumber w) × (v ≡ refusalValue f)) ↔ RefusedPair sheet script lent w f
+  -- a verdict's exactly where both texts are accepted, with the sheet's n, and by demand 3, of the rules as written
+  pub accepted : (100 ≤ r) ↔ AcceptedPair sheet script lent
+  pub count : (t : AcceptedPair sheet script lent) → n ≡ t .of-sheet .count
+  pub demand : (t : AcceptedPair sheet script lent)
+      → ByDemand (hiddenIn (setIn (t .of-sheet))) (rulesOf (t .of-sheet)) (rulesOf (t .of-script)) r
+  -- the rule of a loose or tight verdict is the one of these words, and the assignment shows the verdict and breaks it
+  pub loose : (t : AcceptedPair sheet script lent) → r ≡ 101
+      → LooseRule (hiddenIn (setIn (t .of-sheet))) (t .of-sheet .count) (tableIn (t .of-sheet)) (rulesOf (t .of-script)) (ruleIn rule)
+      × LooseShown (t .of-sheet .count) (hiddenIn (setIn (t .of-sheet))) (rulesOf (t .of-sheet)) (rulesOf (t .of-script)) (ruleIn rule) values
+  pub tight : (t : AcceptedPair sheet script lent) → r ≡ 102
+      → TightRule (t .of-sheet .count) (rulesOf (t .of-sheet)) (tableIn (t .of-script)) (ruleIn rule)
+      × TightShown (t .of-sheet .count) (hiddenIn (setIn (t .of-sheet))) (rulesOf (t .of-sheet)) (rulesOf (t .of-script)) (ruleIn rule) values
+
+-- marking two texts with the reasons: n, the rule's words and the assignment before the call, then the number r, the paper p and the line or length v, and the
+-- same three after it
+pub record MarkTextsAnswer (sheet script : List ℕ) (n : ℕ) (rule values : List ℤ) (r p v n' : ℕ) (rule' values' : List ℤ) : Type 0 where
+  pub number : r ≡ textNumber (hostReply sheet script (length values))
+  pub paper : p ≡ textPaper (hostReply sheet script (length values))
+  pub value : v ≡ textValue (hostReply sheet script (length values))
+  pub count : n' ≡ countMarked n (hostReply sheet script (length values))
+  pub words : rule' ≡ ruleMarked rule (hostReply sheet script (length values))
+  -- the assignment is written for loose and tight alone, so many words of it as the sheet's n
+  pub written : Lent (countIn sheet) (isTextShown (hostReply sheet script (length values))) values values'
+  pub counted : (c : Contents) → Reads sheet c → countIn sheet ≡ c .count
+  pub told : Told sheet script (ownLengths (length values)) r p v n' rule' values'
+  -- 5 is no reply of marking; 6 exactly where both texts are fine and the assignment is shorter than the sheet's n, which is the length needed
+  pub never : (r ≡ 5) → ⊥
+  pub short : (r ≡ 6) ↔ (Readable script × (length values < countIn sheet))
+  pub needed : (r ≡ 6) → v ≡ countIn sheet
+  -- what the reply promises beside
+  pub judged : TextsJudged sheet script (ownLengths (length values)) (hostReply sheet script (length values))

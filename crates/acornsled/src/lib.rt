@@ -1,11 +1,13 @@
-// The calls for hosts in C and Rust. A call answers with document 01's number of its reply, 0 where it is not refused, and writes to `value` what document 01
-// returns beside it, a line or a length, 0 where there is nothing. Marking answers a verdict's number, or the refusal's, alone. C sees a slice as a pointer and its
-// length in elements, words or bytes. The host passes true lengths and no null pointer, and what a call may
-// change, slice or single word, overlaps nothing else that it is given.
+// The calls for hosts in C and Rust. A call answers with document 01's number of its reply, 0 where a call on one paper is not refused, and writes to `value` what
+// document 01 returns beside it, a line or a length, 0 where there is nothing. The exam host's call answers a verdict's number, or the refusal's, alone. C sees a
+// slice as a pointer and its length in elements, words or bytes. The host passes true lengths and no null pointer, and what a call may change, slice or single
+// word, overlaps nothing else that it is given.
+use marking::rule_words;
 use reading::read::Reading;
 use rules::sheet::Sheet;
 use scripts::own;
-ghost use Rattle.acornsled.specs.Promises.{ReadAnswer, WriteAnswer, KeyAnswer, AssignmentAnswer, MarkAnswer};
+use scripts::reply::TextMarking;
+ghost use Rattle.acornsled.specs.Promises.{ReadAnswer, WriteAnswer, KeyAnswer, AssignmentAnswer, MarkAnswer, MarkTextsAnswer};
 
 // Reads a text: where it answers 0, the table's first 2n² words hold its rules, and n and the hidden set are written to `quantities` and `hidden`.
 #[no_mangle]
@@ -89,4 +91,34 @@ pub extern "C" fn acornsled_mark(sheet: &[u8], script: &[u8]) -> u32
     let mut values = [0; Sheet::MAX_QUANTITIES];
     let marking = own::mark_in_own_room(sheet, script, &mut values);
     marking.number()
+}
+
+// The same with the reasons. A refusal is told with its paper and its line or length, which are 0 with a verdict; a verdict with the sheet's n; loose and tight
+// with the rule, the words of the trivial one where there is none, and with the integers that show the verdict, in the first n words of `values`. Else n, rule and
+// values stay as they were.
+#[no_mangle]
+pub extern "C" fn acornsled_mark_texts(
+    sheet: &[u8],
+    script: &[u8],
+    values: &mut [i64],
+    quantities: &mut usize,
+    rule: &mut [i64; 3],
+    paper: &mut u32,
+    value: &mut usize,
+) -> u32
+    ensures { λ r. ⌜ MarkTextsAnswer (now (sheet .entry)) (now (script .entry)) (now (quantities .entry)) (now (rule .entry)) (now (values .entry)) r (now (paper .exit)) (now (value .exit)) (now (quantities .exit)) (now (rule .exit)) (now (values .exit)) ⌝ }
+{
+    let marking = own::mark_in_own_room(sheet, script, values);
+    *paper = marking.paper();
+    *value = marking.value();
+    let TextMarking::Marked {
+        quantities: count,
+        verdict,
+    } = marking
+    else {
+        return marking.number();
+    };
+    *quantities = count;
+    rule_words::put_carried(verdict, rule);
+    verdict.number()
 }

@@ -3,7 +3,7 @@ use mathlib.Core.Path.{_≡_, refl, sym, _∙_, ap}
 use mathlib.Core.Bool.{Bool, true, false, cond}
 use mathlib.Core.List.{List, [], _∷_}
 use mathlib.Core.Logic.{_⊎_, inl, inr}
-use Prim.Native.Nat.{ℕ, suc, _+_, _/_, _%_}
+use Prim.Native.Nat.{ℕ, suc, _≤_, _+_, _/_, _%_}
 use native.Mathlib.Omega.{arith}
 use lib.Dec.{eqb}
 use lib.IntN.{ℤ, pos, negℤ}
@@ -14,37 +14,30 @@ use Rattle.places.specs.Numbering.{isOne, higherAt, lowerAt}
 use Rattle.rules.specs.declared.rule.Rule.{Rule}
 use Rattle.rules.specs.declared.rule.Rule.the-variants.{One, Two, Nothing}
 use Rattle.rules.specs.declared.refusal.Refusal.{Refusal}
-use Rattle.rules.specs.declared.refusal.Refusal.the-variants.{Size, Malformed, OutOfLimit, Cancelling, NoAssignment, TooShort, Mismatch}
 use Rattle.rules.specs.Literal.{literalOf}
 use Rattle.rules.specs.Meaning.{Assignment}
 use Rattle.rules.specs.Refusal.{refusalNumber, refusalValues}
-use Rattle.rules.specs.Steps.{trivialRule}
-use Rattle.rules.proofs.Refusals.{same-refusal}
+use Rattle.rules.specs.Steps.{trivialRule, isNone, ruleOf}
+use Rattle.rules.proofs.Refusals.{same-refusal, refusal-below}
 use Rattle.tables.specs.Places.{ruleAt}
 use Rattle.tables.specs.Meaning.{Paper}
 use Rattle.tables.proofs.Tests.{clash}
 use Rattle.marking.specs.declared.verdict.Verdict.{Verdict}
 use Rattle.marking.specs.declared.verdict.Verdict.the-variants.{Equal, Loose, Tight}
-use Rattle.marking.specs.Verdicts.{verdictNumber, verdictValues, signedOf, ruleValues, hasTerm, integersOf}
+use Rattle.marking.specs.Verdicts.{verdictNumber, verdictValues, signedOf, ruleValues, ruleWords, ruleIn, hasTerm, integersOf}
 use Rattle.marking.specs.Meaning.{FirstBroken, LooseRule, BreaksCarried, LooseShown, TightShown}
 
 -- ---- a refusal
 
--- no refusal has a number from 100 on
-hundred : (f : Refusal) (k : ℕ) → 100 + k ≡ refusalNumber f → ⊥
-hundred Size k e = omega arith
-hundred (Malformed line) k e = omega arith
-hundred (OutOfLimit line) k e = omega arith
-hundred (Cancelling line) k e = omega arith
-hundred NoAssignment k e = omega arith
-hundred (TooShort needed) k e = omega arith
-hundred Mismatch k e = omega arith
+-- a verdict's number is at least 100
+pub verdict-from : (v : Verdict) → 100 ≤ verdictNumber v
+verdict-from Equal = omega arith
+verdict-from (Loose r) = omega arith
+verdict-from (Tight r) = omega arith
 
--- a verdict's number is no refusal's
+-- so it is no refusal's
 pub verdict-refusal : (v : Verdict) (f : Refusal) → verdictNumber v ≡ refusalNumber f → ⊥
-verdict-refusal Equal f e = hundred f 0 e
-verdict-refusal (Loose r) f e = hundred f 1 e
-verdict-refusal (Tight r) f e = hundred f 2 e
+verdict-refusal v f e = omega (arith, e, verdict-from v, refusal-below f)
 
 -- the natural numbers of integers
 unfoldable naturals : List ℤ → List ℕ
@@ -115,6 +108,26 @@ same-rule r s e = go (hasTerm r) refl
     go : (b : Bool) → hasTerm r ≡ b → (r ≡ s) ⊎ ((hasTerm r ≡ false) × (hasTerm s ≡ false))
     go true h = inl (sym (rule-for r h) ∙ ap ruleFor e ∙ rule-for s (sym (same-term r s e) ∙ h))
     go false h = inr (h, sym (same-term r s e) ∙ h)
+
+-- ---- its words for a host
+
+-- a signed quantity number names a quantity
+signed-some : (x : ℕ) → isNone (signedOf x) ≡ false
+signed-some x = go (eqb (x % 2) 0)
+  where
+    next : x / 2 + 1 ≡ suc (x / 2)
+    next = omega arith
+
+    go : (b : Bool) → isNone (cond b (pos (x / 2 + 1)) (negℤ (pos (x / 2 + 1)))) ≡ false
+    go true = rw next refl
+    go false = rw next refl
+
+-- the rule of a rule's words is that rule
+pub words-rule : (r : Rule) → ruleIn (ruleWords r) ≡ r
+unfolding ruleOf
+words-rule (One x c) = rw (signed-some x, signed-back x)
+words-rule (Two x y c) = rw (signed-some x, signed-some y, signed-back x, signed-back y)
+words-rule (Nothing c) = refl
 
 -- a place's rule has a term
 pub ruleAt-term : (k : ℕ) (c : ℤ) → hasTerm (ruleAt k c) ≡ true

@@ -7,7 +7,9 @@ use lib.Dec.{eqb}
 use lib.IntN.{ℤ, pos, negℤ}
 use Rattle.rules.specs.declared.rule.Rule.{Rule}
 use Rattle.rules.specs.declared.rule.Rule.the-variants.{One, Two, Nothing}
+use Rattle.words.specs.Change.{wordAt}
 use Rattle.rules.specs.Literal.{quantityOf}
+use Rattle.rules.specs.Steps.{ruleOf}
 use Rattle.rules.specs.Refusal.{refusalNumber, refusalValues, refusalValue}
 use Rattle.marking.specs.declared.verdict.Verdict.{Verdict}
 use Rattle.marking.specs.declared.verdict.Verdict.the-variants.{Equal, Loose, Tight}
@@ -30,11 +32,27 @@ ruleValues (One x c) = signedOf x ∷ c ∷ []
 ruleValues (Two x y c) = signedOf x ∷ signedOf y ∷ c ∷ []
 ruleValues (Nothing c) = []
 
+-- the same as three words for a host, which document 01 does not have: two signed quantity numbers, 0 for one that is not there, and the bound
+abbrev pub ruleWords : Rule → List ℤ
+ruleWords (One x c) = signedOf x ∷ pos 0 ∷ c ∷ []
+ruleWords (Two x y c) = signedOf x ∷ signedOf y ∷ c ∷ []
+ruleWords (Nothing c) = pos 0 ∷ pos 0 ∷ c ∷ []
+
+-- the rule of three words: the one that the constructor makes of them
+abbrev pub ruleIn : List ℤ → Rule
+ruleIn words = ruleOf (wordAt words 0) (wordAt words 1) (wordAt words 2)
+
 -- what a verdict carries
 abbrev pub verdictValues : Verdict → List ℤ
 verdictValues Equal = []
 verdictValues (Loose r) = ruleValues r
 verdictValues (Tight r) = ruleValues r
+
+-- a host's three words after a verdict: with loose and tight those of its rule, 0, 0 and the no-rule word where there is none; with equal as they were
+abbrev pub carriedWords : List ℤ → Verdict → List ℤ
+carriedWords before Equal = before
+carriedWords before (Loose r) = ruleWords r
+carriedWords before (Tight r) = ruleWords r
 
 -- does an assignment come with the verdict?
 abbrev pub isShown : Verdict → Bool

@@ -2,4 +2,5 @@
 mod breaking;
 mod check;
 pub mod mark;
+pub mod rule_words;
 pub mod verdict;

@@ -13,7 +13,7 @@ use Rattle.integers.specs.Bound.{half, oppositeBound, smaller}
 use Rattle.words.specs.Change.{changeFrom, change, lowered}
 use Rattle.places.specs.Numbering.{blockStart, placeOfOne, placeOfPair, placeOfTwo, findTwo, blockUpTo, blockOf, offsetOf, isOne, higherAt, lowerAt}
 use Rattle.rules.specs.declared.refusal.Refusal.the-variants.{Malformed, TooShort, Mismatch}
-use Rattle.rules.specs.Limits.{maxText}
+use Rattle.rules.specs.Limits.{maxQuantities, maxText}
 use Rattle.rules.specs.Meaning.{names}
 use Rattle.rules.specs.Steps.{ruleOf, oppositeOf, halvedOf}
 use Rattle.tables.specs.Places.{ruleAt, findPlace}
@@ -60,7 +60,7 @@ pub record MarkCase : Type 0 where
 
 -- the reply to both texts, with as much lent as *mark* lends
 abbrev pub replyFor : MarkCase → TextMarking
-replyFor c = textsReply (bytes (c .sheet)) (bytes (c .script)) ownLengths
+replyFor c = textsReply (bytes (c .sheet)) (bytes (c .script)) (ownLengths maxQuantities)
 
 -- the line of the assignment, which comes last where there is one
 abbrev pub shownLine : TextMarking → List ℤ → List ℕ
@@ -73,7 +73,7 @@ MarkPasses c = (values : List ℤ) → markText (replyFor c) values ≡ bytes (c
 
 -- this assignment shows it, as the contract asks
 abbrev pub MayShow : MarkCase → List ℤ → Type 0
-MayShow c values = TextsShown (bytes (c .sheet)) (bytes (c .script)) ownLengths (replyFor c) values
+MayShow c values = TextsShown (bytes (c .sheet)) (bytes (c .script)) (ownLengths maxQuantities) (replyFor c) values
 
 -- a case of one program or the other, or an assignment that shows a verdict
 pub data Case : Type 0 where

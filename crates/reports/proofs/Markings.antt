@@ -109,11 +109,11 @@ refusal-returned e = (ap textNumber e, ap textValues e, ap textSubjects e)
 
 module _ {sheet script : List ℕ} {before : List ℤ} {r : TextMarking} {values : List ℤ} (m : MarkedInOwnRoom sheet script before r values) where
   -- both texts are accepted
-  both-accepted : (n : ℕ) (v : Verdict) → r ≡ Marked n v → AcceptedPair sheet script ownLengths
+  both-accepted : (n : ℕ) (v : Verdict) → r ≡ Marked n v → AcceptedPair sheet script (ownLengths (length before))
   both-accepted n v e = m .judged .accepted .0 (ap isTextMarked e)
 
   -- the n beside a verdict is the sheet's
-  counted : {n : ℕ} {v : Verdict} (t : AcceptedPair sheet script ownLengths) → r ≡ Marked n v → n ≡ t .of-sheet .count
+  counted : {n : ℕ} {v : Verdict} (t : AcceptedPair sheet script (ownLengths (length before))) → r ≡ Marked n v → n ≡ t .of-sheet .count
   counted t e = let c = m .judged .counts t in let d = ap textCounts e in cc
 
   -- what follows the first line of a verdict has at most 713 bytes
@@ -144,13 +144,13 @@ module _ {sheet script : List ℕ} {before : List ℤ} {r : TextMarking} {values
   -- there is room for a refusal's text
   pub refusal-room : (p : Subject) (f : Refusal) → r ≡ Refused p f → length (refusedMarkText p f) ≤ markRoom
   refusal-room p f e =
-      let line = refusal-line sheet script ownLengths p f (m .judged .refused p f .0 (refusal-returned e)) in
+      let line = refusal-line sheet script (ownLengths (length before)) p f (m .judged .refused p f .0 (refusal-returned e)) in
       omega (arith, refused-short p f (omega (arith, line)))
 
   -- the record of the contract, where the text printed is that of the reply
-  pub mark-printed : {out text : List ℕ} {end : ℕ} {out' : List ℕ} → markText r values ≡ text → Spliced out 0 text end out'
-      → MarkPrinted sheet script out end out'
-  mark-printed {out} {text} {end} {out'} e w =
+  pub mark-printed : {out text : List ℕ} {end : ℕ} {out' : List ℕ} → length before ≡ maxQuantities → markText r values ≡ text
+      → Spliced out 0 text end out' → MarkPrinted sheet script out end out'
+  mark-printed {out} {text} {end} {out'} s e w =
       let printed = markText r values in
       let count : end ≡ length printed = omega (arith, w .cursor, ap length e) in
       let bytes : out' ≡ printed ++ drop (length printed) out = rw e (w .buffer ∙ splice-start out text) in
@@ -158,8 +158,8 @@ module _ {sheet script : List ℕ} {before : List ℤ} {r : TextMarking} {values
       record {
         reply = r;
         values = values;
-        judged = m .judged;
-        shown = m .shown;
+        judged = rw s at (m .judged);
+        shown = rw s at (m .shown);
         count = count;
         bytes = bytes;
         room = room;

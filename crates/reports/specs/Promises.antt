@@ -8,7 +8,7 @@ use lib.ListN.{length, take, drop}
 use Rattle.rules.specs.declared.refusal.Refusal.{Refusal}
 use Rattle.rules.specs.declared.refusal.Refusal.the-variants.{NoAssignment}
 use Rattle.rules.specs.Hidden.{setOf}
-use Rattle.rules.specs.Limits.{maxBound, maxText}
+use Rattle.rules.specs.Limits.{maxQuantities, maxBound, maxText}
 use Rattle.rules.specs.Meaning.{Assignment}
 use Rattle.tables.specs.Tables.{tableOf}
 use Rattle.lines.specs.Spelling.{writtenRules}
@@ -48,8 +48,8 @@ pub record KeyPrinted (s : List ℕ) (out : List ℕ) (end : ℕ) (out' : List �
 pub record MarkPrinted (sheet script out : List ℕ) (end : ℕ) (out' : List ℕ) : Type 0 where
   pub reply : TextMarking
   pub values : List ℤ
-  pub judged : TextsJudged sheet script ownLengths reply
-  pub shown : TextsShown sheet script ownLengths reply values
+  pub judged : TextsJudged sheet script (ownLengths maxQuantities) reply
+  pub shown : TextsShown sheet script (ownLengths maxQuantities) reply values
   pub count : end ≡ length (markText reply values)
   pub bytes : out' ≡ markText reply values ++ drop (length (markText reply values)) out
   -- so many bytes are there, as in `KeyPrinted`

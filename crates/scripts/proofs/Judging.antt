@@ -48,7 +48,7 @@ fails-same s f g h k = let e = text-means s (refused f) .1 h in let d = text-mea
 -- ---- two refusals
 
 -- a refusal that is returned by the number, values and paper of another is that one
-returned-same : (p q : Subject) (f g : Refusal) → TextReturned (Refused p f) (refusalNumber g) (integersOf (refusalValues g)) (q ∷ []) → (p ≡ q) × (f ≡ g)
+pub returned-same : (p q : Subject) (f g : Refusal) → TextReturned (Refused p f) (refusalNumber g) (integersOf (refusalValues g)) (q ∷ []) → (p ≡ q) × (f ≡ g)
 returned-same p q f g e = (same-paper (e .2), refusal-same f g (e .0) (e .1))
   where
     same-paper : p ∷ [] ≡ q ∷ [] → p ≡ q

@@ -68,7 +68,7 @@ PairTells sheet script lent (BothPassed n set m body script-m script-body) = Pas
 PairTells sheet script lent (NotPassed p f) = (textsReply sheet script lent ≡ Refused p f) × RefusedPair sheet script lent p f
 
 -- a text whose lines are accepted reads so
-accepted-reads : {s : List ℕ} {c : Contents} {u : List ℕ} → checkText s ≡ accepted c u → Reads s c
+pub accepted-reads : {s : List ℕ} {c : Contents} {u : List ℕ} → checkText s ≡ accepted c u → Reads s c
 accepted-reads {s} {c} {u} e = let t = text-means s (accepted c u) .0 e in record { small = t .0; spelled = t .1 }
 
 -- two texts that are fine by themselves

@@ -87,11 +87,11 @@ sheetCount (refused f) = 0
 abbrev pub countIn : List ℕ → ℕ
 countIn s = sheetCount (checkText s)
 
--- room enough for every sheet: the words of each at the largest n
-abbrev pub ownLengths : Lengths
-ownLengths = record {
+-- tables and a workspace long enough for every sheet, and so many words for the assignment
+abbrev pub ownLengths : ℕ → Lengths
+ownLengths values = record {
   sheet = blockStart maxQuantities;
   script = blockStart maxQuantities;
   workspace = workspaceSize maxQuantities;
-  values = maxQuantities;
+  values = values;
 }

@@ -3,12 +3,14 @@ use mathlib.Core.Path.{_≡_}
 use mathlib.Core.Bool.{true}
 use mathlib.Core.Logic.{_↔_}
 use mathlib.Core.List.{List, [], _∷_}
-use Prim.Native.Nat.{ℕ}
+use Prim.Native.Nat.{ℕ, _≤_, _<_}
 use lib.IntN.{ℤ}
+use lib.ListN.{length}
 use Rattle.places.specs.Numbering.{blockStart}
 use Rattle.rules.specs.declared.rule.Rule.{Rule}
 use Rattle.rules.specs.declared.refusal.Refusal.{Refusal}
 use Rattle.rules.specs.Hidden.{hiddenIn, isListed}
+use Rattle.rules.specs.Limits.{maxQuantities}
 use Rattle.rules.specs.Refusal.{refusalNumber, refusalValues}
 use Rattle.rules.specs.Meaning.{Assignment}
 use Rattle.tables.specs.Meaning.{Satisfies}
@@ -20,8 +22,8 @@ use Rattle.reading.specs.Meaning.{rulesOf}
 use Rattle.scripts.specs.declared.room.Lengths.{Lengths}
 use Rattle.scripts.specs.declared.reply.Subject.{Subject}
 use Rattle.scripts.specs.declared.reply.TextMarking.{TextMarking}
-use Rattle.scripts.specs.Replies.{textNumber, textCounts, TextReturned, isTextMarked, isTextShown}
-use Rattle.scripts.specs.Meaning.{lengthsOf, setIn, tableIn, Reads, AcceptedPair, RefusedPair}
+use Rattle.scripts.specs.Replies.{textNumber, textValue, textCounts, TextReturned, isTextMarked, isTextShown}
+use Rattle.scripts.specs.Meaning.{lengthsOf, setIn, tableIn, Reads, Readable, AcceptedPair, RefusedPair}
 use Rattle.scripts.specs.Marking.{textsReply, countIn, ownLengths}
 
 -- the reply r for two texts, with so many words lent
@@ -69,11 +71,15 @@ pub record TextsMarked (sheet script : List ℕ) (sheet-table script-table works
   pub workspace-lent : Lent (workspaceSize (countIn sheet)) true workspace workspace'
   pub written : Lent (countIn sheet) (isTextShown r) values values'
 
--- two texts marked with room for every sheet, the assignment alone being lent by the caller
+-- two texts marked in tables and a workspace that are long enough for every sheet, the assignment alone being lent by the caller
 pub record MarkedInOwnRoom (sheet script : List ℕ) (values : List ℤ) (r : TextMarking) (values' : List ℤ) : Type 0 where
   pub count : (c : Contents) → Reads sheet c → countIn sheet ≡ c .count
-  pub judged : TextsJudged sheet script ownLengths r
-  pub shown : TextsShown sheet script ownLengths r values'
+  pub judged : TextsJudged sheet script (ownLengths (length values)) r
+  pub shown : TextsShown sheet script (ownLengths (length values)) r values'
   pub written : Lent (countIn sheet) (isTextShown r) values values'
-  -- there is room for every sheet, so 6 does not come, and 5 is no reply of marking
-  pub never : ((textNumber r ≡ 5) → ⊥) × ((textNumber r ≡ 6) → ⊥)
+  -- 5 is no reply of marking
+  pub never : (textNumber r ≡ 5) → ⊥
+  -- 6 exactly where both texts are fine and the assignment is shorter than the sheet's n, which is the length needed and at most 32
+  pub short : (textNumber r ≡ 6) ↔ (Readable script × (length values < countIn sheet))
+  pub needed : (textNumber r ≡ 6) → textValue r ≡ countIn sheet
+  pub most : countIn sheet ≤ maxQuantities

@@ -10,7 +10,7 @@ use Rattle.marking.specs.declared.verdict.Marking.the-variants.{Refused as NotM
 use Rattle.marking.specs.declared.verdict.Marking.the-variants.{Marked as TablesMarkedAs}
 use Rattle.marking.specs.Verdicts.{verdictNumber, verdictValues, isShown, integersOf}
 use Rattle.scripts.specs.declared.reply.Subject.{Subject}
-use Rattle.scripts.specs.declared.reply.Subject.the-variants.{Both}
+use Rattle.scripts.specs.declared.reply.Subject.the-variants.{Sheet, Script, Both}
 use Rattle.scripts.specs.declared.reply.TextMarking.{TextMarking}
 use Rattle.scripts.specs.declared.reply.TextMarking.the-variants.{Marked, Refused}
 
@@ -32,6 +32,17 @@ textValue (Refused p f) = refusalValue f
 abbrev pub textSubjects : TextMarking → List Subject
 textSubjects (Marked n v) = []
 textSubjects (Refused p f) = p ∷ []
+
+-- the same as one number for a host, which document 01 does not have
+abbrev pub paperNumber : Subject → ℕ
+paperNumber Sheet = 1
+paperNumber Script = 2
+paperNumber Both = 3
+
+-- 0 with a verdict
+abbrev pub textPaper : TextMarking → ℕ
+textPaper (Marked n v) = 0
+textPaper (Refused p f) = paperNumber p
 
 -- the n beside a verdict
 abbrev pub textCounts : TextMarking → List ℕ

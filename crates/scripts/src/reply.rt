@@ -4,7 +4,7 @@ use marking::verdict::Verdict;
 use rules::refusal;
 use rules::refusal::Refusal;
 ghost use mathlib.Core.Path.{_≡_};
-ghost use Rattle.scripts.specs.Replies.{textNumber, textValue, markedTexts};
+ghost use Rattle.scripts.specs.Replies.{textNumber, textValue, paperNumber, textPaper, markedTexts};
 
 // Which paper a refusal is about.
 pub enum Subject {
@@ -13,6 +13,9 @@ pub enum Subject {
     // what is lent, or that the two do not fit each other
     Both,
 }
+
+// What hosts are told for the paper of a verdict.
+const NO_PAPER: u32 = 0;
 
 pub enum TextMarking {
     // the sheet's n, which says how many words the assignment has, and the verdict
@@ -34,6 +37,19 @@ impl TextMarking {
         }
     }
 
+    // The paper that a refusal is about, 1 for the sheet, 2 for the script, 3 for both; 0 with a verdict.
+    pub fn paper(self) -> u32
+        ensures { λ r. ⌜ r ≡ textPaper self ⌝ }
+    {
+        match self {
+            TextMarking::Refused { paper, refusal: _ } => paper_number(paper),
+            TextMarking::Marked {
+                quantities: _,
+                verdict: _,
+            } => NO_PAPER,
+        }
+    }
+
     // What is returned beside a refusal's number, a line or the length needed; 0 where there is nothing.
     pub fn value(self) -> usize
         ensures { λ r. ⌜ r ≡ textValue self ⌝ }
@@ -45,6 +61,17 @@ impl TextMarking {
             } => 0,
             TextMarking::Refused { paper: _, refusal } => refusal::value(refusal),
         }
+    }
+}
+
+// The number of a paper for hosts.
+fn paper_number(paper: Subject) -> u32
+    ensures { λ r. ⌜ r ≡ paperNumber paper ⌝ }
+{
+    match paper {
+        Subject::Sheet => 1,
+        Subject::Script => 2,
+        Subject::Both => 3,
     }
 }
 

@@ -5,6 +5,9 @@ use Rattle.reports.proofs.Markings.{verdict-room, refusal-room, mark-pr
 use Rattle.reports.proofs.mark.print_mark.Statement.{statement}
 use Rattle.reports.proofs.mark.print_mark.Tie as tie
 
+slice-aggregate-mark-in-own-room : tie.Need-slice-aggregate-mark-in-own-room
+slice-aggregate-mark-in-own-room c = search needs
+
 mark-in-own-room-requires : tie.Need-mark-in-own-room-requires
 mark-in-own-room-requires c κs = search needs
 
@@ -17,7 +20,7 @@ slice-aggregate-put-verdict c = search needs
 put-verdict-requires : tie.Need-put-verdict-requires
 put-verdict-requires c κs =
     let g = c .before .before .before in
-    let r = verdict-room (g .before .before .mark-in-own-room .ensures) (omega arith) _ _ (g .marking .given .1) in
+    let r = verdict-room (g .before .before .before .mark-in-own-room .ensures) (omega arith) _ _ (g .marking .given .1) in
     (r .0, omega (arith, r .1))
 
 enum-known-marking-2 : tie.Need-enum-known-marking-2
@@ -26,22 +29,23 @@ enum-known-marking-2 c = search needs
 put-refused-requires : tie.Need-put-refused-requires
 put-refused-requires c κs =
     let g = c .before .before in
-    omega (arith, refusal-room (g .before .before .mark-in-own-room .ensures) _ _ (g .marking2 .given .1))
+    omega (arith, refusal-room (g .before .before .before .mark-in-own-room .ensures) _ _ (g .marking2 .given .1))
 
 returns : tie.Need-returns
 returns c =
     let g = c .before .before .before .before in
-    mark-printed (g .before .before .mark-in-own-room .ensures) (reply-marked _ (g .marking .given .1)) (c .put-verdict .ensures)
+    mark-printed (g .before .before .before .mark-in-own-room .ensures) (omega arith) (reply-marked _ (g .marking .given .1)) (c .put-verdict .ensures)
 
 returns-2 : tie.Need-returns-2
 returns-2 c =
     let g = c .before .before .before in
-    mark-printed (g .before .before .mark-in-own-room .ensures) (reply-refused _ (g .marking2 .given .1)) (c .put-refused .ensures)
+    mark-printed (g .before .before .before .mark-in-own-room .ensures) (omega arith) (reply-refused _ (g .marking2 .given .1)) (c .put-refused .ensures)
 
 pub print-mark-spec : {M : Type 1} → statement M
 print-mark-spec =
     tie.close
     (tie.spec
+    slice-aggregate-mark-in-own-room
     mark-in-own-room-requires
     enum-known-marking
     slice-aggregate-put-verdict

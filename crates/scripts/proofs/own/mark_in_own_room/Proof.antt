@@ -18,9 +18,12 @@ slice-aggregate-mark-texts-3 c = search needs
 mark-texts-requires : tie.Need-mark-texts-requires
 mark-texts-requires c κs = search needs
 
+same-length : tie.Need-same-length
+same-length c = search needs
+
 returns : tie.Need-returns
 unfolding blockStart
-returns c = own-marked (c .before .before .before .mark-texts .ensures) (omega arith) (omega arith) (omega arith) (omega arith)
+returns c = own-marked (c .before .before .before .before .mark-texts .ensures) (omega arith) (omega arith) (omega arith)
 
 pub mark-in-own-room-spec : {M : Type 1} → statement M
 mark-in-own-room-spec =
@@ -30,4 +33,5 @@ mark-in-own-room-spec =
     slice-aggregate-mark-texts-2
     slice-aggregate-mark-texts-3
     mark-texts-requires
+    same-length
     returns)

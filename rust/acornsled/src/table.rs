@@ -1,0 +1,73 @@
+//! Tables that hold their own words, and the key of a text.
+
+use crate::calls::{self, Header, Reply};
+use crate::limits::{MOST_QUANTITIES, TABLE_WORDS, TEXT_BYTES};
+use crate::Refusal;
+
+/// A paper read: a word for each term in place order, `limits::NO_RULE` where there is no rule. n and the hidden set are the
+/// caller's to change as well; a call refuses what does not fit.
+///
+/// # Panics
+///
+/// Its functions do, where the library is a newer one and answers a number that this crate does not know.
+#[derive(Clone, PartialEq, Eq, Debug)]
+pub struct Table {
+    pub quantities: usize,
+    /// bit q - 1 for quantity q
+    pub hidden: u32,
+    pub words: Vec<i64>,
+}
+
+impl Table {
+    /// The table of a text.
+    pub fn read(text: &[u8]) -> Result<Table, Refusal> {
+        let mut words = vec![0; TABLE_WORDS];
+        let mut header = Header { quantities: 0, hidden: 0 };
+        done(calls::read(text, &mut words, &mut header))?;
+        let Header { quantities, hidden } = header;
+        words.truncate(2 * quantities * quantities);
+        Ok(Table { quantities, hidden, words })
+    }
+
+    /// The table's text.
+    pub fn text(&self) -> Result<Vec<u8>, Refusal> {
+        let mut out = vec![0; TEXT_BYTES];
+        let length = done(calls::write(self.quantities, self.hidden, &self.words, &mut out))?;
+        out.truncate(length);
+        Ok(out)
+    }
+
+    /// The key: what the table implies for the visible quantities alone.
+    pub fn key(mut self) -> Result<Table, Refusal> {
+        let mut workspace = vec![0; TABLE_WORDS];
+        done(calls::key(self.quantities, self.hidden, &mut self.words, &mut workspace))?;
+        Ok(self)
+    }
+
+    /// Integers, one for each quantity, that satisfy the table.
+    pub fn assignment(&self) -> Result<Vec<i64>, Refusal> {
+        let mut workspace = vec![0; TABLE_WORDS];
+        // n is tested by the call, and may be any number before it
+        let mut values = vec![0; MOST_QUANTITIES];
+        done(calls::assignment(self.quantities, &self.words, &mut workspace, &mut values))?;
+        values.truncate(self.quantities);
+        Ok(values)
+    }
+}
+
+/// The text of the key of a sheet's text.
+///
+/// # Panics
+///
+/// As the functions of [`Table`].
+pub fn key(sheet: &[u8]) -> Result<Vec<u8>, Refusal> {
+    Table::read(sheet)?.key()?.text()
+}
+
+/// What is returned beside 0, or the refusal.
+fn done(reply: Reply) -> Result<usize, Refusal> {
+    match Refusal::of(reply) {
+        None => Ok(reply.value),
+        Some(refusal) => Err(refusal),
+    }
+}

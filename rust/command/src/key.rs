@@ -1,0 +1,30 @@
+//! `acornsled key`: the key of a sheet, printed as document 01's program *key* prints it.
+
+use crate::source::Source;
+use crate::status::Status;
+use crate::{arguments, output, usage};
+use acornsled::Refusal;
+use std::ffi::OsString;
+
+/// Prints the key's text or the refusal, and tells why it is refused.
+pub fn run(given: &[OsString]) -> Status {
+    let files = match arguments::files(given, &usage::KEY, 0..=1) {
+        Ok(files) => files,
+        Err(status) => return status,
+    };
+    let source = files.first().map_or(Source::Input, |name| Source::of(name));
+    let sheet = source.held(source.to_string());
+    match acornsled::key(&sheet.bytes) {
+        Ok(key) => output::answer(&key),
+        Err(refusal) => {
+            let printed = output::answer(lines(refusal).as_bytes());
+            sheet.tell_refusal(refusal);
+            printed.max(sheet.status).max(Status::Refused)
+        }
+    }
+}
+
+/// What is printed for a refusal.
+fn lines(refusal: Refusal) -> String {
+    format!("refused={}\nline={}\n", refusal.number(), refusal.line())
+}

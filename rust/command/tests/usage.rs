@@ -1,0 +1,115 @@
+//! Help, versions and wrong use.
+
+mod room;
+
+use room::{acornsled, ran, ran_on, Ran, Room, SHEET};
+
+const VERSION: &str = concat!("acornsled ", env!("CARGO_PKG_VERSION"), "\n");
+
+fn called(arguments: &[&str]) -> Ran {
+    ran(&mut acornsled(arguments))
+}
+
+#[test]
+fn help_goes_to_standard_output() {
+    let asked = [
+        (&["--help"][..], "acornsled - "),
+        (&["-h"], "acornsled - "),
+        (&["help"], "acornsled - "),
+        (&["key", "--help"], "acornsled key - "),
+        (&["key", "-h"], "acornsled key - "),
+        (&["key", "a", "b", "c", "--help"], "acornsled key - "),
+        (&["help", "key"], "acornsled key - "),
+        (&["mark", "--help"], "acornsled mark - "),
+        (&["mark", "a", "-h"], "acornsled mark - "),
+        (&["help", "mark"], "acornsled mark - "),
+        (&["explain", "--help"], "acornsled explain - "),
+        (&["help", "explain"], "acornsled explain - "),
+    ];
+    for (arguments, beginning) in asked {
+        let got = called(arguments);
+        assert_eq!((got.status, got.told.as_str()), (Some(0), ""), "{arguments:?}");
+        assert!(got.output.starts_with(beginning), "{arguments:?}: {}", got.output);
+        assert!(got.output.contains("\nusage: acornsled "), "{arguments:?}");
+        assert!(got.output.contains("\nexit status:"), "{arguments:?}");
+        assert!(got.output.lines().all(|line| line.len() <= 100), "{arguments:?}");
+    }
+}
+
+#[test]
+fn the_version_goes_to_standard_output() {
+    for arguments in [&["--version"][..], &["-V"], &["key", "--version"], &["mark", "-V"], &["explain", "--version"]] {
+        assert_eq!(called(arguments), Ran { status: Some(0), output: VERSION.into(), told: String::new() });
+    }
+}
+
+/// The pages show what the commands print.
+#[test]
+fn the_examples_of_the_help_hold() {
+    let room = Room::new("examples");
+    let sheet = room.file("sheet.txt", SHEET);
+    let script = room.file("script.txt", "quantities=3\nhidden=2\nrules=1\nrule=+1:3\n");
+    let shown = |command: &str| {
+        let page = called(&[command, "--help"]).output;
+        let (_, after) = page.rsplit_once("\n    $ acornsled ").expect("the page has an example");
+        after.lines().skip(1).map(|line| format!("{}\n", line.trim_start())).collect::<String>()
+    };
+    assert_eq!(ran(acornsled(["key"]).arg(&sheet)).output, shown("key"));
+    assert_eq!(ran(acornsled(["mark"]).arg(&sheet).arg(script)).output, shown("mark"));
+    assert_eq!(ran(acornsled(["explain"]).arg(&sheet)).output, shown("explain"));
+
+    let page = called(&["--help"]).output;
+    let lines = page.lines().filter_map(|line| line.strip_prefix("    ")).filter(|line| line.contains('='));
+    let text: String = lines.filter_map(|line| Some(format!("{}\n", line.split(' ').next()?))).collect();
+    assert_eq!(text, SHEET);
+}
+
+#[test]
+fn wrong_use_is_told_with_the_usage_and_status_2() {
+    let wrong = [
+        (&[][..], "no command is named", "key [FILE]"),
+        (&["kye"], "there is no command kye", "key [FILE]"),
+        (&["help", "kye"], "there is no command kye", "key [FILE]"),
+        (&["help", "key", "mark"], "help is given for one command at a time", "key [FILE]"),
+        (&["--version", "foo"], "nothing is due after --version", "key [FILE]"),
+        (&["-V", "--help"], "nothing is due after --version", "key [FILE]"),
+        (&["--halp"], "there is no command --halp", "key [FILE]"),
+        (&["key", "a", "b"], "at most 1 file is due, and 2 are given", "key [FILE]"),
+        (&["key", "--all"], "there is no option --all; a file of that name is given after --", "key [FILE]"),
+        (&["key", "--", "a", "--help"], "at most 1 file is due, and 2 are given", "key [FILE]"),
+        (&["mark"], "2 files are due, and 0 are given", "mark SHEET SCRIPT"),
+        (&["mark", "a"], "2 files are due, and 1 is given", "mark SHEET SCRIPT"),
+        (&["mark", "a", "b", "c"], "2 files are due, and 3 are given", "mark SHEET SCRIPT"),
+        (
+            &["mark", "a", "b", "-x"],
+            "there is no option -x; a file of that name is given after --",
+            "mark SHEET SCRIPT",
+        ),
+        (&["explain", "a", "b"], "at most 1 file is due, and 2 are given", "explain [FILE]"),
+        (
+            &["key", "--\n\x1b[2J"],
+            "there is no option --\\n\\u{1b}[2J; a file of that name is given after --",
+            "key [FILE]",
+        ),
+    ];
+    for (arguments, message, usage) in wrong {
+        let got = called(arguments);
+        assert_eq!((got.status, got.output.as_str()), (Some(2), ""), "{arguments:?}");
+        let head = format!("acornsled: {message}\nusage: acornsled {usage}\n");
+        assert!(got.told.starts_with(&head), "{arguments:?}: {}", got.told);
+    }
+}
+
+/// After `--` a name may begin with a hyphen.
+#[test]
+fn two_hyphens_end_the_options() {
+    let room = Room::new("hyphens");
+    room.file("--help", SHEET);
+    let folder = room.at("");
+    let got = ran(acornsled(["key", "--", "--help"]).current_dir(&folder));
+    assert_eq!((got.status, got.told.as_str()), (Some(0), ""));
+    assert!(got.output.starts_with("quantities=3\nhidden=2\nrules=2\n"), "{}", got.output);
+    // `-` stays standard input
+    let got = ran_on(acornsled(["explain", "--", "-"]).current_dir(&folder), SHEET.as_bytes());
+    assert_eq!(got.status, Some(0));
+}

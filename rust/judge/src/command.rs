@@ -1,0 +1,7 @@
+//! The command `acornsled`, held against the proved programs *key* and *mark*: standard output byte for byte what they
+//! print, and the exit status and standard error that belong to it.
+
+pub mod answer;
+pub mod program;
+pub mod run;
+mod stored;

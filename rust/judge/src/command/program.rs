@@ -1,0 +1,60 @@
+//! The built command, run as a user runs it.
+
+use super::answer::Said;
+use crate::printed::folder::Folder;
+use crate::printed::programs::{beside, fed};
+use std::env;
+use std::fs;
+use std::io;
+use std::path::{Path, PathBuf};
+use std::process::{Command, Output, Stdio};
+
+pub struct Acornsled {
+    path: PathBuf,
+}
+
+impl Acornsled {
+    /// Finds it where ACORNSLED_COMMAND says, else where the repository's commands build it.
+    pub fn found() -> Result<Acornsled, String> {
+        let path = match env::var_os("ACORNSLED_COMMAND") {
+            Some(named) => PathBuf::from(named),
+            None => Path::new(env!("CARGO_MANIFEST_DIR")).join("../../build/bin/acornsled"),
+        };
+        // it runs in other directories, where a relative path would lead nowhere
+        let path = fs::canonicalize(&path)
+            .map_err(|e| format!("no command {}: {e}: build it, or name it in ACORNSLED_COMMAND", path.display()))?;
+        Ok(Acornsled { path })
+    }
+
+    /// The key of a text on standard input.
+    pub fn key(&self, text: &[u8]) -> Result<Said, String> {
+        said(fed(&mut self.with(&["key"]), text))
+    }
+
+    /// The key of a text in a file.
+    pub fn key_of_file(&self, text: &[u8]) -> Result<Said, String> {
+        let folder = Folder::holding(&[("sheet", text)]).map_err(|e| format!("no folder is made: {e}"))?;
+        said(self.with(&["key", "sheet"]).current_dir(folder.path()).stdin(Stdio::null()).output())
+    }
+
+    /// The marking of two texts in files.
+    pub fn mark(&self, sheet: &[u8], script: &[u8]) -> Result<Said, String> {
+        said(beside(&mut self.with(&["mark", "sheet", "script"]), sheet, script))
+    }
+
+    /// The marking of the files `sheet` and `script` of a folder, be they there or not.
+    pub fn mark_in(&self, folder: &Path) -> Result<Said, String> {
+        said(self.with(&["mark", "sheet", "script"]).current_dir(folder).stdin(Stdio::null()).output())
+    }
+
+    fn with(&self, given: &[&str]) -> Command {
+        let mut command = Command::new(&self.path);
+        command.args(given);
+        command
+    }
+}
+
+fn said(output: io::Result<Output>) -> Result<Said, String> {
+    let Output { status, stdout, stderr } = output.map_err(|e| format!("acornsled does not run: {e}"))?;
+    Ok(Said { status: status.code(), output: stdout, errors: stderr })
+}

@@ -1,0 +1,103 @@
+//! A whole run over the command: the stored cases, then the inputs that the programs are judged on, for the same seed.
+
+use super::answer::{judged, Kind};
+use super::program::Acornsled;
+use super::stored;
+use crate::printed::inputs::{drawn, Input};
+use crate::printed::programs::Printer;
+use crate::text::check::shown;
+use std::fmt;
+use std::thread;
+
+/// From so many inputs on there have to be answers and refusals of both commands.
+const ENOUGH: u64 = 100;
+
+#[derive(Default)]
+pub struct Counts {
+    stored: usize,
+    /// answers and refusals of *key*, and of *mark*
+    key: [usize; 2],
+    mark: [usize; 2],
+}
+
+/// What was judged, or the first failure with its input.
+pub fn all(printer: &dyn Printer, command: &Acornsled, seed: u64, count: u64) -> Result<Counts, String> {
+    let stored = stored::all(printer, command)?.len();
+    let counts = Counts { stored, ..random(printer, command, seed, count)? };
+    if count >= ENOUGH && [counts.key, counts.mark].concat().contains(&0) {
+        return Err(format!("not all is met: {counts}"));
+    }
+    Ok(counts)
+}
+
+/// On two threads at once.
+fn random(printer: &dyn Printer, command: &Acornsled, seed: u64, count: u64) -> Result<Counts, String> {
+    let every_second = |first: u64| {
+        let mut counts = Counts::default();
+        let mut numbers = (first..count).step_by(2);
+        numbers.try_for_each(|number| numbered(printer, command, seed, number, &mut counts)).map(|()| counts)
+    };
+    thread::scope(|scope| {
+        let beside = scope.spawn(|| every_second(1));
+        let here = every_second(0);
+        let beside = beside.join().expect("the judge panics on the second thread");
+        let mut counts = here?;
+        counts.add(&beside?);
+        Ok(counts)
+    })
+}
+
+/// The inputs with this number. A key is asked for on standard input and by a file's name.
+fn numbered(
+    printer: &dyn Printer,
+    command: &Acornsled,
+    seed: u64,
+    number: u64,
+    counts: &mut Counts,
+) -> Result<(), String> {
+    for input in drawn(seed, number) {
+        match &input {
+            Input::Key(text) => {
+                let printed = printer.key(text)?;
+                let both = [command.key(text)?, command.key_of_file(text)?];
+                both.iter().try_for_each(|said| judged(&printed, said, false).map(|kind| counts.key[at(kind)] += 1))
+            }
+            Input::Mark(sheet, script) => {
+                let printed = printer.mark(sheet, script)?;
+                let said = command.mark(sheet, script)?;
+                judged(&printed, &said, false).map(|kind| counts.mark[at(kind)] += 1)
+            }
+        }
+        .map_err(|e| format!("seed {seed}, command {number}: {e}\n{}", texts(&input)))?;
+    }
+    Ok(())
+}
+
+fn at(kind: Kind) -> usize {
+    usize::from(kind != Kind::Answer)
+}
+
+fn texts(input: &Input) -> String {
+    match input {
+        Input::Key(text) => format!("key, sheet, {}", shown(text)),
+        Input::Mark(sheet, script) => format!("mark, sheet, {}\nscript, {}", shown(sheet), shown(script)),
+    }
+}
+
+impl Counts {
+    /// Adds what another thread has judged.
+    fn add(&mut self, other: &Counts) {
+        for kind in 0..2 {
+            self.key[kind] += other.key[kind];
+            self.mark[kind] += other.mark[kind];
+        }
+    }
+}
+
+impl fmt::Display for Counts {
+    fn fmt(&self, f: &mut fmt::Formatter) -> fmt::Result {
+        let Counts { stored, key: [keys, no_keys], mark: [verdicts, refusals] } = self;
+        write!(f, "command-stored={stored} command-key={keys} refused={no_keys}")?;
+        write!(f, " command-mark={verdicts} refused={refusals}")
+    }
+}

@@ -1,0 +1,41 @@
+//! The stored cases: in each folder of tests/mark a sheet, a script, either of which may be missing, and what *mark* prints;
+//! and the sample sheets, whose keys *key* prints.
+
+use super::answer::{judged, Kind};
+use super::program::Acornsled;
+use crate::printed::programs::Printer;
+use std::fs;
+use std::path::{Path, PathBuf};
+
+/// Judges the command on all of them.
+pub fn all(printer: &dyn Printer, command: &Acornsled) -> Result<Vec<Kind>, String> {
+    let root = Path::new(env!("CARGO_MANIFEST_DIR")).join("../..");
+    let mut kinds = vec![];
+    for folder in listed(&root.join("tests/mark"))? {
+        kinds.push(marked(command, &folder).map_err(|e| format!("{}: {e}", folder.display()))?);
+    }
+    for path in listed(&root.join("sheets"))?.iter().filter(|path| path.is_file()) {
+        let text = fs::read(path).map_err(|e| format!("{}: {e}", path.display()))?;
+        let said = command.key_of_file(&text)?;
+        let kind = printer.key(&text).and_then(|printed| judged(&printed, &said, false));
+        kinds.push(kind.map_err(|e| format!("{}: {e}", path.display()))?);
+    }
+    Ok(kinds)
+}
+
+fn marked(command: &Acornsled, folder: &Path) -> Result<Kind, String> {
+    let printed = fs::read(folder.join("stdout")).map_err(|e| format!("stdout: {e}"))?;
+    let unread = ["sheet", "script"].iter().any(|name| fs::read(folder.join(name)).is_err());
+    judged(&printed, &command.mark_in(folder)?, unread)
+}
+
+/// What a folder has, in the order of the names. That it has nothing is a failure, for nothing would be judged.
+fn listed(folder: &Path) -> Result<Vec<PathBuf>, String> {
+    let entries = fs::read_dir(folder).and_then(|entries| entries.map(|entry| Ok(entry?.path())).collect());
+    let mut paths: Vec<PathBuf> = entries.map_err(|e| format!("{}: {e}", folder.display()))?;
+    paths.sort();
+    match paths.is_empty() {
+        true => Err(format!("{} is empty", folder.display())),
+        false => Ok(paths),
+    }
+}

@@ -1,0 +1,6 @@
+//! The crate `acornsled` as hosts in Rust use it: what its functions answer by enums, held against the numbers that its
+//! calls give for the same texts and tables. The numbers are judged by `marking`, `text` and `check`.
+
+pub mod mark;
+pub mod run;
+pub mod table;

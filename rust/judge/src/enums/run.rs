@@ -1,0 +1,63 @@
+//! A whole run over the crate's functions, on the texts that `marking` draws for the same seed.
+
+use super::{mark, table};
+use crate::marking::run::drawn;
+use crate::random::Random;
+use crate::text::check::shown;
+use std::collections::BTreeMap;
+use std::fmt;
+use std::thread;
+
+/// What a run has judged: pairs of texts by their numbers, and texts whose tables were tried.
+#[derive(Default)]
+pub struct Counts {
+    pub numbers: BTreeMap<u32, usize>,
+    pub tables: usize,
+}
+
+/// What was judged, or the first failure with its input, on two threads at once.
+pub fn all(seed: u64, count: u64) -> Result<Counts, String> {
+    let every_second = |first: u64| {
+        let mut counts = Counts::default();
+        (first..count).step_by(2).try_for_each(|number| numbered(seed, number, &mut counts)).map(|()| counts)
+    };
+    thread::scope(|scope| {
+        let beside = scope.spawn(|| every_second(1));
+        let here = every_second(0);
+        let beside = beside.join().expect("a call panics on the second thread");
+        let mut counts = here?;
+        counts.add(&beside?);
+        Ok(counts)
+    })
+}
+
+/// The texts of the pair with this number.
+fn numbered(seed: u64, number: u64, counts: &mut Counts) -> Result<(), String> {
+    let mut random = Random::new(seed, number);
+    for (sheet, script) in drawn(number, &mut random) {
+        let stated = |e: String| {
+            format!("seed {seed}, enums of pair {number}: {e}\nsheet, {}\nscript, {}", shown(&sheet), shown(&script))
+        };
+        *counts.numbers.entry(mark::texts(&sheet, &script).map_err(stated)?).or_default() += 1;
+        for text in [&sheet, &script] {
+            counts.tables += usize::from(table::text(text, &mut random).map_err(stated)?);
+        }
+    }
+    Ok(())
+}
+
+impl Counts {
+    /// Adds what another thread has judged.
+    fn add(&mut self, other: &Counts) {
+        self.tables += other.tables;
+        other.numbers.iter().for_each(|(number, count)| *self.numbers.entry(*number).or_default() += count);
+    }
+}
+
+impl fmt::Display for Counts {
+    fn fmt(&self, f: &mut fmt::Formatter) -> fmt::Result {
+        write!(f, "enums-of-pairs={}", self.numbers.values().sum::<usize>())?;
+        self.numbers.iter().try_for_each(|(number, count)| write!(f, " number-{number}={count}"))?;
+        write!(f, " enums-of-tables={}", self.tables)
+    }
+}

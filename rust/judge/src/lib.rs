@@ -1,0 +1,50 @@
+//! Judges Acornsled's static library from Rust: every reply of its six calls, its number and its value, and every lent
+//! word and byte, against document 01.
+//!
+//! What a sheet means is decided by enumeration on small sheets (`brute`) and by shortest paths on all (`graph`), and
+//! neither eliminates a quantity. How far they are independent of the fact that hiding rests on, `graph` says. The key's
+//! words are compared with document 01's steps, written by its own words (`naive`); so is what the benchmark measures
+//! against, the library's design in ordinary Rust (`plain`).
+//!
+//! What a text says is decided by spelling (`text`), and held against a parser in ordinary Rust (`plain_text`).
+//!
+//! What a script is worth is decided by the same two ways as a sheet's meaning, and no key is made for it; the rule and the
+//! integers of a verdict are held against the meaning (`marking`). Both calls that mark are held against the tightest tables
+//! of both papers in ordinary Rust (`plain_mark`, `plain_reasons`).
+//!
+//! What hosts in Rust get by the crate's enums is held against the numbers (`enums`). What the programs print is judged to
+//! the byte (`printed`), and what the command `acornsled` says is held against that (`command`).
+//!
+//! Beside the judge stand what the exam host uses (`held`), and the trial of wrong programs on the crates' proofs
+//! (`wrong`).
+
+pub mod brute;
+pub mod calls;
+pub mod check;
+pub mod command;
+pub mod counts;
+pub mod damage;
+pub mod document;
+pub mod due;
+pub mod enums;
+pub mod graph;
+pub mod held;
+pub mod lent;
+pub mod library;
+pub mod linked;
+pub mod marking;
+pub mod meaning;
+pub mod naive;
+pub mod plain;
+pub mod plain_mark;
+pub mod plain_reasons;
+pub mod plain_text;
+pub mod printed;
+pub mod random;
+pub mod run;
+pub mod sheets;
+#[cfg(feature = "plain")]
+mod stand_in;
+pub mod state;
+pub mod text;
+pub mod wrong;

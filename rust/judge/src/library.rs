@@ -1,0 +1,83 @@
+//! The six calls that are judged, and their replies. The judge knows the calls as traits, so that it can be tried on
+//! wrong answers too: one for the calls on tables, one for the calls on texts, one for the two that mark two texts.
+
+pub use acornsled::calls::{Header, Reply, Told};
+
+pub const DONE: Reply = Reply { number: 0, value: 0 };
+pub const SIZE: Reply = Reply { number: 1, value: 0 };
+/// The value is line 0: the limit is passed outside of a text.
+pub const PAST_LIMIT: Reply = Reply { number: 3, value: 0 };
+pub const NO_ASSIGNMENT: Reply = Reply { number: 5, value: 0 };
+
+/// The lent words or bytes are fewer than needed.
+pub fn too_short(needed: usize) -> Reply {
+    Reply { number: 6, value: needed }
+}
+
+/// A line of a text is malformed or missing.
+pub fn malformed(line: usize) -> Reply {
+    Reply { number: 2, value: line }
+}
+
+/// A line of a text has a number outside its limit.
+pub fn past_limit(line: usize) -> Reply {
+    Reply { number: 3, value: line }
+}
+
+/// A line of a text is a rule `+q-q` or `-q+q`.
+pub fn cancelling(line: usize) -> Reply {
+    Reply { number: 4, value: line }
+}
+
+/// A text of this length is written.
+pub fn written(length: usize) -> Reply {
+    Reply { number: 0, value: length }
+}
+
+/// Shared by threads, for two may call at once.
+pub trait Library: Sync {
+    /// Replaces the table's first 2n² words by the key's.
+    fn key(&self, n: usize, hidden: u32, table: &mut [i64], workspace: &mut [i64]) -> Reply;
+
+    /// Writes n integers that satisfy the table's rules to the first n words of `values`.
+    fn assignment(&self, n: usize, table: &[i64], workspace: &mut [i64], values: &mut [i64]) -> Reply;
+}
+
+/// Shared by threads, as above.
+pub trait Texts: Sync {
+    /// Replaces the header and the table's first 2n² words by what the text says.
+    fn read(&self, text: &[u8], table: &mut [i64], header: &mut Header) -> Reply;
+
+    /// Writes the table's text to the first bytes of `out`.
+    fn write(&self, n: usize, hidden: u32, table: &[i64], out: &mut [u8]) -> Reply;
+}
+
+/// What marking answers where nothing is refused (document 01, 'Programs and host').
+pub const EQUAL: u32 = 100;
+pub const LOOSE: u32 = 101;
+pub const TIGHT: u32 = 102;
+/// The script's n or hidden list is another, or one of its rules names a hidden quantity.
+pub const MISMATCH: u32 = 7;
+/// The words for the integers are fewer than the sheet's quantities.
+pub const SHORT: u32 = 6;
+
+/// Which paper a refusal is about, as marking writes it; 0 stands beside a verdict.
+pub const NO_PAPER: u32 = 0;
+pub const SHEET: u32 = 1;
+pub const SCRIPT: u32 = 2;
+pub const BOTH: u32 = 3;
+
+/// Shared by threads, as above.
+pub trait Marker: Sync {
+    /// The number of the verdict on two texts, or of the refusal alone.
+    fn mark(&self, sheet: &[u8], script: &[u8]) -> u32;
+
+    /// The same number, or 6 where the words of `values` are too few, with what is told beside it; for loose and tight the
+    /// integers that show the verdict are written to the first n words of `values`.
+    fn mark_texts(&self, sheet: &[u8], script: &[u8], values: &mut [i64], told: &mut Told) -> u32;
+}
+
+/// A reply in words.
+pub fn spelled(Reply { number, value }: Reply) -> String {
+    format!("{number} with value {value}")
+}

@@ -1,0 +1,37 @@
+//! The library that this program is linked with, by the numbers that C gets: the calls of the crate `acornsled`, which are
+//! judged here with the library.
+
+use crate::library::{Header, Library, Marker, Reply, Texts, Told};
+use acornsled::calls;
+
+pub struct Linked;
+
+impl Library for Linked {
+    fn key(&self, n: usize, hidden: u32, table: &mut [i64], workspace: &mut [i64]) -> Reply {
+        calls::key(n, hidden, table, workspace)
+    }
+
+    fn assignment(&self, n: usize, table: &[i64], workspace: &mut [i64], values: &mut [i64]) -> Reply {
+        calls::assignment(n, table, workspace, values)
+    }
+}
+
+impl Texts for Linked {
+    fn read(&self, text: &[u8], table: &mut [i64], header: &mut Header) -> Reply {
+        calls::read(text, table, header)
+    }
+
+    fn write(&self, n: usize, hidden: u32, table: &[i64], out: &mut [u8]) -> Reply {
+        calls::write(n, hidden, table, out)
+    }
+}
+
+impl Marker for Linked {
+    fn mark(&self, sheet: &[u8], script: &[u8]) -> u32 {
+        calls::mark(sheet, script)
+    }
+
+    fn mark_texts(&self, sheet: &[u8], script: &[u8], values: &mut [i64], told: &mut Told) -> u32 {
+        calls::mark_texts(sheet, script, values, told)
+    }
+}

@@ -1,0 +1,157 @@
+//! What a run over pairs of texts has judged, for its one line of output, and whether every number and every kind of pair
+//! was among it.
+
+use super::due::Due;
+use std::collections::BTreeMap;
+use std::fmt;
+
+/// Every answer of marking two texts with its reasons. 5 is none, and 6 is none where all is lent by the library.
+const NUMBERS: [u32; 9] = [1, 2, 3, 4, 6, 7, 100, 101, 102];
+
+#[derive(Default)]
+pub struct Counts {
+    pub examples: usize,
+    /// verdicts that were decided by enumeration too
+    enumerated: usize,
+    /// calls by their numbers
+    numbers: BTreeMap<u32, usize>,
+    /// calls with reasons by theirs; each is made twice
+    reasons: BTreeMap<u32, usize>,
+    kinds: BTreeMap<String, usize>,
+}
+
+/// What a run is to meet. With `sheet 3, script 2` both texts are to be refused, so that the sheet's number has to come
+/// first whichever is the smaller.
+const KINDS: [&str; 85] = [
+    "sheet 1",
+    "sheet 1, script 2",
+    "sheet 1, script 3",
+    "sheet 1, script 4",
+    "sheet 2",
+    "sheet 2, script 1",
+    "sheet 2, script 3",
+    "sheet 2, script 4",
+    "sheet 3",
+    "sheet 3, script 1",
+    "sheet 3, script 2",
+    "sheet 3, script 4",
+    "sheet 4",
+    "sheet 4, script 1",
+    "sheet 4, script 2",
+    "sheet 4, script 3",
+    "script 1",
+    "script 2",
+    "script 3",
+    "script 4",
+    "7 hidden",
+    "7 n",
+    "7 rule",
+    "7, sheet without an assignment",
+    "equal, all hidden",
+    "equal, both with an assignment",
+    "equal, bound at the limit",
+    "equal, doubled",
+    "equal, enumerated",
+    "equal, largest n",
+    "equal, none hidden",
+    "equal, not by fractions",
+    "equal, script without an assignment",
+    "equal, sheet without an assignment",
+    "equal, some hidden",
+    "loose, all hidden",
+    "loose, both with an assignment",
+    "loose, bound at the limit",
+    "loose, doubled",
+    "loose, enumerated",
+    "loose, largest n",
+    "loose, none hidden",
+    "loose, not by fractions",
+    "loose, sheet without an assignment",
+    "loose, some hidden",
+    "tight, both with an assignment",
+    "tight, bound at the limit",
+    "tight, doubled",
+    "tight, enumerated",
+    "tight, largest n",
+    "tight, none hidden",
+    "tight, not by fractions",
+    "tight, script without an assignment",
+    "tight, some hidden",
+    "wide and narrow, both with an assignment",
+    "wide and narrow, bound at the limit",
+    "wide and narrow, doubled",
+    "wide and narrow, enumerated",
+    "wide and narrow, largest n",
+    "wide and narrow, none hidden",
+    "wide and narrow, some hidden",
+    // of the call with reasons
+    "6 before 7",
+    "6 before a verdict, 100",
+    "6 before a verdict, 101",
+    "6 before a verdict, 102",
+    "sheet refused, no words lent",
+    "script refused, no words lent",
+    "equal, with reasons",
+    "loose, and narrow",
+    "loose, before another rule that can be broken",
+    "loose, behind a rule that holds",
+    "loose, hidden integers tried",
+    "loose, no rule",
+    "loose, rule of one quantity",
+    "loose, rule of two quantities",
+    "loose, rule past the limits",
+    "loose, rule tried",
+    "loose, words past n",
+    "tight, before another rule that can be broken",
+    "tight, behind a rule that holds",
+    "tight, rule not as it is written",
+    "tight, rule of one quantity",
+    "tight, rule of two quantities",
+    "tight, rule tried",
+    "tight, words past n",
+];
+
+impl Counts {
+    pub fn marking(&mut self, due: &Due) {
+        *self.numbers.entry(due.number).or_default() += 1;
+        self.enumerated += usize::from(due.enumerated);
+        due.kinds.iter().for_each(|kind| *self.kinds.entry(kind.clone()).or_default() += 1);
+    }
+
+    pub fn reasons(&mut self, number: u32, kinds: Vec<String>) {
+        *self.reasons.entry(number).or_default() += 1;
+        kinds.into_iter().for_each(|kind| *self.kinds.entry(kind).or_default() += 1);
+    }
+
+    /// Nothing is shown by a run in which some number was never due, or some kind of pair never met.
+    pub fn all_met(&self) -> Result<(), String> {
+        if let Some(number) = NUMBERS.iter().find(|number| !self.reasons.contains_key(number)) {
+            return Err(format!("{number} was never due"));
+        }
+        match KINDS.iter().find(|&&kind| !self.kinds.contains_key(kind)) {
+            Some(kind) => Err(format!("no pair was of the kind '{kind}'")),
+            None => Ok(()),
+        }
+    }
+
+    /// Adds what another thread has judged.
+    pub fn add(&mut self, other: &Counts) {
+        self.examples += other.examples;
+        self.enumerated += other.enumerated;
+        other.numbers.iter().for_each(|(number, count)| *self.numbers.entry(*number).or_default() += count);
+        other.reasons.iter().for_each(|(number, count)| *self.reasons.entry(*number).or_default() += count);
+        other.kinds.iter().for_each(|(kind, count)| *self.kinds.entry(kind.clone()).or_default() += count);
+    }
+}
+
+impl fmt::Display for Counts {
+    fn fmt(&self, f: &mut fmt::Formatter) -> fmt::Result {
+        let Counts { examples, enumerated, numbers, reasons, .. } = self;
+        write!(f, "examples={examples} pairs={} enumerated={enumerated}", numbers.values().sum::<usize>())?;
+        numbers.iter().try_for_each(|(number, count)| write!(f, " number-{number}={count}"))?;
+        write!(f, " with-reasons={}", reasons.values().sum::<usize>())?;
+        reasons.iter().try_for_each(|(number, count)| write!(f, " number-{number}={count}"))?;
+        let fewest = KINDS.iter().map(|&kind| self.kinds.get(kind).copied().unwrap_or(0)).min();
+        write!(f, " kinds={} fewest-of-a-kind={}", KINDS.len(), fewest.unwrap_or(0))
+    }
+}

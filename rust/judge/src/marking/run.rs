@@ -1,0 +1,65 @@
+//! A whole run over pairs of texts: examples, then random pairs, each as it is and damaged.
+
+use super::check;
+use super::counts::Counts;
+use super::damage;
+use super::examples;
+use super::pairs::Pair;
+use crate::library::Marker;
+use crate::random::Random;
+use std::thread;
+
+/// From so many pairs on a run has to meet every number and every kind of pair.
+const ENOUGH: u64 = 5_000;
+
+/// How often a pair is damaged.
+const DAMAGED: usize = 2;
+
+/// What was judged, or the first failure with its input.
+pub fn all(library: &dyn Marker, seed: u64, count: u64) -> Result<Counts, String> {
+    let mut counts = Counts::default();
+    examples::all(library, &mut counts)?;
+    let met = random(library, seed, count)?;
+    if count >= ENOUGH {
+        met.all_met()?;
+    }
+    counts.add(&met);
+    Ok(counts)
+}
+
+/// Random pairs, on two threads at once: every number is due, so that anything that calls share would show.
+pub fn random(library: &dyn Marker, seed: u64, count: u64) -> Result<Counts, String> {
+    let every_second = |first: u64| {
+        let mut counts = Counts::default();
+        (first..count).step_by(2).try_for_each(|number| numbered(library, seed, number, &mut counts)).map(|()| counts)
+    };
+    thread::scope(|scope| {
+        let beside = scope.spawn(|| every_second(1));
+        let here = every_second(0);
+        let beside = beside.join().expect("a call panics on the second thread");
+        let mut counts = here?;
+        counts.add(&beside?);
+        Ok(counts)
+    })
+}
+
+/// The pair with this number.
+fn numbered(library: &dyn Marker, seed: u64, number: u64, counts: &mut Counts) -> Result<(), String> {
+    let mut random = Random::new(seed, number);
+    for (sheet, script) in drawn(number, &mut random) {
+        check::texts(library, &sheet, &script, &mut random, counts)
+            .map_err(|e| format!("seed {seed}, pair {number}: {e}"))?;
+    }
+    Ok(())
+}
+
+/// The texts of the pair with this number, as it is and damaged. Each third pair is small enough for enumeration.
+pub fn drawn(number: u64, random: &mut Random) -> Vec<(Vec<u8>, Vec<u8>)> {
+    let pair = match number % 3 {
+        0 => Pair::small(random),
+        _ => Pair::any(random),
+    };
+    let mut texts = vec![(pair.sheet.text(), pair.script.text())];
+    texts.extend((0..DAMAGED).map(|_| damage::damaged(&pair, random)));
+    texts
+}

@@ -1,0 +1,65 @@
+//! The two calls on tables in ordinary Rust, as the library makes them: what its times are measured against. Hiding is
+//! document 01's step. 'No assignment' is decided by a device of the program's own: each quantity is eliminated among the
+//! later ones alone, which is less work and leaves what the choice of integers needs.
+//!
+//! A quantity has a number from 0 here, and quantity k the literals 2k, for plus, and 2k + 1. One literal x stands at place
+//! 2 (x/2)² + x%2; two literals x < y of different quantities stand at 2 (y/2)² + 2 + 2x + y%2.
+
+pub(crate) mod choose;
+pub(crate) mod step;
+pub mod tight;
+
+use crate::library::{too_short, Reply, DONE, NO_ASSIGNMENT, PAST_LIMIT, SIZE};
+use crate::meaning::{LIMIT, MOST_QUANTITIES, NO_RULE};
+
+pub fn key(n: usize, hidden: u32, table: &mut [i64], workspace: &mut [i64]) -> Reply {
+    if let Err(refusal) = lengths(n, table, workspace) {
+        return refusal;
+    }
+    let (table, workspace) = (&mut table[..2 * n * n], &mut workspace[..2 * n * n]);
+    // as 64 bits, for a 32-bit number cannot be shifted by 32
+    if u64::from(hidden) >> n != 0 || !within_limits(table) {
+        return PAST_LIMIT;
+    }
+    workspace.copy_from_slice(table);
+    if !step::eliminate(n, workspace) {
+        return NO_ASSIGNMENT;
+    }
+    step::hide(n, table, (0..n).filter(|k| (hidden >> k) & 1 == 1));
+    DONE
+}
+
+pub fn assignment(n: usize, table: &[i64], workspace: &mut [i64], values: &mut [i64]) -> Reply {
+    if let Err(refusal) = lengths(n, table, workspace) {
+        return refusal;
+    }
+    if values.len() < n {
+        return too_short(n);
+    }
+    let (table, workspace) = (&table[..2 * n * n], &mut workspace[..2 * n * n]);
+    if !within_limits(table) {
+        return PAST_LIMIT;
+    }
+    workspace.copy_from_slice(table);
+    if !step::eliminate(n, workspace) {
+        return NO_ASSIGNMENT;
+    }
+    choose::values(n, workspace, &mut values[..n]);
+    DONE
+}
+
+/// The refusals that both calls begin with. n is tested first, so that 2n² cannot wrap.
+fn lengths(n: usize, table: &[i64], workspace: &[i64]) -> Result<(), Reply> {
+    if n == 0 || n > MOST_QUANTITIES || table.len() < 2 * n * n {
+        return Err(SIZE);
+    }
+    if workspace.len() < 2 * n * n {
+        return Err(too_short(2 * n * n));
+    }
+    Ok(())
+}
+
+fn within_limits(table: &[i64]) -> bool {
+    let held = |&bound: &i64| bound == NO_RULE || (-LIMIT..=LIMIT).contains(&bound);
+    table.iter().all(held)
+}

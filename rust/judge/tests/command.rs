@@ -1,0 +1,47 @@
+//! Is the judge of the command worth believing? It accepts what belongs to a printed answer, and refuses what does not.
+
+use judge::command::answer::{judged, Kind, Said};
+
+const KEY: &str = "quantities=1\nhidden=\nrules=0\n";
+const REFUSED: &str = "refused=3\npaper=script\nline=14\n";
+
+fn said(status: Option<i32>, output: &str, errors: &str) -> Said {
+    Said { status, output: output.into(), errors: errors.into() }
+}
+
+#[test]
+fn what_belongs_to_an_answer_is_accepted() {
+    assert_eq!(judged(KEY.as_bytes(), &said(Some(0), KEY, ""), false), Ok(Kind::Answer));
+    let told = said(Some(1), REFUSED, "acornsled: script, line 14: refusal 3, a number outside its limit\n");
+    assert_eq!(judged(REFUSED.as_bytes(), &told, false), Ok(Kind::Refusal));
+    let told = said(Some(2), REFUSED, "acornsled: script: no such file\n");
+    assert_eq!(judged(REFUSED.as_bytes(), &told, true), Ok(Kind::Unread));
+}
+
+#[test]
+fn what_does_not_belong_to_it_is_refused() {
+    let wrong: [(&str, Said, bool, &str); 14] = [
+        (KEY, said(Some(0), "", ""), false, "line 1: nothing, due 'quantities=1\\n'"),
+        (KEY, said(Some(0), "quantities=1\nhidden=\nrules=0", ""), false, "line 3: 'rules=0', due 'rules=0\\n'"),
+        (KEY, said(Some(0), "acornsled\nquantities=1\n", ""), false, "line 1: 'acornsled\\n', due 'quantities=1\\n'"),
+        (KEY, said(Some(1), KEY, ""), false, "exit status 1, due 0, with '' on standard error"),
+        (KEY, said(None, KEY, ""), false, "exit status none, due 0, with '' on standard error"),
+        (KEY, said(Some(0), KEY, "done\n"), false, "'done\\n' on standard error beside an answer"),
+        (REFUSED, said(Some(0), REFUSED, "3\n"), false, "exit status 0, due 1, with '3\\n' on standard error"),
+        (REFUSED, said(Some(2), REFUSED, "3\n"), false, "exit status 2, due 1, with '3\\n' on standard error"),
+        (REFUSED, said(Some(1), "", "3\n"), false, "line 1: nothing, due 'refused=3\\n'"),
+        (REFUSED, said(Some(1), REFUSED, ""), false, "'' on standard error, which does not name 3"),
+        (REFUSED, said(Some(1), REFUSED, "line 14\n"), false, "'line 14\\n' on standard error, which does not name 3"),
+        (
+            REFUSED,
+            said(Some(1), REFUSED, "13, 31, 3rd\n"),
+            false,
+            "'13, 31, 3rd\\n' on standard error, which does not name 3",
+        ),
+        (REFUSED, said(Some(1), REFUSED, "none\n"), true, "exit status 1, due 2, with 'none\\n' on standard error"),
+        (REFUSED, said(Some(2), REFUSED, ""), true, "nothing on standard error beside a refusal"),
+    ];
+    for (printed, said, unread, due) in wrong {
+        assert_eq!(judged(printed.as_bytes(), &said, unread), Err(due.into()));
+    }
+}

@@ -1,0 +1,98 @@
+//! Is the judge of the crate's enums worth believing? It accepts what the numbers say, and refuses what they do not.
+
+use acornsled::{Paper, Refusal, Refused, Rule, Verdict};
+use judge::enums::mark::{same, Numbers};
+use judge::enums::table::same_refusal;
+use judge::library::{Reply, Told, BOTH, EQUAL, LOOSE, SCRIPT, TIGHT};
+use judge::meaning::NO_RULE;
+
+fn verdict(number: u32, rule: [i64; 3]) -> Numbers {
+    Numbers { number, told: Told { paper: 0, value: 0, quantities: 3, rule }, values: vec![3, 0, 3] }
+}
+
+fn refused(number: u32, paper: u32, value: usize) -> Numbers {
+    Numbers { number, told: Told { paper, value, quantities: 0, rule: [0; 3] }, values: vec![] }
+}
+
+const TWO: Rule = Rule::Two { first: 1, second: -3, bound: 5 };
+const ONE: Rule = Rule::One { term: -3, bound: -1 };
+
+fn loose(rule: Option<Rule>) -> Result<Verdict, Refused> {
+    Ok(Verdict::Loose { rule, values: vec![3, 0, 3] })
+}
+
+fn tight(rule: Rule) -> Result<Verdict, Refused> {
+    Ok(Verdict::Tight { rule, values: vec![3, 0, 3] })
+}
+
+fn refusal(paper: Paper, refusal: Refusal) -> Result<Verdict, Refused> {
+    Err(Refused { paper, refusal })
+}
+
+#[test]
+fn what_the_numbers_say_is_accepted() {
+    let right = [
+        (Ok(Verdict::Equal), verdict(EQUAL, [7; 3])),
+        (loose(Some(TWO)), verdict(LOOSE, [1, -3, 5])),
+        (loose(Some(ONE)), verdict(LOOSE, [-3, 0, -1])),
+        (loose(None), verdict(LOOSE, [0, 0, NO_RULE])),
+        (tight(ONE), verdict(TIGHT, [-3, 0, -1])),
+        (refusal(Paper::Script, Refusal::Cancelling { line: 5 }), refused(4, SCRIPT, 5)),
+        (refusal(Paper::Both, Refusal::Mismatch), refused(7, BOTH, 0)),
+        (refusal(Paper::Both, Refusal::TooShort { needed: 32 }), refused(6, BOTH, 32)),
+    ];
+    for (answer, numbers) in right {
+        same(&answer, &numbers).unwrap_or_else(|failure| panic!("{failure}"));
+    }
+}
+
+#[test]
+fn what_they_do_not_say_is_refused() {
+    let wrong = [
+        (Ok(Verdict::Equal), verdict(LOOSE, [1, -3, 5])),
+        (loose(Some(TWO)), verdict(EQUAL, [1, -3, 5])),
+        (loose(Some(TWO)), verdict(TIGHT, [1, -3, 5])),
+        (tight(TWO), verdict(LOOSE, [1, -3, 5])),
+        (loose(Some(TWO)), verdict(LOOSE, [-3, 1, 5])),
+        (loose(Some(TWO)), verdict(LOOSE, [1, 3, 5])),
+        (loose(Some(TWO)), verdict(LOOSE, [1, -3, 6])),
+        (loose(Some(ONE)), verdict(LOOSE, [0, 0, NO_RULE])),
+        (loose(None), verdict(LOOSE, [1, 0, 5])),
+        (loose(None), verdict(LOOSE, [0, 0, 0])),
+        (Ok(Verdict::Tight { rule: TWO, values: vec![3, 0] }), verdict(TIGHT, [1, -3, 5])),
+        (Ok(Verdict::Tight { rule: TWO, values: vec![3, 3, 0] }), verdict(TIGHT, [1, -3, 5])),
+        (Ok(Verdict::Equal), refused(7, BOTH, 0)),
+        (refusal(Paper::Both, Refusal::Mismatch), verdict(EQUAL, [0; 3])),
+        (refusal(Paper::Sheet, Refusal::Mismatch), refused(7, BOTH, 0)),
+        (refusal(Paper::Script, Refusal::Cancelling { line: 4 }), refused(4, SCRIPT, 5)),
+        (refusal(Paper::Script, Refusal::OutOfLimit { line: 5 }), refused(4, SCRIPT, 5)),
+        (refusal(Paper::Both, Refusal::TooShort { needed: 31 }), refused(6, BOTH, 32)),
+    ];
+    for (answer, numbers) in wrong {
+        assert!(same(&answer, &numbers).is_err(), "{answer:?} for {}", numbers.number);
+    }
+}
+
+#[test]
+fn each_refusal_is_that_of_its_number_alone() {
+    let each = |line| {
+        [
+            (1, Refusal::Size),
+            (2, Refusal::Malformed { line }),
+            (3, Refusal::OutOfLimit { line }),
+            (4, Refusal::Cancelling { line }),
+            (5, Refusal::NoAssignment),
+            (6, Refusal::TooShort { needed: line }),
+            (7, Refusal::Mismatch),
+        ]
+    };
+    for (number, refusal) in each(0) {
+        for replied in 0..9 {
+            let accepted = same_refusal(refusal, Reply { number: replied, value: 0 }).is_ok();
+            assert_eq!(accepted, number == replied, "{refusal:?} for {replied}");
+        }
+    }
+    for (number, refusal) in each(8) {
+        assert!(same_refusal(refusal, Reply { number, value: 9 }).is_err(), "{refusal:?}");
+    }
+}

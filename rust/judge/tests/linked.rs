@@ -1,0 +1,33 @@
+//! The judge over the library that it is linked with. With the feature `plain` that is the stand-in, so that the
+//! declarations of the crate `acornsled` are tried without an archive.
+
+use judge::enums;
+use judge::linked::Linked;
+use judge::marking;
+use judge::run;
+use judge::text;
+
+#[test]
+fn the_linked_library_is_accepted_on_sheets() {
+    let counts = run::all(&Linked, 1, 1000).unwrap_or_else(|failure| panic!("{failure}"));
+    assert_eq!(counts.sheets, 1000);
+}
+
+#[test]
+fn the_linked_library_is_accepted_on_texts() {
+    // so many that every kind of reply has to be met
+    text::run::all(&Linked, 1, 2000).unwrap_or_else(|failure| panic!("{failure}"));
+}
+
+#[test]
+fn the_linked_library_is_accepted_on_pairs_of_texts() {
+    // so many that every number and every kind of pair has to be met
+    marking::run::all(&Linked, 1, 5000).unwrap_or_else(|failure| panic!("{failure}"));
+}
+
+#[test]
+fn the_crates_enums_say_what_the_numbers_say() {
+    let counts = enums::run::all(1, 1000).unwrap_or_else(|failure| panic!("{failure}"));
+    let numbers: Vec<u32> = counts.numbers.keys().copied().collect();
+    assert_eq!(numbers, [1, 2, 3, 4, 7, 100, 101, 102]);
+}

@@ -125,8 +125,11 @@ fn gnu_parallel_spreads_a_sitting() {
     let lists = "parallel -k --pipe --block 100 --recend '\\0' \
         acornsled sitting --no-header --folder scripts --list0 sheet < names >> table.csv";
     assert_eq!(by_shell(&room, &format!("{NAMES}{header}{lists}")), due);
-    // what ssh would run on two other machines that share the folder, run here
-    room.put("ssh", b"#!/bin/sh\necho \"$1\" >> hosts\nshift\n[ \"$1\" != -- ] || shift\nexec sh -c \"$*\"\n");
+    // what ssh would run on two other machines that share the folder, run here; parallel relies on the shell that sshd names
+    room.put(
+        "ssh",
+        b"#!/bin/sh\necho \"$1\" >> hosts\nshift\n[ \"$1\" != -- ] || shift\nexec env SHELL=/bin/sh sh -c \"$*\"\n",
+    );
     let hosts = "chmod +x ssh; export PARALLEL_SSH=\"$PWD/ssh\"\n\
         parallel -k -j 1 --sshlogin one,two --workdir . acornsled sitting --part {}/16 sheet scripts ::: $(seq 16) > table.csv\n";
     assert_eq!(by_shell(&room, hosts), due);

@@ -149,19 +149,13 @@ told-count : {sheet script : List ℕ} {lent : Lengths} (before : ℕ) (r : Text
 told-count before (Marked n v) j t = let e = j .counts t in cc
 told-count before (NotMarked w f) j t = clash (j .accepted .1 t) refl
 
--- the words of a loose verdict's rule are of the rule that it carries
-told-loose : (before : List ℤ) (r : TextMarking) → textNumber r ≡ 101 → TextReturned r 101 (ruleValues (ruleIn (ruleMarked before r))) []
-told-loose before (Marked n Equal) e = absurd (omega arith)
-told-loose before (Marked n (Loose rule)) e = (refl, ap ruleValues (sym (words-rule rule)), refl)
-told-loose before (Marked n (Tight rule)) e = absurd (omega arith)
-told-loose before (NotMarked w f) e = absurd (omega (arith, refusal-below f))
-
--- and those of a tight one's
-told-tight : (before : List ℤ) (r : TextMarking) → textNumber r ≡ 102 → TextReturned r 102 (ruleValues (ruleIn (ruleMarked before r))) []
-told-tight before (Marked n Equal) e = absurd (omega arith)
-told-tight before (Marked n (Loose rule)) e = absurd (omega arith)
-told-tight before (Marked n (Tight rule)) e = (refl, ap ruleValues (sym (words-rule rule)), refl)
-told-tight before (NotMarked w f) e = absurd (omega (arith, refusal-below f))
+-- the words that come with a loose or tight verdict are of the rule that it carries
+told-rule : (before : List ℤ) (r : TextMarking) (k : ℕ) → textNumber r ≡ k → 100 < k
+    → TextReturned r k (ruleValues (ruleIn (ruleMarked before r))) []
+told-rule before (Marked n Equal) k e h = absurd (omega (arith, e))
+told-rule before (Marked n (Loose rule)) k e h = (e, ap ruleValues (sym (words-rule rule)), refl)
+told-rule before (Marked n (Tight rule)) k e h = (e, ap ruleValues (sym (words-rule rule)), refl)
+told-rule before (NotMarked w f) k e h = absurd (omega (arith, e, refusal-below f))
 
 -- what a host is told of a reply
 reply-told : (sheet script : List ℕ) (lent : Lengths) (reply : TextMarking) (n : ℕ) (rule values : List ℤ) → TextsJudged sheet script lent reply
@@ -174,8 +168,8 @@ reply-told sheet script lent reply n rule values j s =
       accepted = reply-accepted reply j;
       count = told-count n reply j;
       demand = j .demand;
-      loose = λ t e. let w = told-loose rule reply e in (j .loose-rule t x w, s .loose-shown t x w);
-      tight = λ t e. let w = told-tight rule reply e in (j .tight-rule t x w, s .tight-shown t x w);
+      loose = λ t e. let w = told-rule rule reply 101 e (omega arith) in (j .loose-rule t x w, s .loose-shown t x w);
+      tight = λ t e. let w = told-rule rule reply 102 e (omega arith) in (j .tight-rule t x w, s .tight-shown t x w);
     }
 
 -- a reply's numbers and words

@@ -1,4 +1,4 @@
 // What the programs print, from bytes to bytes: they only read and write.
 pub mod key;
 pub mod mark;
-pub mod refusal;
+mod refusal;

@@ -9,7 +9,7 @@ ghost use Rattle.numerals.specs.Writing.{Spliced};
 ghost use Rattle.reports.specs.Refusals.{lineOf, numberText, whereText, refusalText};
 
 // The line that a refusal names, 0 where it names none.
-pub fn line_of(r: Refusal) -> usize
+fn line_of(r: Refusal) -> usize
     ensures { λ k. ⌜ k ≡ lineOf r ⌝ }
 {
     match r {
@@ -40,7 +40,7 @@ pub(crate) fn put_where(out: &mut [u8], at: usize, r: Refusal) -> usize
 }
 
 // Writes a refusal at the start of the output; answers its length.
-pub fn put_refusal(out: &mut [u8], r: Refusal) -> usize
+pub(crate) fn put_refusal(out: &mut [u8], r: Refusal) -> usize
     requires { ⌜ length (refusalText r) ≤ length (now out) ⌝ }
     ensures { λ k. ⌜ Spliced (now (out .entry)) 0 (refusalText r) k (now (out .exit)) ⌝ }
 {

@@ -15,8 +15,8 @@
 //! What hosts in Rust get by the crate's enums is held against the numbers (`enums`). What the programs print is judged to
 //! the byte (`printed`), and what the command `acornsled` says is held against that (`command`).
 //!
-//! Beside the judge stand what the exam host uses (`held`), and the trial of wrong programs on the crates' proofs
-//! (`wrong`).
+//! Most runs are made on two threads (`halves`). Beside the judge stand what the exam host uses (`held`), and the trial of
+//! wrong programs on the crates' proofs (`wrong`).
 
 pub mod brute;
 pub mod calls;
@@ -28,6 +28,7 @@ pub mod document;
 pub mod due;
 pub mod enums;
 pub mod graph;
+pub mod halves;
 pub mod held;
 pub mod lent;
 pub mod library;

@@ -1,6 +1,7 @@
 //! The trial of wrong programs, over a check that is stated by hand: a function is proved while its body is the right one and
 //! what it calls is proved.
 
+#[path = "../../command/tests/temporary/mod.rs"]
 mod temporary;
 
 use judge::wrong::body::is_in_body;

@@ -3,11 +3,11 @@
 use super::answer::{judged, Kind};
 use super::program::Acornsled;
 use super::stored;
+use crate::halves::{self, Tally};
 use crate::printed::inputs::{drawn, Input};
 use crate::printed::programs::Printer;
 use crate::text::check::shown;
 use std::fmt;
-use std::thread;
 
 /// From so many inputs on there have to be answers and refusals of both commands.
 const ENOUGH: u64 = 100;
@@ -30,21 +30,8 @@ pub fn all(printer: &dyn Printer, command: &Acornsled, seed: u64, count: u64) ->
     Ok(counts)
 }
 
-/// On two threads at once.
 fn random(printer: &dyn Printer, command: &Acornsled, seed: u64, count: u64) -> Result<Counts, String> {
-    let every_second = |first: u64| {
-        let mut counts = Counts::default();
-        let mut numbers = (first..count).step_by(2);
-        numbers.try_for_each(|number| numbered(printer, command, seed, number, &mut counts)).map(|()| counts)
-    };
-    thread::scope(|scope| {
-        let beside = scope.spawn(|| every_second(1));
-        let here = every_second(0);
-        let beside = beside.join().expect("the judge panics on the second thread");
-        let mut counts = here?;
-        counts.add(&beside?);
-        Ok(counts)
-    })
+    halves::both(count, |number, counts| numbered(printer, command, seed, number, counts))
 }
 
 /// The inputs with this number. A key is asked for on standard input and by a file's name.
@@ -84,8 +71,7 @@ fn texts(input: &Input) -> String {
     }
 }
 
-impl Counts {
-    /// Adds what another thread has judged.
+impl Tally for Counts {
     fn add(&mut self, other: &Counts) {
         for kind in 0..2 {
             self.key[kind] += other.key[kind];

@@ -1,12 +1,12 @@
 //! A whole run over the crate's functions, on the texts that `marking` draws for the same seed.
 
 use super::{mark, table};
+use crate::halves::{self, add_kinds, Tally};
 use crate::marking::run::drawn;
 use crate::random::Random;
 use crate::text::check::shown;
 use std::collections::BTreeMap;
 use std::fmt;
-use std::thread;
 
 /// What a run has judged: pairs of texts by their numbers, and texts whose tables were tried.
 #[derive(Default)]
@@ -15,20 +15,9 @@ pub struct Counts {
     pub tables: usize,
 }
 
-/// What was judged, or the first failure with its input, on two threads at once.
+/// What was judged, or the first failure with its input.
 pub fn all(seed: u64, count: u64) -> Result<Counts, String> {
-    let every_second = |first: u64| {
-        let mut counts = Counts::default();
-        (first..count).step_by(2).try_for_each(|number| numbered(seed, number, &mut counts)).map(|()| counts)
-    };
-    thread::scope(|scope| {
-        let beside = scope.spawn(|| every_second(1));
-        let here = every_second(0);
-        let beside = beside.join().expect("a call panics on the second thread");
-        let mut counts = here?;
-        counts.add(&beside?);
-        Ok(counts)
-    })
+    halves::both(count, |number, counts| numbered(seed, number, counts))
 }
 
 /// The texts of the pair with this number.
@@ -46,11 +35,10 @@ fn numbered(seed: u64, number: u64, counts: &mut Counts) -> Result<(), String> {
     Ok(())
 }
 
-impl Counts {
-    /// Adds what another thread has judged.
+impl Tally for Counts {
     fn add(&mut self, other: &Counts) {
         self.tables += other.tables;
-        other.numbers.iter().for_each(|(number, count)| *self.numbers.entry(*number).or_default() += count);
+        add_kinds(&mut self.numbers, &other.numbers);
     }
 }
 

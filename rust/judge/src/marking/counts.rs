@@ -2,6 +2,7 @@
 //! was among it.
 
 use super::due::Due;
+use crate::halves::{add_kinds, Tally};
 use std::collections::BTreeMap;
 use std::fmt;
 
@@ -133,14 +134,15 @@ impl Counts {
             None => Ok(()),
         }
     }
+}
 
-    /// Adds what another thread has judged.
-    pub fn add(&mut self, other: &Counts) {
+impl Tally for Counts {
+    fn add(&mut self, other: &Counts) {
         self.examples += other.examples;
         self.enumerated += other.enumerated;
-        other.numbers.iter().for_each(|(number, count)| *self.numbers.entry(*number).or_default() += count);
-        other.reasons.iter().for_each(|(number, count)| *self.reasons.entry(*number).or_default() += count);
-        other.kinds.iter().for_each(|(kind, count)| *self.kinds.entry(kind.clone()).or_default() += count);
+        add_kinds(&mut self.numbers, &other.numbers);
+        add_kinds(&mut self.reasons, &other.reasons);
+        add_kinds(&mut self.kinds, &other.kinds);
     }
 }
 

@@ -5,9 +5,9 @@ use super::counts::Counts;
 use super::damage;
 use super::examples;
 use super::pairs::Pair;
+use crate::halves::{self, Tally};
 use crate::library::Marker;
 use crate::random::Random;
-use std::thread;
 
 /// From so many pairs on a run has to meet every number and every kind of pair.
 const ENOUGH: u64 = 5_000;
@@ -27,20 +27,9 @@ pub fn all(library: &dyn Marker, seed: u64, count: u64) -> Result<Counts, String
     Ok(counts)
 }
 
-/// Random pairs, on two threads at once: every number is due, so that anything that calls share would show.
+/// Random pairs, of which every number is due.
 pub fn random(library: &dyn Marker, seed: u64, count: u64) -> Result<Counts, String> {
-    let every_second = |first: u64| {
-        let mut counts = Counts::default();
-        (first..count).step_by(2).try_for_each(|number| numbered(library, seed, number, &mut counts)).map(|()| counts)
-    };
-    thread::scope(|scope| {
-        let beside = scope.spawn(|| every_second(1));
-        let here = every_second(0);
-        let beside = beside.join().expect("a call panics on the second thread");
-        let mut counts = here?;
-        counts.add(&beside?);
-        Ok(counts)
-    })
+    halves::both(count, |number, counts| numbered(library, seed, number, counts))
 }
 
 /// The pair with this number.

@@ -1,5 +1,6 @@
 //! What a run over printed answers has judged, for its one line of output, and whether every kind of answer was among it.
 
+use crate::halves::{add_kinds, Tally};
 use std::collections::BTreeMap;
 use std::fmt;
 
@@ -63,12 +64,13 @@ impl Counts {
             None => Ok(()),
         }
     }
+}
 
-    /// Adds what another thread has judged.
-    pub fn add(&mut self, other: &Counts) {
+impl Tally for Counts {
+    fn add(&mut self, other: &Counts) {
         self.pairs += other.pairs;
         self.sheets += other.sheets;
-        other.kinds.iter().for_each(|(kind, count)| *self.kinds.entry(kind.clone()).or_default() += count);
+        add_kinds(&mut self.kinds, &other.kinds);
     }
 }
 

@@ -5,8 +5,8 @@ use super::inputs::{drawn, Input};
 use super::key;
 use super::mark;
 use super::programs::Printer;
+use crate::halves;
 use crate::text::check::shown;
-use std::thread;
 
 /// From so many pairs and sheets on a run has to meet every kind of answer.
 const ENOUGH: u64 = 2_000;
@@ -20,20 +20,9 @@ pub fn all(printer: &dyn Printer, seed: u64, count: u64) -> Result<Counts, Strin
     Ok(counts)
 }
 
-/// Random pairs and sheets, on two threads at once.
+/// Random pairs and sheets.
 pub fn random(printer: &dyn Printer, seed: u64, count: u64) -> Result<Counts, String> {
-    let every_second = |first: u64| {
-        let mut counts = Counts::default();
-        (first..count).step_by(2).try_for_each(|number| numbered(printer, seed, number, &mut counts)).map(|()| counts)
-    };
-    thread::scope(|scope| {
-        let beside = scope.spawn(|| every_second(1));
-        let here = every_second(0);
-        let beside = beside.join().expect("the judge panics on the second thread");
-        let mut counts = here?;
-        counts.add(&beside?);
-        Ok(counts)
-    })
+    halves::both(count, |number, counts| numbered(printer, seed, number, counts))
 }
 
 /// The inputs with this number.

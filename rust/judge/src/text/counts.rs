@@ -1,6 +1,7 @@
 //! What a run over texts has judged, for its one line of output, and whether every kind of reply was among it.
 
 use super::refusal::Refusal;
+use crate::halves::{add_kinds, Tally};
 use std::collections::BTreeMap;
 use std::fmt;
 
@@ -81,16 +82,17 @@ impl Counts {
             None => Ok(()),
         }
     }
+}
 
-    /// Adds what another thread has judged.
-    pub fn add(&mut self, other: &Counts) {
+impl Tally for Counts {
+    fn add(&mut self, other: &Counts) {
         self.examples += other.examples;
         self.short += other.short;
         self.rewritten += other.rewritten;
         self.reread += other.reread;
         (0..7).for_each(|reply| self.readings[reply] += other.readings[reply]);
         (0..7).for_each(|reply| self.writings[reply] += other.writings[reply]);
-        other.kinds.iter().for_each(|(kind, count)| *self.kinds.entry(kind.clone()).or_default() += count);
+        add_kinds(&mut self.kinds, &other.kinds);
     }
 }
 

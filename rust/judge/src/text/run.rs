@@ -11,10 +11,10 @@ use super::paper::Paper;
 use super::rounds;
 use super::short;
 use super::tables;
+use crate::halves::{self, Tally};
 use crate::library::Texts;
 use crate::meaning::{size, MOST_QUANTITIES};
 use crate::random::Random;
-use std::thread;
 
 /// From so many texts on a run has to meet every kind of reply.
 const ENOUGH: u64 = 2_000;
@@ -35,21 +35,9 @@ pub fn all(library: &dyn Texts, seed: u64, count: u64) -> Result<Counts, String>
     Ok(counts)
 }
 
-/// Random texts and tables, on two threads at once: every reply is due in full, so that anything that calls share would
-/// show.
+/// Random texts and tables, of which every reply is due in full.
 pub fn random(library: &dyn Texts, seed: u64, count: u64) -> Result<Counts, String> {
-    let every_second = |first: u64| {
-        let mut counts = Counts::default();
-        (first..count).step_by(2).try_for_each(|number| numbered(library, seed, number, &mut counts)).map(|()| counts)
-    };
-    thread::scope(|scope| {
-        let beside = scope.spawn(|| every_second(1));
-        let here = every_second(0);
-        let beside = beside.join().expect("a call panics on the second thread");
-        let mut counts = here?;
-        counts.add(&beside?);
-        Ok(counts)
-    })
+    halves::both(count, |number, counts| numbered(library, seed, number, counts))
 }
 
 /// The text and the table with this number.

@@ -39,6 +39,7 @@ interrupted() {
     fi
     fail 'interrupted: what was being made is not used. Run the command again; what is proved by now stays proved.'
 }
+
 # Takes the lock, for two that run `rt` at once damage each other's proofs. It is on the repository's folder: that is there
 # in every clone, can be opened by whoever may read it, and no crash leaves it locked. A command that runs under the lock of
 # another takes none.

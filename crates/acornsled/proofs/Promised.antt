@@ -7,16 +7,17 @@ use native.Mathlib.Omega.{arith}
 use lib.IntN.{ℤ}
 use lib.ListN.{length}
 use Rattle.tables.specs.declared.reply.Reply.{Reply}
-use Rattle.tables.specs.Tables.{replyNumber, replyValue}
 use Rattle.keys.specs.Promises.{Keyed, Assigned}
 use Rattle.rules.specs.declared.refusal.Refusal.{Refusal}
 use Rattle.rules.specs.Limits.{maxQuantities}
-use Rattle.rules.specs.Refusal.{refusalNumber, refusalValues, refusalValue}
+use Rattle.rules.specs.Refusal.{refusalNumber, refusalValues, refusalValue, integersOf}
 use Rattle.rules.proofs.Refusals.{same-refusal-value, refusal-below}
+use Rattle.rules.specs.RuleWords.{ruleValues, ruleIn}
 use Rattle.tables.proofs.Tests.{clash}
+use Rattle.tables.specs.Replies.{replyNumber, replyValue}
 use Rattle.marking.specs.declared.verdict.Verdict.{Verdict}
 use Rattle.marking.specs.declared.verdict.Verdict.the-variants.{Equal, Loose, Tight}
-use Rattle.marking.specs.Verdicts.{verdictNumber, ruleValues, ruleIn, carriedWords, integersOf}
+use Rattle.marking.specs.Verdicts.{verdictNumber, carriedWords}
 use Rattle.marking.proofs.Carried.{verdict-from, words-rule}
 use Rattle.scripts.specs.declared.reply.Subject.{Subject}
 use Rattle.scripts.specs.declared.reply.Subject.the-variants.{Sheet, Script, Both}

@@ -5,14 +5,16 @@ use mathlib.Core.List.{List}
 use Prim.Native.Nat.{ℕ, _<_, _≤_}
 use lib.IntN.{ℤ}
 use lib.ListN.{length}
+use Rattle.words.specs.Lent.{Lent}
 use Rattle.rules.specs.declared.refusal.Refusal.{Refusal}
 use Rattle.rules.specs.Hidden.{hiddenIn}
 use Rattle.rules.specs.Limits.{maxQuantities}
 use Rattle.rules.specs.Refusal.{refusalNumber, refusalValue}
-use Rattle.tables.specs.Tables.{replyNumber, replyValue}
+use Rattle.rules.specs.RuleWords.{ruleIn}
+use Rattle.tables.specs.Replies.{replyNumber, replyValue}
 use Rattle.keys.specs.Keys.{keyReply, assignmentReply}
-use Rattle.keys.specs.Promises.{Lent, Keyed, Assigned}
-use Rattle.marking.specs.Verdicts.{ruleIn, carriedWords}
+use Rattle.keys.specs.Promises.{Keyed, Assigned}
+use Rattle.marking.specs.Verdicts.{carriedWords}
 use Rattle.marking.specs.Meaning.{ByDemand, LooseRule, TightRule, LooseShown, TightShown}
 use Rattle.reading.specs.declared.read.Reading.{Reading}
 use Rattle.reading.specs.declared.read.Reading.the-variants.{Accepted, Refused}

@@ -21,7 +21,8 @@ use Rattle.tables.specs.Promises.{InLimit}
 use Rattle.tables.proofs.Tests.{passed, not-refused, both-true, refused-done}
 use Rattle.tables.proofs.Limits.{wordsInLimit-within}
 use Rattle.tables.proofs.Sizes.{Served, serves-tells}
-use Rattle.keys.specs.Keys.{andThen, lengthReply, limitReply, lentChecks, inSheetLimit, keyChecks, assignmentChecks}
+use Rattle.tables.specs.Replies.{andThen, lengthReply, limitReply}
+use Rattle.keys.specs.Keys.{lentChecks, inSheetLimit, keyChecks, assignmentChecks}
 use Rattle.keys.specs.Reducing.{Fits}
 use Rattle.keys.proofs.Fitting.{sheet-fits}
 

@@ -14,6 +14,7 @@ use borrow.Author.Tests.{ltb-true, ltb-false}
 use Rattle.integers.proofs.Within.{within-mono}
 use Rattle.places.specs.Numbering.{blockStart}
 use Rattle.rules.specs.Limits.{maxQuantities, maxBound}
+use Rattle.rules.specs.Hidden.{hiddenCount}
 use Rattle.tables.specs.Meaning.{WordsWithin}
 use Rattle.tables.proofs.Limits.{wordsInLimit-within}
 use Rattle.elimination.specs.Hiding.{eliminated}
@@ -21,7 +22,7 @@ use Rattle.elimination.specs.Promises.{Ready}
 use Rattle.elimination.specs.Magnitude.{Unnamed}
 use Rattle.elimination.proofs.Growth.{eliminated-within}
 use Rattle.elimination.proofs.Unnamed.{eliminated-unnamed-within, unnamed-eliminated}
-use Rattle.keys.specs.Keys.{hideUpTo, keyOf, hiddenCount, inSheetLimit}
+use Rattle.keys.specs.Keys.{hideUpTo, keyOf, inSheetLimit}
 use Rattle.keys.specs.Reducing.{Grows, Fits}
 use Rattle.keys.proofs.Several.{Ample, AmpleUpTo, hideUpTo-length}
 

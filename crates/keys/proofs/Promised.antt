@@ -8,6 +8,7 @@ use lib.IntN.{ℤ}
 use lib.ListN.{length, drop}
 use Rattle.words.specs.Change.{change, copying}
 use Rattle.words.proofs.Change.{change-drop}
+use Rattle.words.specs.Lent.{Lent}
 use Rattle.places.specs.Numbering.{blockStart}
 use Rattle.rules.specs.declared.refusal.Refusal.{Refusal}
 use Rattle.rules.specs.declared.refusal.Refusal.the-variants.{NoAssignment}
@@ -16,13 +17,14 @@ use Rattle.rules.proofs.Refusals.{refusal-number}
 use Rattle.rules.specs.Hidden.{hiddenIn}
 use Rattle.tables.specs.declared.reply.Reply.{Reply}
 use Rattle.tables.specs.declared.reply.Reply.the-variants.{Done, Refused}
-use Rattle.tables.specs.Tables.{cleared, replyNumber}
+use Rattle.tables.specs.Tables.{cleared}
 use Rattle.tables.proofs.Tests.{refused-done, clash}
 use Rattle.tables.specs.Meaning.{assignmentOf}
+use Rattle.tables.specs.Replies.{replyNumber}
 use Rattle.elimination.specs.Hiding.{paired, eliminated}
 use Rattle.keys.specs.Keys.{every, hideUpTo, keyOf, refuted, orNoAssignment, keyChecks, keyReply, assignmentChecks, assignmentReply}
 use Rattle.keys.specs.Reducing.{pairUpTo, fillDown, Fits, Layered}
-use Rattle.keys.specs.Promises.{Lent, Keyed, Assigned, Decided}
+use Rattle.keys.specs.Promises.{Keyed, Assigned, Decided}
 use Rattle.keys.proofs.Several.{key-exact, key-visible, refuted-false}
 use Rattle.keys.proofs.Fitting.{hide-ample, key-within}
 use Rattle.keys.proofs.Copying.{SameTable, copied, same-back, same-satisfies, same-fits}

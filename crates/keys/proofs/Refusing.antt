@@ -17,12 +17,13 @@ use Rattle.rules.specs.Limits.{maxBound}
 use Rattle.rules.proofs.Refusals.{same-refusal, refusal-number}
 use Rattle.tables.specs.declared.reply.Reply.{Reply}
 use Rattle.tables.specs.declared.reply.Reply.the-variants.{Done, Refused}
-use Rattle.tables.specs.Tables.{serves, replyNumber, replyValues, Replies}
+use Rattle.tables.specs.Tables.{serves}
 use Rattle.tables.specs.Meaning.{TableSized, Unsatisfiable}
 use Rattle.tables.proofs.Tests.{both-true, refused-done, fails, not-so}
 use Rattle.tables.proofs.Sizes.{serves-sized}
 use Rattle.tables.proofs.Limits.{wordsInLimit-within}
-use Rattle.keys.specs.Keys.{refuted, andThen, lengthReply, limitReply, orNoAssignment, lentChecks, inSheetLimit, keyChecks, keyReply, assignmentChecks, assignmentReply}
+use Rattle.tables.specs.Replies.{replyNumber, replyValues, Replies, andThen, lengthReply, limitReply}
+use Rattle.keys.specs.Keys.{refuted, orNoAssignment, lentChecks, inSheetLimit, keyChecks, keyReply, assignmentChecks, assignmentReply}
 use Rattle.keys.specs.Meaning.{BoundsWithin, NumbersWithin, KeyRefused, AssignmentRefused}
 use Rattle.keys.proofs.Fitting.{sheet-fits}
 use Rattle.keys.proofs.Deciding.{refuted-exactly}

@@ -3,16 +3,17 @@
 use mathlib.Core.Bool.{Bool, true, false, cond, _&&_, _||_}
 use mathlib.Core.List.{List}
 use Prim.Native.Nat.{ℕ, zero, suc}
-use lib.Dec.{ltb, eqb}
+use lib.Dec.{eqb}
 use lib.IntN.{ℤ, pos}
 use lib.ListN.{length}
 use Rattle.places.specs.Numbering.{blockStart}
-use Rattle.rules.specs.declared.refusal.Refusal.the-variants.{Size, OutOfLimit, NoAssignment, TooShort}
+use Rattle.rules.specs.declared.refusal.Refusal.the-variants.{Size, NoAssignment}
 use Rattle.rules.specs.Limits.{maxBound}
 use Rattle.rules.specs.Hidden.{setWithin}
 use Rattle.tables.specs.declared.reply.Reply.{Reply}
 use Rattle.tables.specs.declared.reply.Reply.the-variants.{Done, Refused}
-use Rattle.tables.specs.Tables.{serves, wordsInLimit, replyNumber}
+use Rattle.tables.specs.Tables.{serves, wordsInLimit}
+use Rattle.tables.specs.Replies.{replyNumber, andThen, lengthReply, limitReply}
 use Rattle.elimination.specs.Hiding.{contradicts, eliminated}
 
 -- of the first m quantities those that are hidden, hidden in increasing number, in a table over n quantities
@@ -23,11 +24,6 @@ hideUpTo hidden n (suc j) t = cond (hidden (suc j)) (eliminated n j (hideUpTo hi
 -- the key: the table with every hidden quantity hidden
 unfoldable pub keyOf : (ℕ → Bool) → ℕ → List ℤ → List ℤ
 keyOf hidden n t = hideUpTo hidden n n t
-
--- how many of the first m quantities are hidden
-unfoldable pub hiddenCount : (ℕ → Bool) → ℕ → ℕ
-hiddenCount hidden zero = 0
-hiddenCount hidden (suc j) = cond (hidden (suc j)) (suc (hiddenCount hidden j)) (hiddenCount hidden j)
 
 -- all quantities, hidden and visible
 abbrev pub every : ℕ → Bool
@@ -47,19 +43,6 @@ refuted n t = refutedUpTo n n t
 -- are all words of a table in the sheet's limit?
 abbrev pub inSheetLimit : ℕ → List ℤ → Bool
 inSheetLimit n t = wordsInLimit (blockStart n) (pos maxBound) t
-
--- checks one after the other: the first refusal stands
-unfoldable pub andThen : Reply → Reply → Reply
-andThen Done next = next
-andThen (Refused r) next = Refused r
-
--- the reply to a lent slice of so many words: done where they are enough, else 6 with the length needed
-unfoldable pub lengthReply : ℕ → ℕ → Reply
-lengthReply words needed = cond (ltb words needed) (Refused (TooShort needed)) Done
-
--- the reply to a number: done where it is in its limit, else 3
-unfoldable pub limitReply : Bool → Reply
-limitReply b = cond b Done (Refused (OutOfLimit 0))
 
 -- the reply to n, a table and a workspace of so many words: 1 for n and the table, 6 for the workspace
 unfoldable pub lentChecks : ℕ → ℕ → ℕ → Reply

@@ -8,26 +8,21 @@ use lib.IntN.{ℤ, pos}
 use lib.ListN.{length, drop}
 use Rattle.integers.specs.Bound.{Within}
 use Rattle.words.specs.Change.{wordAt, change, copying}
+use Rattle.words.specs.Lent.{Lent}
 use Rattle.places.specs.Numbering.{blockStart}
 use Rattle.rules.specs.declared.refusal.Refusal.{Refusal}
 use Rattle.rules.specs.Refusal.{refusalNumber, refusalValues}
 use Rattle.rules.specs.Limits.{maxBound}
-use Rattle.rules.specs.Hidden.{hiddenIn}
+use Rattle.rules.specs.Hidden.{hiddenIn, hiddenCount}
 use Rattle.rules.specs.Meaning.{Assignment}
 use Rattle.tables.specs.declared.reply.Reply.{Reply}
 use Rattle.tables.specs.declared.reply.Reply.the-variants.{Done}
-use Rattle.tables.specs.Tables.{isDone, replyNumber, Replies}
 use Rattle.tables.specs.Meaning.{Satisfies, Satisfiable, Unsatisfiable, SheetAllows, NamesVisible, assignmentOf, WordsWithin}
+use Rattle.tables.specs.Replies.{isDone, replyNumber, Replies}
 use Rattle.elimination.specs.Magnitude.{valueLimit}
-use Rattle.keys.specs.Keys.{keyOf, hiddenCount, refuted, keyChecks, keyReply, assignmentChecks, assignmentReply, freesWorkspace}
+use Rattle.keys.specs.Keys.{keyOf, refuted, keyChecks, keyReply, assignmentChecks, assignmentReply, freesWorkspace}
 use Rattle.keys.specs.Meaning.{KeyRefused, AssignmentRefused, HiddenInTurn}
 use Rattle.keys.specs.Reducing.{pairUpTo, clashUpTo}
-
--- a lent slice of which the first m words are the program's choice where `free`, and stay where not; words past them always stay
-pub record Lent (m : ℕ) (free : Bool) (before after : List ℤ) : Type 0 where
-  pub size : length after ≡ length before
-  pub rest : drop m after ≡ drop m before
-  pub kept : free ≡ false → after ≡ before
 
 -- the key call on n quantities and a hidden set, by document 01's numbers and values: refused exactly for these reasons. Demand 2: the key allows integers for
 -- the visible quantities exactly when some integers for the hidden ones satisfy the whole sheet with them; past the earlier checks the reply is 5 exactly

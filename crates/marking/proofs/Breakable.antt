@@ -13,7 +13,7 @@ use Rattle.integers.specs.Bound.{oppositeBound}
 use Rattle.words.specs.Change.{wordAt}
 use Rattle.places.specs.Numbering.{blockStart}
 use Rattle.rules.specs.declared.rule.Rule.{Rule}
-use Rattle.rules.specs.Meaning.{Assignment, Meets, boundOf}
+use Rattle.rules.specs.Meaning.{Assignment, Meets, boundOf, hasTerm}
 use Rattle.rules.specs.Steps.{trivialRule, oppositeOf}
 use Rattle.rules.proofs.Meanings.{opposite-bound, opposite-meaning}
 use Rattle.tables.specs.Places.{ruleAt}
@@ -26,7 +26,6 @@ use Rattle.keys.specs.Keys.{every, refuted}
 use Rattle.keys.specs.Reducing.{Fits}
 use Rattle.keys.proofs.Several.{refuted-true, refuted-false}
 use Rattle.keys.proofs.Fitting.{hide-ample}
-use Rattle.marking.specs.Verdicts.{hasTerm}
 use Rattle.marking.specs.Meaning.{FirstAt, FirstBroken, NoneBroken}
 use Rattle.marking.specs.Marking.{breakable, firstRule, firstBroken}
 use Rattle.marking.proofs.Carried.{ruleAt-term}

@@ -14,17 +14,18 @@ use Rattle.places.specs.Numbering.{isOne, higherAt, lowerAt}
 use Rattle.rules.specs.declared.rule.Rule.{Rule}
 use Rattle.rules.specs.declared.rule.Rule.the-variants.{One, Two, Nothing}
 use Rattle.rules.specs.declared.refusal.Refusal.{Refusal}
-use Rattle.rules.specs.Literal.{literalOf}
-use Rattle.rules.specs.Meaning.{Assignment}
-use Rattle.rules.specs.Refusal.{refusalNumber, refusalValues}
+use Rattle.rules.specs.Literal.{literalOf, signedOf}
+use Rattle.rules.specs.Meaning.{Assignment, hasTerm}
+use Rattle.rules.specs.Refusal.{refusalNumber, refusalValues, integersOf}
 use Rattle.rules.specs.Steps.{trivialRule, isNone, ruleOf}
 use Rattle.rules.proofs.Refusals.{same-refusal, refusal-below}
+use Rattle.rules.specs.RuleWords.{ruleValues, ruleWords, ruleIn}
 use Rattle.tables.specs.Places.{ruleAt}
-use Rattle.tables.specs.Meaning.{Paper}
+use Rattle.tables.specs.Meaning.{Solutions}
 use Rattle.tables.proofs.Tests.{clash}
 use Rattle.marking.specs.declared.verdict.Verdict.{Verdict}
 use Rattle.marking.specs.declared.verdict.Verdict.the-variants.{Equal, Loose, Tight}
-use Rattle.marking.specs.Verdicts.{verdictNumber, verdictValues, signedOf, ruleValues, ruleWords, ruleIn, hasTerm, integersOf}
+use Rattle.marking.specs.Verdicts.{verdictNumber, verdictValues}
 use Rattle.marking.specs.Meaning.{FirstBroken, LooseRule, BreaksCarried, LooseShown, TightShown}
 
 -- ---- a refusal
@@ -148,7 +149,7 @@ bare-broken σ (Nothing c) e = tt
 
 module _ (r s : Rule) (e : ruleValues r ≡ ruleValues s) where
   -- the first broken rule is returned by its values alone
-  pub first-alike : (n : ℕ) (rules : List ℤ) (paper : Paper) → FirstBroken n rules paper r → FirstBroken n rules paper s
+  pub first-alike : (n : ℕ) (rules : List ℤ) (paper : Solutions) → FirstBroken n rules paper r → FirstBroken n rules paper s
   first-alike n rules paper f = go (same-rule r s e)
     where
       go : (r ≡ s) ⊎ ((hasTerm r ≡ false) × (hasTerm s ≡ false)) → FirstBroken n rules paper s
@@ -156,7 +157,7 @@ module _ (r s : Rule) (e : ruleValues r ≡ ruleValues s) where
       go (inr h) = clash (ap hasTerm (f .is) ∙ ruleAt-term (f .place) (wordAt rules (f .place))) (h .0)
 
   -- so is the rule of a loose verdict
-  pub loose-alike : (hidden : ℕ → Bool) (n : ℕ) (sheet : List ℤ) (script : Paper) → LooseRule hidden n sheet script r → LooseRule hidden n sheet script s
+  pub loose-alike : (hidden : ℕ → Bool) (n : ℕ) (sheet : List ℤ) (script : Solutions) → LooseRule hidden n sheet script r → LooseRule hidden n sheet script s
   loose-alike hidden n sheet script (inl h) = inl (h .0, sym (same-term r s e) ∙ h .1)
   loose-alike hidden n sheet script (inr h) = inr (h .0, first-alike n _ script (h .1))
 
@@ -169,7 +170,7 @@ module _ (r s : Rule) (e : ruleValues r ≡ ruleValues s) where
       go (inr h) = bare-broken σ s (h .1)
 
   -- so the same assignment shows a loose verdict
-  pub loose-shown-alike : (n : ℕ) (hidden : ℕ → Bool) (sheet script : Paper) (values : List ℤ) → LooseShown n hidden sheet script r values
+  pub loose-shown-alike : (n : ℕ) (hidden : ℕ → Bool) (sheet script : Solutions) (values : List ℤ) → LooseShown n hidden sheet script r values
       → LooseShown n hidden sheet script s values
   loose-shown-alike n hidden sheet script values l = record {
     allowed = l .allowed;
@@ -181,7 +182,7 @@ module _ (r s : Rule) (e : ruleValues r ≡ ruleValues s) where
   }
 
   -- and a tight one
-  pub tight-shown-alike : (n : ℕ) (hidden : ℕ → Bool) (sheet script : Paper) (values : List ℤ) → TightShown n hidden sheet script r values
+  pub tight-shown-alike : (n : ℕ) (hidden : ℕ → Bool) (sheet script : Solutions) (values : List ℤ) → TightShown n hidden sheet script r values
       → TightShown n hidden sheet script s values
   tight-shown-alike n hidden sheet script values t = record {
     complete = t .complete;

@@ -22,7 +22,8 @@ use Rattle.tables.specs.Promises.{InLimit}
 use Rattle.tables.proofs.Tests.{clash, both-true}
 use Rattle.tables.proofs.Sizes.{small-start, serves-tells, long-serves}
 use Rattle.tables.proofs.Limits.{wordsInLimit-within}
-use Rattle.keys.specs.Keys.{andThen, lengthReply, limitReply, inSheetLimit}
+use Rattle.tables.specs.Replies.{andThen, lengthReply, limitReply}
+use Rattle.keys.specs.Keys.{inSheetLimit}
 use Rattle.marking.specs.Meaning.{workspaceSize, Sized, InLimits, TablesAccepted, TablesRefused}
 use Rattle.marking.specs.Marking.{anyNamesHidden, tableNamesHidden, visibleReply, markChecks}
 use Rattle.marking.proofs.Naming.{names-visible}

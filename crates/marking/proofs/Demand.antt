@@ -16,10 +16,10 @@ use Rattle.places.specs.Numbering.{blockStart}
 use Rattle.rules.specs.declared.rule.Rule.{Rule}
 use Rattle.rules.specs.declared.rule.Rule.the-variants.{One, Two, Nothing}
 use Rattle.rules.specs.Hidden.{hiddenIn}
-use Rattle.rules.specs.Meaning.{Assignment, Meets, termValue, boundOf}
+use Rattle.rules.specs.Meaning.{Assignment, Meets, termValue, boundOf, hasTerm}
 use Rattle.rules.specs.Steps.{trivialRule}
 use Rattle.tables.specs.Tables.{hasRule}
-use Rattle.tables.specs.Meaning.{HoldsRule, ruleIn, Satisfies, Satisfiable, Unsatisfiable, Paper, joined, SheetAllows, NamesVisible}
+use Rattle.tables.specs.Meaning.{HoldsRule, ruleIn, Satisfies, Satisfiable, Unsatisfiable, Solutions, joined, SheetAllows, NamesVisible}
 use Rattle.tables.proofs.Tests.{clash}
 use Rattle.tables.proofs.Meanings.{script-visible}
 use Rattle.keys.specs.Keys.{keyOf, every, refuted}
@@ -29,7 +29,7 @@ use Rattle.keys.proofs.Fitting.{hide-ample}
 use Rattle.keys.proofs.Deciding.{refuted-exactly}
 use Rattle.marking.specs.declared.verdict.Verdict.{Verdict}
 use Rattle.marking.specs.declared.verdict.Verdict.the-variants.{Equal, Loose, Tight}
-use Rattle.marking.specs.Verdicts.{verdictNumber, hasTerm}
+use Rattle.marking.specs.Verdicts.{verdictNumber}
 use Rattle.marking.specs.Meaning.{AllowSame, IsLoose, IsNarrow, IsTight, ByDemand, FirstBroken, NoneBroken, LooseRule, TightRule, TablesAccepted}
 use Rattle.marking.specs.Marking.{firstBroken, orElse, verdictOf}
 use Rattle.marking.proofs.Breakable.{Exactly, breakable-exactly, first-some, first-none}
@@ -38,7 +38,7 @@ use Rattle.marking.proofs.Opposed.{sheet-fitting, script-fitting, tight
 -- ---- the three conditions exclude each other, so the one that holds gives the number
 
 -- equal papers are neither loose nor narrow
-same-demand : (hidden : ℕ → Bool) (sheet script : Paper) → AllowSame hidden sheet script → ByDemand hidden sheet script 100
+same-demand : (hidden : ℕ → Bool) (sheet script : Solutions) → AllowSame hidden sheet script → ByDemand hidden sheet script 100
 same-demand hidden sheet script s = record {
   equal = (λ e. s, λ a. refl);
   loose = (λ e. absurd (omega arith), λ l. absurd (l .incomplete (s (l .visibles) .0 (l .allowed))));
@@ -46,7 +46,7 @@ same-demand hidden sheet script s = record {
 }
 
 -- a loose script is not equal, and tight asks for one that is not loose
-loose-demand : (hidden : ℕ → Bool) (sheet script : Paper) → IsLoose hidden sheet script → ByDemand hidden sheet script 101
+loose-demand : (hidden : ℕ → Bool) (sheet script : Solutions) → IsLoose hidden sheet script → ByDemand hidden sheet script 101
 loose-demand hidden sheet script l = record {
   equal = (λ e. absurd (omega arith), λ s. absurd (l .incomplete (s (l .visibles) .0 (l .allowed))));
   loose = (λ e. l, λ a. refl);
@@ -54,7 +54,7 @@ loose-demand hidden sheet script l = record {
 }
 
 -- a tight script is not loose, and too narrow to be equal
-tight-demand : (hidden : ℕ → Bool) (sheet script : Paper) → IsTight hidden sheet script → ByDemand hidden sheet script 102
+tight-demand : (hidden : ℕ → Bool) (sheet script : Solutions) → IsTight hidden sheet script → ByDemand hidden sheet script 102
 tight-demand hidden sheet script t = record {
   equal = (λ e. absurd (omega arith), λ s. absurd (t .1 .forbidden (s (t .1 .visibles) .1 (t .1 .completed))));
   loose = (λ e. absurd (omega arith), λ l. absurd (t .0 l));
@@ -108,7 +108,7 @@ unsatisfied-place n t σ l = go (met-below n t σ (blockStart n) (omega arith) l
     go (inr u) = inr u
 
 -- where none of a table's rules is broken by a paper, what satisfies the paper satisfies the table
-unbroken-satisfied : (n : ℕ) (rules : List ℤ) (paper : Paper) (σ : Assignment) → blockStart n ≤ length rules → NoneBroken n rules paper → paper σ
+unbroken-satisfied : (n : ℕ) (rules : List ℤ) (paper : Solutions) (σ : Assignment) → blockStart n ≤ length rules → NoneBroken n rules paper → paper σ
     → Satisfies n rules σ
 unbroken-satisfied n rules paper σ l none s = go (unsatisfied-place n rules σ l)
   where
@@ -149,7 +149,7 @@ key-allows n set sheet script w v m s =
     key-exact (hiddenIn set) n sheet (s .assignment) (hide-ample (hiddenIn set) n sheet (sheet-fitting n set sheet script w v m)) (s .satisfies)
 
 -- a key rule that some assignment of the script breaks: the script is loose
-broken-loose : (hidden : ℕ → Bool) (n : ℕ) (sheet : List ℤ) (script : Paper) (r : Rule) → KeyExact hidden n sheet
+broken-loose : (hidden : ℕ → Bool) (n : ℕ) (sheet : List ℤ) (script : Solutions) (r : Rule) → KeyExact hidden n sheet
     → FirstBroken n (keyOf hidden n sheet) script r → IsLoose hidden (Satisfies n sheet) script
 broken-loose hidden n sheet script r exact f = record {
   visibles = f .at .breaks .assignment;
@@ -158,7 +158,7 @@ broken-loose hidden n sheet script r exact f = record {
 }
 
 -- none: the script is not
-unbroken-not-loose : (hidden : ℕ → Bool) (n : ℕ) (sheet : List ℤ) (script : Paper) → blockStart n ≤ length (keyOf hidden n sheet) → KeyExact hidden n sheet
+unbroken-not-loose : (hidden : ℕ → Bool) (n : ℕ) (sheet : List ℤ) (script : Solutions) → blockStart n ≤ length (keyOf hidden n sheet) → KeyExact hidden n sheet
     → NoneBroken n (keyOf hidden n sheet) script → IsLoose hidden (Satisfies n sheet) script → ⊥
 unbroken-not-loose hidden n sheet script l exact none a =
     a .incomplete (exact (a .visibles) .0 (unbroken-satisfied n (keyOf hidden n sheet) script (a .visibles) l none (a .allowed)))

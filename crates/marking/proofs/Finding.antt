@@ -20,6 +20,7 @@ use Rattle.places.specs.Numbering.{blockStart}
 use Rattle.rules.specs.declared.rule.Rule.{Rule}
 use Rattle.rules.specs.Limits.{maxQuantities}
 use Rattle.rules.specs.Steps.{trivialRule}
+use Rattle.rules.specs.Meaning.{hasTerm}
 use Rattle.tables.specs.Places.{ruleAt}
 use Rattle.tables.specs.Tables.{hasRule, tableSize}
 use Rattle.tables.specs.Meaning.{HoldsRule, ruleIn, Satisfies, Breaks}
@@ -28,7 +29,6 @@ use Rattle.tables.proofs.Sizes.{size-known}
 use Rattle.keys.specs.Reducing.{Fits}
 use Rattle.keys.proofs.Copying.{SameTable, copied, same-back, same-satisfies}
 use Rattle.tightening.specs.Promises.{Tightened}
-use Rattle.marking.specs.Verdicts.{hasTerm}
 use Rattle.marking.specs.Meaning.{FirstAt, workspaceSize}
 use Rattle.marking.specs.Marking.{firstBelowFrom, firstBelow, firstBroken}
 use Rattle.marking.specs.Promises.{LeastBounds, Found, BrokenFound, RuleBreakable, RuleBroken, FrontBreakable, FrontBroken}

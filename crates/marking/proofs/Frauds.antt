@@ -17,11 +17,11 @@ use Rattle.rules.specs.declared.rule.Rule.{Rule}
 use Rattle.rules.specs.declared.rule.Rule.the-variants.{One, Two, Nothing}
 use Rattle.rules.specs.Hidden.{hiddenIn}
 use Rattle.rules.specs.Literal.{negated}
-use Rattle.rules.specs.Meaning.{Assignment, literalValue}
+use Rattle.rules.specs.Meaning.{Assignment, literalValue, hasTerm}
 use Rattle.rules.specs.Steps.{trivialRule, ruleOf, halvedOf, oppositeOf}
 use Rattle.tables.specs.Places.{placeOf, HasPlace}
 use Rattle.tables.specs.Tables.{AllAccepted, emptyTable, tableOf, putRule, ruleReply}
-use Rattle.tables.specs.Meaning.{HoldsRule, ruleIn, Satisfies, Unsatisfiable, MeetsAll, Paper, joined, SheetAllows, Breaks}
+use Rattle.tables.specs.Meaning.{HoldsRule, ruleIn, Satisfies, Unsatisfiable, MeetsAll, Solutions, joined, SheetAllows, Breaks}
 use Rattle.tables.proofs.Tests.{clash}
 use Rattle.tables.proofs.Lists.{empty-satisfied, tableOf-meaning}
 use Rattle.tables.proofs.Places.{ruleAt-place, ruleAt-hasPlace}
@@ -31,7 +31,7 @@ use Rattle.keys.proofs.Sheets.{sheetTable, seenLate, steps}
 use Rattle.keys.proofs.FraudMeanings.{seenLate-unsatisfiable}
 use Rattle.marking.specs.declared.verdict.Verdict.{Verdict}
 use Rattle.marking.specs.declared.verdict.Verdict.the-variants.{Equal, Loose, Tight}
-use Rattle.marking.specs.Verdicts.{verdictNumber, hasTerm}
+use Rattle.marking.specs.Verdicts.{verdictNumber}
 use Rattle.marking.specs.Meaning.{IsLoose, ByDemand, FirstBroken, LooseRule, TightRule, TightShown}
 use Rattle.marking.specs.Marking.{breakable, firstRule, firstBroken, orElse}
 
@@ -53,7 +53,7 @@ marks = tt
 -- ---- what they mean
 
 -- a script's table as a paper
-abbrev pub script : List Rule → Paper
+abbrev pub script : List Rule → Solutions
 script rs = Satisfies 3 (tableOf 3 rs)
 
 -- the rules are accepted, so what satisfies their tables meets each rule as written
@@ -212,7 +212,7 @@ satisfied : Unsatisfiable 3 (tableOf 3 rules) → ⊥
 satisfied u = u three-one-zero completes
 
 -- no place before that of the first broken rule holds a broken one
-first-of-all : (n : ℕ) (rs : List ℤ) (paper : Paper) (r : Rule) (k : ℕ) → FirstBroken n rs paper r → k < placeOf r → HoldsRule n rs k
+first-of-all : (n : ℕ) (rs : List ℤ) (paper : Solutions) (r : Rule) (k : ℕ) → FirstBroken n rs paper r → k < placeOf r → HoldsRule n rs k
     → Breaks paper (ruleIn rs k) → ⊥
 first-of-all n rs paper r k f h p b =
     let e : placeOf r ≡ f .place = ap placeOf (f .is) ∙ ruleAt-place (f .place) (wordAt rs (f .place)) in
@@ -258,7 +258,7 @@ unfolding marks placeOf
 later-tight-rule f = first-of-all 3 (tableOf 3 twice) sheet (ruleOf (pos 1) (pos 3) (pos 4)) 0 f (omega arith) twice-holds twice-broken
 
 -- a marker that gives no rule to a loose script, though the sheet allows something
-pub no-rule-given : (s : Paper) → LooseRule hidden 3 (tableOf 3 rules) s trivialRule → ⊥
+pub no-rule-given : (s : Solutions) → LooseRule hidden 3 (tableOf 3 rules) s trivialRule → ⊥
 no-rule-given s (inl u) = satisfied (u .0)
 no-rule-given s (inr p) =
     let f = p .1 in
@@ -266,13 +266,13 @@ no-rule-given s (inr p) =
     let z : HasPlace 3 trivialRule = rw (← f .is) at h in z
 
 -- one that gives a rule though the sheet allows nothing: hidden 1, +1+2:1, -1-2:-1, +1-2:0, -1+2:0
-pub rule-of-nothing : (s : Paper) (r : Rule) → hasTerm r ≡ true → LooseRule (hiddenIn 1) 2 (sheetTable seenLate) s r → ⊥
+pub rule-of-nothing : (s : Solutions) (r : Rule) → hasTerm r ≡ true → LooseRule (hiddenIn 1) 2 (sheetTable seenLate) s r → ⊥
 rule-of-nothing s r h (inl u) = clash h (u .1)
 rule-of-nothing s r h (inr p) = seenLate-unsatisfiable (p .0 .assignment) (p .0 .satisfies)
 
 -- ---- the assignment
 
 -- a marker that reports tight without completing the hidden values: 3, 0 and 0 break +1-2:2 of the sheet
-pub not-completed : (s : Paper) (r : Rule) → TightShown 3 hidden sheet s r (pos 3 ∷ pos 0 ∷ pos 0 ∷ []) → ⊥
+pub not-completed : (s : Solutions) (r : Rule) → TightShown 3 hidden sheet s r (pos 3 ∷ pos 0 ∷ pos 0 ∷ []) → ⊥
 unfolding rules ruleOf literalValue
 not-completed s r t = tableOf-meaning 3 rules _ rules-accepted .0 (t .complete) .1 .0 .met .le

@@ -9,10 +9,11 @@ use lib.ListN.{length, take, drop}
 use lib.Seq.{drop-drop, length-take-le, getD-take, ext-getD}
 use Rattle.words.specs.Change.{wordAt, change, copying}
 use Rattle.words.proofs.Change.{change-length, change-drop}
+use Rattle.words.specs.Lent.{Lent}
 use Rattle.places.specs.Numbering.{blockStart}
 use Rattle.tables.proofs.Tests.{clash}
 use Rattle.keys.specs.Keys.{hideUpTo, keyOf}
-use Rattle.keys.specs.Promises.{Lent, Decided}
+use Rattle.keys.specs.Promises.{Decided}
 use Rattle.keys.proofs.Copying.{SameTable, copied}
 use Rattle.keys.proofs.Promised.{rest-key}
 use Rattle.keys.proofs.Several.{hideUpTo-length}

@@ -17,7 +17,7 @@ use Rattle.words.proofs.Change.{change-length, change-below}
 use Rattle.places.specs.Numbering.{blockStart, placeOfOne, placeOfPair, isOne, higherAt, lowerAt}
 use Rattle.places.proofs.Numbering.{one-below, pair-below, at-lower, at-below}
 use Rattle.rules.specs.declared.rule.Rule.{Rule}
-use Rattle.rules.specs.Hidden.{hiddenIn}
+use Rattle.rules.specs.Hidden.{hiddenIn, hiddenCount}
 use Rattle.rules.specs.Limits.{maxQuantities, maxBound}
 use Rattle.rules.specs.Meaning.{names}
 use Rattle.rules.specs.Steps.{oppositeOf}
@@ -33,7 +33,7 @@ use Rattle.elimination.specs.Hiding.{pairWord, loneWord, onOne, onTwo, pairing,
 use Rattle.elimination.specs.Magnitude.{Unnamed}
 use Rattle.elimination.proofs.TermWords.{quantity-cases, pair-same, pair-first, pair-second}
 use Rattle.elimination.proofs.Step.{paired-length, within-rule}
-use Rattle.keys.specs.Keys.{hideUpTo, keyOf, hiddenCount}
+use Rattle.keys.specs.Keys.{hideUpTo, keyOf}
 use Rattle.keys.specs.Reducing.{Fits}
 use Rattle.keys.proofs.Copying.{SameTable}
 use Rattle.keys.proofs.Several.{key-visible}

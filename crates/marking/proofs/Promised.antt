@@ -10,15 +10,18 @@ use lib.ListN.{length}
 use types.Run.{OneOf}
 use denote.Enum.Declared.{tagOf}
 use Rattle.words.specs.Change.{wordAt, change, copying}
+use Rattle.words.specs.Lent.{Lent}
 use Rattle.places.specs.Numbering.{blockStart}
 use Rattle.rules.specs.declared.refusal.Refusal.{Refusal}
 use Rattle.rules.specs.declared.rule.Rule.{Rule}
 use Rattle.rules.specs.declared.rule.Rule.the-variants.{One, Two, Nothing}
 use Rattle.rules.specs.Hidden.{hiddenIn}
 use Rattle.rules.specs.Limits.{maxQuantities, maxBound}
-use Rattle.rules.specs.Refusal.{refusalNumber, refusalValues}
+use Rattle.rules.specs.Refusal.{refusalNumber, refusalValues, integersOf}
 use Rattle.rules.specs.Steps.{trivialRule}
 use Rattle.rules.proofs.rule.Rule.{the-type}
+use Rattle.rules.specs.Meaning.{hasTerm}
+use Rattle.rules.specs.RuleWords.{ruleValues}
 use Rattle.tables.specs.declared.reply.Reply.{Reply}
 use Rattle.tables.specs.declared.reply.Reply.the-variants.{Done}
 use Rattle.tables.specs.declared.reply.Reply.the-variants.{Refused as NotDone}
@@ -30,7 +33,7 @@ use Rattle.tables.proofs.Meanings.{table-allows-visible, script-visible}
 use Rattle.tables.proofs.Tests.{refused-done, clash}
 use Rattle.keys.specs.Keys.{keyOf, refuted, assignmentChecks}
 use Rattle.keys.specs.Reducing.{pairUpTo, fillDown}
-use Rattle.keys.specs.Promises.{Lent, Decided}
+use Rattle.keys.specs.Promises.{Decided}
 use Rattle.keys.proofs.Copying.{copied, holds-same, same-unnamed}
 use Rattle.keys.proofs.Deciding.{refuted-exactly}
 use Rattle.keys.proofs.Checking.{lent-done, values-passed}
@@ -38,7 +41,6 @@ use Rattle.keys.proofs.Promised.{untouched, assignment-done}
 use Rattle.marking.specs.declared.verdict.Verdict.{Verdict}
 use Rattle.marking.specs.declared.verdict.Verdict.the-variants.{Equal, Loose, Tight}
 use Rattle.marking.specs.declared.verdict.Marking.the-variants.{Marked, Refused}
-use Rattle.marking.specs.Verdicts.{ruleValues, hasTerm, integersOf}
 use Rattle.marking.specs.Marking.{firstBroken, orElse, verdictOf, markChecks, markReply}
 use Rattle.marking.specs.Meaning.{LooseShown, TightShown, workspaceSize, TablesAccepted, TablesRefused}
 use Rattle.marking.specs.Promises.{VerdictGiven, TablesMarked, FrontBreakable, FrontBroken}

@@ -20,7 +20,8 @@ use Rattle.tables.specs.declared.reply.Reply.the-variants.{Done}
 use Rattle.tables.specs.declared.reply.Reply.the-variants.{Refused as NotDone}
 use Rattle.tables.specs.Places.{ruleAt}
 use Rattle.tables.specs.Tables.{hasRule, serves, putRule}
-use Rattle.keys.specs.Keys.{keyOf, refuted, inSheetLimit, andThen, lengthReply, limitReply}
+use Rattle.tables.specs.Replies.{andThen, lengthReply, limitReply}
+use Rattle.keys.specs.Keys.{keyOf, refuted, inSheetLimit}
 use Rattle.marking.specs.declared.verdict.Verdict.{Verdict}
 use Rattle.marking.specs.declared.verdict.Verdict.the-variants.{Equal, Loose, Tight}
 use Rattle.marking.specs.declared.verdict.Marking.{Marking}

@@ -16,71 +16,70 @@ use Rattle.rules.specs.declared.refusal.Refusal.{Refusal}
 use Rattle.rules.specs.declared.refusal.Refusal.the-variants.{Size, OutOfLimit, TooShort, Mismatch}
 use Rattle.rules.specs.Hidden.{hiddenIn, setWithin}
 use Rattle.rules.specs.Limits.{maxQuantities, maxBound}
-use Rattle.rules.specs.Meaning.{Assignment, Meets}
-use Rattle.tables.specs.Meaning.{HoldsRule, ruleIn, Satisfiable, Unsatisfiable, Paper, Completes, SheetAllows, ScriptAllows, ScriptForbids, Breaks, NamesVisible, SameVisible, WordsWithin, assignmentOf}
+use Rattle.rules.specs.Meaning.{Assignment, Meets, hasTerm}
+use Rattle.tables.specs.Meaning.{HoldsRule, ruleIn, Satisfiable, Unsatisfiable, Solutions, Completes, SheetAllows, ScriptAllows, ScriptForbids, Breaks, NamesVisible, SameVisible, WordsWithin, assignmentOf}
 use Rattle.elimination.specs.Magnitude.{valueLimit}
 use Rattle.keys.specs.Keys.{keyOf}
-use Rattle.marking.specs.Verdicts.{hasTerm}
 
 -- ---- demand 3
 
 -- equal: script and sheet allow the same visible integers. Here and below an assignment stands for its visible integers (`ByVisible`); where no quantity is visible, all
 -- assignments are the one empty choice
-abbrev pub AllowSame : (ℕ → Bool) → Paper → Paper → Type 0
+abbrev pub AllowSame : (ℕ → Bool) → Solutions → Solutions → Type 0
 AllowSame hidden sheet script = (σ : Assignment) → ScriptAllows script σ ↔ SheetAllows hidden sheet σ
 
 -- loose (document 01: too wide): the script allows some that no hidden values complete
-pub record IsLoose (hidden : ℕ → Bool) (sheet script : Paper) : Type 0 where
+pub record IsLoose (hidden : ℕ → Bool) (sheet script : Solutions) : Type 0 where
   pub visibles : Assignment
   pub allowed : ScriptAllows script visibles
   pub incomplete : SheetAllows hidden sheet visibles → ⊥
 
 -- too narrow: the script forbids some that hidden values do complete
-pub record IsNarrow (hidden : ℕ → Bool) (sheet script : Paper) : Type 0 where
+pub record IsNarrow (hidden : ℕ → Bool) (sheet script : Solutions) : Type 0 where
   pub visibles : Assignment
   pub completed : SheetAllows hidden sheet visibles
   pub forbidden : ScriptForbids script visibles
 
 -- tight: not loose, and too narrow
-abbrev pub IsTight : (ℕ → Bool) → Paper → Paper → Type 0
+abbrev pub IsTight : (ℕ → Bool) → Solutions → Solutions → Type 0
 IsTight hidden sheet script = (IsLoose hidden sheet script → ⊥) × IsNarrow hidden sheet script
 
 -- a number is that of the verdict, 100, 101 or 102, exactly when demand 3 says so
-pub record ByDemand (hidden : ℕ → Bool) (sheet script : Paper) (number : ℕ) : Type 0 where
+pub record ByDemand (hidden : ℕ → Bool) (sheet script : Solutions) (number : ℕ) : Type 0 where
   pub equal : (number ≡ 100) ↔ AllowSame hidden sheet script
   pub loose : (number ≡ 101) ↔ IsLoose hidden sheet script
   pub tight : (number ≡ 102) ↔ IsTight hidden sheet script
 
 -- and to both papers an assignment is its visible integers: those that agree there are allowed alike
-pub record ByVisible (n : ℕ) (hidden : ℕ → Bool) (sheet script : Paper) : Type 0 where
+pub record ByVisible (n : ℕ) (hidden : ℕ → Bool) (sheet script : Solutions) : Type 0 where
   pub script-visible : (σ τ : Assignment) → SameVisible n hidden σ τ → ScriptAllows script σ → ScriptAllows script τ
   pub sheet-visible : (σ τ : Assignment) → SameVisible n hidden σ τ → SheetAllows hidden sheet σ → SheetAllows hidden sheet τ
 
 -- ---- the rule that is carried
 
 -- the rule of place k is the first by place of a table's rules that some assignment of a paper breaks
-pub record FirstAt (n : ℕ) (rules : List ℤ) (paper : Paper) (k : ℕ) : Type 0 where
+pub record FirstAt (n : ℕ) (rules : List ℤ) (paper : Solutions) (k : ℕ) : Type 0 where
   pub holds : HoldsRule n rules k
   pub breaks : Breaks paper (ruleIn rules k)
   pub first : (i : ℕ) → i < k → HoldsRule n rules i → Breaks paper (ruleIn rules i) → ⊥
 
 -- a rule is that first one
-pub record FirstBroken (n : ℕ) (rules : List ℤ) (paper : Paper) (r : Rule) : Type 0 where
+pub record FirstBroken (n : ℕ) (rules : List ℤ) (paper : Solutions) (r : Rule) : Type 0 where
   pub place : ℕ
   pub is : r ≡ ruleIn rules place
   pub at : FirstAt n rules paper place
 
 -- none of the table's rules is broken
-abbrev pub NoneBroken : ℕ → List ℤ → Paper → Type 0
+abbrev pub NoneBroken : ℕ → List ℤ → Solutions → Type 0
 NoneBroken n rules paper = (k : ℕ) → HoldsRule n rules k → Breaks paper (ruleIn rules k) → ⊥
 
 -- a loose verdict carries the first key rule by place that some assignment allowed by the script breaks, and none where the sheet itself allows nothing
-abbrev pub LooseRule : (ℕ → Bool) → ℕ → List ℤ → Paper → Rule → Type 0
+abbrev pub LooseRule : (ℕ → Bool) → ℕ → List ℤ → Solutions → Rule → Type 0
 LooseRule hidden n sheet script r =
     (Unsatisfiable n sheet × (hasTerm r ≡ false)) ⊎ (Satisfiable n sheet × FirstBroken n (keyOf hidden n sheet) script r)
 
 -- a tight one the first script rule by place that some assignment of the sheet breaks
-abbrev pub TightRule : ℕ → Paper → List ℤ → Rule → Type 0
+abbrev pub TightRule : ℕ → Solutions → List ℤ → Rule → Type 0
 TightRule n sheet script r = FirstBroken n script sheet r
 
 -- ---- the assignment that shows it
@@ -96,7 +95,7 @@ abbrev pub ValuesWithin : ℕ → List ℤ → Type 0
 ValuesWithin n values = (k : ℕ) → k < n → Within valueLimit (wordAt values k)
 
 -- for loose: the script allows its visible integers, no hidden values complete them, it breaks the rule, and its hidden words are 0
-pub record LooseShown (n : ℕ) (hidden : ℕ → Bool) (sheet script : Paper) (r : Rule) (values : List ℤ) : Type 0 where
+pub record LooseShown (n : ℕ) (hidden : ℕ → Bool) (sheet script : Solutions) (r : Rule) (values : List ℤ) : Type 0 where
   pub allowed : ScriptAllows script (assignmentOf values)
   pub incomplete : SheetAllows hidden sheet (assignmentOf values) → ⊥
   pub breaks : BreaksCarried (assignmentOf values) r
@@ -105,7 +104,7 @@ pub record LooseShown (n : ℕ) (hidden : ℕ → Bool) (sheet script : Paper) (
   pub range : ValuesWithin n values
 
 -- for tight: its hidden words complete its visible integers, which the script forbids, and it breaks the rule
-pub record TightShown (n : ℕ) (hidden : ℕ → Bool) (sheet script : Paper) (r : Rule) (values : List ℤ) : Type 0 where
+pub record TightShown (n : ℕ) (hidden : ℕ → Bool) (sheet script : Solutions) (r : Rule) (values : List ℤ) : Type 0 where
   pub complete : Completes hidden sheet (assignmentOf values) (assignmentOf values)
   pub forbidden : ScriptForbids script (assignmentOf values)
   pub breaks : BreaksCarried (assignmentOf values) r

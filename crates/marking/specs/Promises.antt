@@ -9,25 +9,26 @@ use lib.ListN.{length, take}
 use lib.Signed.{_<ℤ_}
 use Rattle.integers.specs.Bound.{oppositeBound}
 use Rattle.words.specs.Change.{wordAt}
+use Rattle.words.specs.Lent.{Lent}
 use Rattle.places.specs.declared.Place.{Place}
 use Rattle.places.specs.declared.Place.the-variants.{At, Nowhere}
 use Rattle.places.specs.Numbering.{blockStart}
 use Rattle.rules.specs.declared.rule.Rule.{Rule}
 use Rattle.rules.specs.declared.refusal.Refusal.{Refusal}
-use Rattle.rules.specs.Refusal.{refusalNumber, refusalValues}
+use Rattle.rules.specs.Refusal.{refusalNumber, refusalValues, integersOf}
 use Rattle.rules.specs.Hidden.{hiddenIn}
-use Rattle.rules.specs.Meaning.{Meets, names}
+use Rattle.rules.specs.Meaning.{Meets, names, hasTerm}
 use Rattle.rules.specs.Steps.{oppositeOf}
+use Rattle.rules.specs.RuleWords.{ruleValues}
 use Rattle.tables.specs.Places.{ruleAt}
 use Rattle.tables.specs.Tables.{hasRule, putRule}
 use Rattle.tables.specs.Meaning.{HoldsRule, ruleIn, Satisfies, Unsatisfiable, Breaks, assignmentOf}
 use Rattle.elimination.specs.Magnitude.{Unnamed}
 use Rattle.keys.specs.Reducing.{Fits}
-use Rattle.keys.specs.Promises.{Lent}
 use Rattle.marking.specs.declared.verdict.Verdict.{Verdict}
 use Rattle.marking.specs.declared.verdict.Verdict.the-variants.{Loose, Tight}
 use Rattle.marking.specs.declared.verdict.Marking.{Marking}
-use Rattle.marking.specs.Verdicts.{ruleValues, integersOf, markingNumber, Returned, isMarked, isMarkingShown, isShown, hasTerm}
+use Rattle.marking.specs.Verdicts.{markingNumber, Returned, isMarked, isMarkingShown, isShown}
 use Rattle.marking.specs.Meaning.{ByDemand, ByVisible, FirstAt, FirstBroken, NoneBroken, LooseRule, TightRule, LooseShown, TightShown, ValuesWithin, workspaceSize, TablesAccepted, TablesRefused}
 use Rattle.marking.specs.Marking.{firstBroken, verdictOf, markReply}
 

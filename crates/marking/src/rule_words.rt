@@ -3,7 +3,9 @@ use crate::verdict::Verdict;
 use rules::literal;
 use rules::rule::Rule;
 ghost use mathlib.Core.Path.{_≡_};
-ghost use Rattle.marking.specs.Verdicts.{signedOf, ruleWords, carriedWords};
+ghost use Rattle.rules.specs.Literal.{signedOf};
+ghost use Rattle.rules.specs.RuleWords.{ruleWords};
+ghost use Rattle.marking.specs.Verdicts.{carriedWords};
 
 // The signed quantity number of a literal, +q as q and -q as -q.
 fn signed(x: u32) -> i64

@@ -10,7 +10,7 @@ use Rattle.places.specs.Numbering.{blockStart}
 use Rattle.rules.specs.declared.refusal.Refusal.{Refusal}
 use Rattle.rules.specs.declared.refusal.Refusal.the-variants.{Size, Malformed, OutOfLimit, Cancelling, NoAssignment, TooShort, Mismatch}
 use Rattle.rules.specs.Limits.{maxBound, maxText}
-use Rattle.tables.specs.Meaning.{Paper, MeetsAll}
+use Rattle.tables.specs.Meaning.{Solutions, MeetsAll}
 use Rattle.lines.specs.Spelling.{Written, Line, quantities, hidden, rules, rule, lineText, WellFormed, lineWithin, lineCancels, writtenRules}
 use Rattle.lines.specs.Lines.{Judged, accepted, refused}
 use Rattle.rules.specs.Hidden.{hiddenIn, setOf, isListed}
@@ -89,7 +89,7 @@ pub record Spells (limit : ℕ) (s : List ℕ) (c : Contents) : Type 0 where
   pub fine : FineLines limit c
 
 -- the rules that contents write, as a paper: a doubled term is taken as written
-abbrev pub rulesOf : Contents → Paper
+abbrev pub rulesOf : Contents → Solutions
 rulesOf c σ = MeetsAll σ (writtenRules (c .written))
 
 -- ---- refused

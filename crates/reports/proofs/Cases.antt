@@ -19,7 +19,7 @@ use Rattle.rules.specs.Steps.{ruleOf, oppositeOf, halvedOf}
 use Rattle.tables.specs.Places.{ruleAt, findPlace}
 use Rattle.tables.specs.Tables.{putAt, putHalved, putRule, putAll, cleared}
 use Rattle.elimination.specs.Hiding.{withSum, withHalf, bareBelow, pairWord, onOne, onTwo, lowestAt, pairing, anyBare, paired, contradicts, eliminated}
-use Rattle.keys.specs.Keys.{hideUpTo, keyOf, refutedUpTo, refuted, andThen as inTurn, lengthReply}
+use Rattle.keys.specs.Keys.{hideUpTo, keyOf, refutedUpTo, refuted}
 use Rattle.marking.specs.declared.verdict.Verdict.the-variants.{Equal}
 use Rattle.marking.specs.Verdicts.{isShown}
 use Rattle.marking.specs.Marking.{breakable, firstRule, firstBroken, verdictOf, namesHidden, anyNamesHidden, visibleReply}
@@ -30,6 +30,7 @@ use Rattle.numerals.specs.Parsing.{andThen, expect, digitsFrom, numeralOf}
 use Rattle.lines.specs.Spelling.{two, termText, ruleText, joinedText, listText, valueText, lineText, cancelling, writtenRule}
 use Rattle.lines.specs.Lines.{ended, countLine, membersAfter, membersFrom, listOf, hiddenLine, termOf, boundAt, boundLine, afterTerm, ruleLine, judged, countJudged, hiddenJudged, ruleJudged}
 use Rattle.rules.specs.Hidden.{setOf}
+use Rattle.tables.specs.Replies.{andThen as inTurn, lengthReply}
 use Rattle.reading.specs.Texts.{Contents, linesText, headerText, sheetText}
 use Rattle.reading.specs.Reading.{onward, rulesFrom, linesFrom, checkText}
 use Rattle.writing.specs.Writing.{writtenOf, rulesAt, hiddenFrom, writtenText, countText}

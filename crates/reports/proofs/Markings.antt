@@ -14,15 +14,16 @@ use Rattle.rules.specs.declared.rule.Rule.the-variants.{One, Two, Nothing}
 use Rattle.rules.specs.declared.refusal.Refusal.{Refusal}
 use Rattle.rules.specs.Limits.{maxQuantities, maxBound, maxRules}
 use Rattle.rules.specs.Hidden.{hiddenIn}
-use Rattle.rules.specs.Refusal.{refusalNumber, refusalValues}
-use Rattle.tables.specs.Meaning.{Paper, WordsWithin}
+use Rattle.rules.specs.Refusal.{refusalNumber, refusalValues, integersOf}
+use Rattle.rules.specs.Meaning.{hasTerm}
+use Rattle.tables.specs.Meaning.{Solutions, WordsWithin}
 use Rattle.tables.proofs.Limits.{wordsInLimit-within}
 use Rattle.tables.proofs.Tests.{clash}
 use Rattle.numerals.specs.Writing.{Spliced}
 use Rattle.numerals.proofs.Splices.{splice-start}
 use Rattle.marking.specs.declared.verdict.Verdict.{Verdict}
 use Rattle.marking.specs.declared.verdict.Verdict.the-variants.{Equal, Loose, Tight}
-use Rattle.marking.specs.Verdicts.{verdictNumber, verdictValues, hasTerm, integersOf}
+use Rattle.marking.specs.Verdicts.{verdictNumber, verdictValues}
 use Rattle.marking.specs.Meaning.{LooseRule, TightRule, ValuesWithin}
 use Rattle.reading.specs.Texts.{Contents}
 use Rattle.writing.specs.Writing.{ruleLineText}
@@ -55,14 +56,14 @@ bare-line (Two x y c) e = clash refl e
 bare-line (Nothing c) e = omega arith
 
 -- the line of a loose verdict's rule
-loose-line : (c : Contents) → Sheet c → {paper : Paper} {r : Rule} → LooseRule (hiddenIn (setIn c)) (c .count) (tableIn c) paper r
+loose-line : (c : Contents) → Sheet c → {paper : Solutions} {r : Rule} → LooseRule (hiddenIn (setIn c)) (c .count) (tableIn c) paper r
     → length (ruleLineText r) ≤ 33
 loose-line c s {paper} {r} =
     ⊎-elim (λ a. bare-line r (a .1))
     (λ b. broken-short (maxBound * 2 ^ length (c .hiddens)) (b .1) (s .most) (key-words c s) (key-bounds c s))
 
 -- the line of a tight verdict's rule
-tight-line : (c d : Contents) → Sheet c → Sheet d → d .count ≡ c .count → {paper : Paper} {r : Rule} → TightRule (c .count) paper (tableIn d) r
+tight-line : (c d : Contents) → Sheet c → Sheet d → d .count ≡ c .count → {paper : Solutions} {r : Rule} → TightRule (c .count) paper (tableIn d) r
     → length (ruleLineText r) ≤ 33
 tight-line c d s u e l =
     let words = wordsInLimit-within (blockStart (d .count)) (pos maxBound) (tableIn d) .0 (u .limit) in

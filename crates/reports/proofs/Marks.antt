@@ -17,7 +17,7 @@ use Rattle.numerals.specs.Decimal.{signedDecimal}
 use Rattle.rules.specs.declared.rule.Rule.{Rule}
 use Rattle.rules.specs.declared.refusal.Refusal.{Refusal}
 use Rattle.rules.specs.Limits.{maxQuantities, maxBound}
-use Rattle.tables.specs.Meaning.{ruleIn, Paper, WordsWithin}
+use Rattle.tables.specs.Meaning.{ruleIn, Solutions, WordsWithin}
 use Rattle.tables.proofs.Places.{ruleAt-bound, ruleAt-hasPlace}
 use Rattle.marking.specs.declared.verdict.Verdict.{Verdict}
 use Rattle.marking.specs.Meaning.{FirstBroken, ValuesWithin}
@@ -187,7 +187,7 @@ values-short n values h f =
     omega (arith, values-length (take n values), integers-further (take n values), further-short n values words)
 
 -- the line of a rule of a table whose bounds are words has at most 33 bytes
-pub broken-short : {n : ℕ} {rules : List ℤ} {paper : Paper} {r : Rule} (B : ℕ) → FirstBroken n rules paper r → n ≤ maxQuantities
+pub broken-short : {n : ℕ} {rules : List ℤ} {paper : Solutions} {r : Rule} (B : ℕ) → FirstBroken n rules paper r → n ≤ maxQuantities
     → B < 2 ^ 63 → WordsWithin (blockStart n) (pos B) rules → length (ruleLineText r) ≤ 33
 broken-short {n} {rules} {paper} {r} B f h g w =
     let k = f .place in

@@ -1,12 +1,13 @@
--- Document 01's number and value of a refusal tell which refusal it is. Assumes nothing.
+-- What is returned for a refusal tells which refusal it is. Assumes nothing.
 use mathlib.Core.Path.{_≡_, refl, sym, _∙_, ap, ap₂}
 use mathlib.Core.List.{List}
-use Prim.Native.Nat.{ℕ, zero, suc, _<_}
+use Prim.Native.Nat.{ℕ, zero, suc, _≤_, _<_}
 use native.Mathlib.Omega.{arith}
+use lib.IntN.{ℤ, pos, natAbs}
 use lib.ListN.{getD}
 use Rattle.rules.specs.declared.refusal.Refusal.{Refusal}
 use Rattle.rules.specs.declared.refusal.Refusal.the-variants.{Size, Malformed, OutOfLimit, Cancelling, NoAssignment, TooShort, Mismatch}
-use Rattle.rules.specs.Refusal.{refusalNumber, refusalValues, refusalValue}
+use Rattle.rules.specs.Refusal.{Beside, nothing-beside, line-beside, length-beside, besideValues, besideValue, refusalNumber, refusalBeside, refusalValue, Returned, refusedAs}
 
 -- the refusal of a number and a value
 unfoldable refusalFor : ℕ → ℕ → Refusal
@@ -34,26 +35,30 @@ refusal-for Mismatch = refl
 pub same-refusal-value : (f g : Refusal) → refusalNumber f ≡ refusalNumber g → refusalValue f ≡ refusalValue g → f ≡ g
 same-refusal-value f g e d = sym (refusal-for f) ∙ ap₂ refusalFor e d ∙ refusal-for g
 
--- and with the same number and values
-pub same-refusal : (f g : Refusal) → refusalNumber f ≡ refusalNumber g → refusalValues f ≡ refusalValues g → f ≡ g
-same-refusal f g e d = same-refusal-value f g e (ap (λ (vs : List ℕ). getD vs 0 0) d)
+-- the values tell the value
+first-value : (b : Beside) → natAbs (getD (besideValues b) 0 (pos 0)) ≡ besideValue b
+first-value nothing-beside = refl
+first-value (line-beside l) = refl
+first-value (length-beside m) = refl
 
--- no refusal has the number 0
+-- and two that are returned alike are the same
+pub same-refusal : (f g : Refusal) → refusedAs f ≡ refusedAs g → f ≡ g
+same-refusal f g e =
+    same-refusal-value f g (ap (λ (r : Returned). r .number) e)
+    (sym (first-value (refusalBeside f)) ∙ ap (λ (r : Returned). natAbs (getD (r .values) 0 (pos 0))) e ∙ first-value (refusalBeside g))
+
+-- the numbers of refusals lie between 0, that of success, and those of verdicts
+pub refusal-between : (f : Refusal) → (1 ≤ refusalNumber f) × (refusalNumber f < 100)
+refusal-between Size = (omega arith, omega arith)
+refusal-between (Malformed line) = (omega arith, omega arith)
+refusal-between (OutOfLimit line) = (omega arith, omega arith)
+refusal-between (Cancelling line) = (omega arith, omega arith)
+refusal-between NoAssignment = (omega arith, omega arith)
+refusal-between (TooShort needed) = (omega arith, omega arith)
+refusal-between Mismatch = (omega arith, omega arith)
+
 pub refusal-number : (f : Refusal) → refusalNumber f ≡ 0 → ⊥
-refusal-number Size e = omega arith
-refusal-number (Malformed line) e = omega arith
-refusal-number (OutOfLimit line) e = omega arith
-refusal-number (Cancelling line) e = omega arith
-refusal-number NoAssignment e = omega arith
-refusal-number (TooShort needed) e = omega arith
-refusal-number Mismatch e = omega arith
+refusal-number f e = omega (arith, refusal-between f, e)
 
--- and all are below those of verdicts
 pub refusal-below : (f : Refusal) → refusalNumber f < 100
-refusal-below Size = omega arith
-refusal-below (Malformed line) = omega arith
-refusal-below (OutOfLimit line) = omega arith
-refusal-below (Cancelling line) = omega arith
-refusal-below NoAssignment = omega arith
-refusal-below (TooShort needed) = omega arith
-refusal-below Mismatch = omega arith
+refusal-below f = refusal-between f .1

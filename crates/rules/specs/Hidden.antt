@@ -1,5 +1,5 @@
 -- The hidden set of a sheet, as document 01 writes it in a number, decoded here alone: bit q - 1 stands for quantity q.
-use mathlib.Core.Bool.{Bool, false, _||_}
+use mathlib.Core.Bool.{Bool, false, _||_, cond}
 use mathlib.Core.List.{List, [], _∷_}
 use Prim.Native.Nat.{ℕ, zero, suc, _+_, _-_, _/_, _%_, _^_}
 use lib.Dec.{eqb, ltb}
@@ -26,3 +26,8 @@ setOf (q ∷ qs) = bitOf q + setOf qs
 unfoldable pub isListed : ℕ → List ℕ → Bool
 isListed q [] = false
 isListed q (p ∷ ps) = eqb q p || isListed q ps
+
+-- how many of the first m quantities are hidden
+unfoldable pub hiddenCount : (ℕ → Bool) → ℕ → ℕ
+hiddenCount hidden zero = 0
+hiddenCount hidden (suc j) = cond (hidden (suc j)) (suc (hiddenCount hidden j)) (hiddenCount hidden j)

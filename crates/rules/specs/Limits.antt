@@ -1,14 +1,19 @@
--- The limits of a sheet, each named once. `rules::sheet::constants` ties them to the constants of `rules::sheet::Sheet`.
+-- The limits of papers, each named once. `rules::sheet::constants` ties the constants to those of `rules::sheet::Sheet`.
 use Prim.Native.Nat.{ℕ}
 use lib.IntN.{ℤ, pos}
+use Rattle.rules.specs.declared.paper.Paper.{Paper}
 
 -- quantities are numbered from 1 to at most this
 abbrev pub maxQuantities : ℕ
 maxQuantities = 32
 
--- a bound is at most this in magnitude
+-- no bound of a sheet is larger than this in magnitude
 abbrev pub maxBound : ℕ
 maxBound = 1000000000
+
+-- a bound is at most this in magnitude on a paper, sheet or script, over n quantities with this hidden set in its header (document 01: "Scripts have the same limits")
+unfoldable pub boundLimit : Paper → ℕ → ℕ → ℕ
+boundLimit paper n set = maxBound
 
 -- rule lines of a text
 abbrev pub maxRules : ℕ

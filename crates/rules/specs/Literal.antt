@@ -1,7 +1,9 @@
 -- A literal is a quantity with its sign (document 01: a signed quantity number), by its code: quantity q, counted from 1, has
 -- code 2(q - 1) with + and 2(q - 1) + 1 with -.
 use Prim.Native.Nat.{ℕ, zero, suc, _+_, _-_, _*_, _/_, _%_}
-use lib.IntN.{ℤ, pos, negsuc}
+use lib.IntN.{ℤ, pos, negsuc, negℤ}
+use mathlib.Core.Bool.{cond}
+use lib.Dec.{eqb}
 
 -- the quantity that a literal names, counted from 1
 abbrev pub quantityOf : ℕ → ℕ
@@ -16,3 +18,7 @@ abbrev pub literalOf : ℤ → ℕ
 literalOf (pos zero) = 0
 literalOf (pos (suc k)) = 2 * k
 literalOf (negsuc k) = 2 * k + 1
+
+-- a literal as a signed quantity number, +q as q and -q as -q
+abbrev pub signedOf : ℕ → ℤ
+signedOf x = cond (eqb (x % 2) 0) (pos (quantityOf x)) (negℤ (pos (quantityOf x)))

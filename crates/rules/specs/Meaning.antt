@@ -1,5 +1,5 @@
 -- What a rule means, over unbounded integers and apart from any algorithm.
-use mathlib.Core.Bool.{Bool, false, cond, _||_}
+use mathlib.Core.Bool.{Bool, false, cond, _||_, true}
 use Prim.Native.Nat.{ℕ, zero, suc, _%_}
 use lib.Dec.{eqb}
 use lib.IntN.{ℤ, pos, negsuc, negℤ, _+ℤ_}
@@ -43,3 +43,9 @@ unfoldable pub names : ℕ → Rule → Bool
 names q (One x c) = eqb (quantityOf x) q
 names q (Two x y c) = eqb (quantityOf x) q || eqb (quantityOf y) q
 names q (Nothing c) = false
+
+-- is the rule one of one or two quantities?
+abbrev pub hasTerm : Rule → Bool
+hasTerm (One x c) = true
+hasTerm (Two x y c) = true
+hasTerm (Nothing c) = false

@@ -1,30 +1,65 @@
--- Document 01's number and values for each refusal (document 01, 'Returned to the caller').
+-- What is returned to a caller, and document 01's number and values for each refusal (document 01, 'Returned to the caller'). A new refusal is one clause of each of
+-- the first two definitions.
 use Prim.Native.Nat.{ℕ}
 use mathlib.Core.List.{List, [], _∷_}
-use lib.ListN.{getD}
+use lib.IntN.{ℤ, pos}
 use Rattle.rules.specs.declared.refusal.Refusal.{Refusal}
 use Rattle.rules.specs.declared.refusal.Refusal.the-variants.{Size, Malformed, OutOfLimit, Cancelling, NoAssignment, TooShort, Mismatch}
 
 -- the number returned
 abbrev pub refusalNumber : Refusal → ℕ
 refusalNumber Size = 1
-refusalNumber (Malformed l) = 2
-refusalNumber (OutOfLimit l) = 3
-refusalNumber (Cancelling l) = 4
+refusalNumber (Malformed line) = 2
+refusalNumber (OutOfLimit line) = 3
+refusalNumber (Cancelling line) = 4
 refusalNumber NoAssignment = 5
-refusalNumber (TooShort m) = 6
+refusalNumber (TooShort needed) = 6
 refusalNumber Mismatch = 7
 
--- what is returned beside it: a line number (0 outside texts) or the length needed
-abbrev pub refusalValues : Refusal → List ℕ
-refusalValues Size = []
-refusalValues (Malformed l) = l ∷ []
-refusalValues (OutOfLimit l) = l ∷ []
-refusalValues (Cancelling l) = l ∷ []
-refusalValues NoAssignment = []
-refusalValues (TooShort m) = m ∷ []
-refusalValues Mismatch = []
+-- what is returned beside a refusal's number: nothing, the line it is about (0 outside texts), or the length needed
+pub data Beside : Type 0 where
+  nothing-beside : Beside
+  line-beside : ℕ → Beside
+  length-beside : ℕ → Beside
 
--- the same as one number, 0 where there is none
+abbrev pub refusalBeside : Refusal → Beside
+refusalBeside Size = nothing-beside
+refusalBeside (Malformed l) = line-beside l
+refusalBeside (OutOfLimit l) = line-beside l
+refusalBeside (Cancelling l) = line-beside l
+refusalBeside NoAssignment = nothing-beside
+refusalBeside (TooShort m) = length-beside m
+refusalBeside Mismatch = nothing-beside
+
+-- the same as values
+abbrev pub besideValues : Beside → List ℤ
+besideValues nothing-beside = []
+besideValues (line-beside l) = pos l ∷ []
+besideValues (length-beside m) = pos m ∷ []
+
+-- as one number, 0 where there is none
+abbrev pub besideValue : Beside → ℕ
+besideValue nothing-beside = 0
+besideValue (line-beside l) = l
+besideValue (length-beside m) = m
+
+-- and the line alone, 0 where there is none
+abbrev pub besideLine : Beside → ℕ
+besideLine nothing-beside = 0
+besideLine (line-beside l) = l
+besideLine (length-beside m) = 0
+
 abbrev pub refusalValue : Refusal → ℕ
-refusalValue r = getD (refusalValues r) 0 0
+refusalValue f = besideValue (refusalBeside f)
+
+abbrev pub refusalLine : Refusal → ℕ
+refusalLine f = besideLine (refusalBeside f)
+
+-- what is returned by any call: a number, and the values beside it
+pub record Returned : Type 0 where
+  pub number : ℕ
+  pub values : List ℤ
+
+-- a refusal as it is returned
+abbrev pub refusedAs : Refusal → Returned
+refusedAs f = record { number = refusalNumber f; values = besideValues (refusalBeside f) }

@@ -1,6 +1,6 @@
 // Document 01's refusals. Their numbers, and what is returned beside them, are in specs/Refusal.antt.
 ghost use mathlib.Core.Path.{_≡_};
-ghost use Rattle.rules.specs.Refusal.{refusalNumber, refusalValue};
+ghost use Rattle.rules.specs.Refusal.{refusalNumber, refusalValue, refusalLine};
 
 pub enum Refusal {
     // 1: n, a table's length or a text's size
@@ -45,6 +45,21 @@ pub fn value(r: Refusal) -> usize
         Refusal::Cancelling { line } => line,
         Refusal::NoAssignment => 0,
         Refusal::TooShort { needed } => needed,
+        Refusal::Mismatch => 0,
+    }
+}
+
+// The line that a refusal is about; 0 where it is about none.
+pub fn line(r: Refusal) -> usize
+    ensures { λ k. ⌜ k ≡ refusalLine r ⌝ }
+{
+    match r {
+        Refusal::Size => 0,
+        Refusal::Malformed { line } => line,
+        Refusal::OutOfLimit { line } => line,
+        Refusal::Cancelling { line } => line,
+        Refusal::NoAssignment => 0,
+        Refusal::TooShort { needed: _ } => 0,
         Refusal::Mismatch => 0,
     }
 }

@@ -6,28 +6,28 @@ use Prim.Native.Nat.{ℕ}
 use lib.IntN.{ℤ}
 use Rattle.rules.specs.declared.rule.Rule.{Rule}
 use Rattle.rules.specs.Meaning.{Assignment}
-use Rattle.tables.specs.Meaning.{Paper, joined, SheetAllows, Breaks, assignmentOf}
+use Rattle.tables.specs.Meaning.{Solutions, joined, SheetAllows, Breaks, assignmentOf}
 use Rattle.marking.specs.Meaning.{AllowSame, IsLoose, IsNarrow, ByDemand, ByVisible, FirstBroken, LooseRule, LooseShown, TightShown}
 
 -- two papers are satisfied by the same assignments
-abbrev pub Alike : Paper → Paper → Type 0
+abbrev pub Alike : Solutions → Solutions → Type 0
 Alike A B = (σ : Assignment) → A σ ↔ B σ
 
 -- the other way round
-alike-back : {A B : Paper} → Alike A B → Alike B A
+alike-back : {A B : Solutions} → Alike A B → Alike B A
 alike-back h σ = (h σ .1, h σ .0)
 
 -- what one sheet allows the other does
-allows : {A B : Paper} (hidden : ℕ → Bool) → Alike A B → (σ : Assignment) → SheetAllows hidden A σ → SheetAllows hidden B σ
+allows : {A B : Solutions} (hidden : ℕ → Bool) → Alike A B → (σ : Assignment) → SheetAllows hidden A σ → SheetAllows hidden B σ
 allows hidden h σ s = record { hiddens = s .hiddens; complete = h (joined hidden σ (s .hiddens)) .0 (s .complete) }
 
 -- a rule that some assignment of one paper breaks some of the other does
-breaks : {A B : Paper} (r : Rule) → Alike A B → Breaks A r → Breaks B r
+breaks : {A B : Solutions} (r : Rule) → Alike A B → Breaks A r → Breaks B r
 breaks r h b = record { assignment = b .assignment; satisfies = h (b .assignment) .0 (b .satisfies); broken = b .broken }
 
 -- ---- demand 3
 
-module _ {A B C D : Paper} (hidden : ℕ → Bool) (h : Alike A B) (g : Alike C D) where
+module _ {A B C D : Solutions} (hidden : ℕ → Bool) (h : Alike A B) (g : Alike C D) where
   -- equal
   same : AllowSame hidden A C → AllowSame hidden B D
   same s σ = (λ d. allows hidden h σ (s σ .0 (g σ .1 d)), λ b. g σ .0 (s σ .1 (allows hidden (alike-back h) σ b)))
@@ -49,7 +49,7 @@ module _ {A B C D : Paper} (hidden : ℕ → Bool) (h : Alike A B) (g : Alike C 
   }
 
 -- a number is that of the same verdict
-pub alike-demand : {A B C D : Paper} (hidden : ℕ → Bool) (number : ℕ) → Alike A B → Alike C D → ByDemand hidden A C number → ByDemand hidden B D number
+pub alike-demand : {A B C D : Solutions} (hidden : ℕ → Bool) (number : ℕ) → Alike A B → Alike C D → ByDemand hidden A C number → ByDemand hidden B D number
 alike-demand hidden number h g d =
     let h' = alike-back h in
     let g' = alike-back g in
@@ -63,7 +63,7 @@ alike-demand hidden number h g d =
     }
 
 -- an assignment is its visible integers to the other papers too
-pub alike-visible : {A B C D : Paper} (n : ℕ) (hidden : ℕ → Bool) → Alike A B → Alike C D → ByVisible n hidden A C → ByVisible n hidden B D
+pub alike-visible : {A B C D : Solutions} (n : ℕ) (hidden : ℕ → Bool) → Alike A B → Alike C D → ByVisible n hidden A C → ByVisible n hidden B D
 alike-visible n hidden h g v = record {
   script-visible = λ σ τ s a. g τ .0 (v .script-visible σ τ s (g σ .1 a));
   sheet-visible = λ σ τ s a. allows hidden h τ (v .sheet-visible σ τ s (allows hidden (alike-back h) σ a));
@@ -72,7 +72,7 @@ alike-visible n hidden h g v = record {
 -- ---- the rule that is carried
 
 -- the first broken rule is the same, which is a tight verdict's
-pub alike-broken : {A B : Paper} (n : ℕ) (rules : List ℤ) (r : Rule) → Alike A B → FirstBroken n rules A r → FirstBroken n rules B r
+pub alike-broken : {A B : Solutions} (n : ℕ) (rules : List ℤ) (r : Rule) → Alike A B → FirstBroken n rules A r → FirstBroken n rules B r
 alike-broken n rules r h f = record {
   place = f .place;
   is = f .is;
@@ -84,7 +84,7 @@ alike-broken n rules r h f = record {
 }
 
 -- a loose verdict's
-pub alike-loose-rule : {A B : Paper} (hidden : ℕ → Bool) (n : ℕ) (sheet : List ℤ) (r : Rule) → Alike A B
+pub alike-loose-rule : {A B : Solutions} (hidden : ℕ → Bool) (n : ℕ) (sheet : List ℤ) (r : Rule) → Alike A B
     → LooseRule hidden n sheet A r → LooseRule hidden n sheet B r
 alike-loose-rule hidden n sheet r h (inl f) = inl f
 alike-loose-rule hidden n sheet r h (inr f) = inr (f .0, alike-broken n _ r h (f .1))
@@ -92,7 +92,7 @@ alike-loose-rule hidden n sheet r h (inr f) = inr (f .0, alike-broken n _ r h (f
 -- ---- the assignment that shows it
 
 -- for loose
-pub alike-loose-shown : {A B C D : Paper} (n : ℕ) (hidden : ℕ → Bool) (r : Rule) (values : List ℤ) → Alike A B → Alike C D
+pub alike-loose-shown : {A B C D : Solutions} (n : ℕ) (hidden : ℕ → Bool) (r : Rule) (values : List ℤ) → Alike A B → Alike C D
     → LooseShown n hidden A C r values → LooseShown n hidden B D r values
 alike-loose-shown n hidden r values h g s = record {
   allowed = g (assignmentOf values) .0 (s .allowed);
@@ -104,7 +104,7 @@ alike-loose-shown n hidden r values h g s = record {
 }
 
 -- for tight
-pub alike-tight-shown : {A B C D : Paper} (n : ℕ) (hidden : ℕ → Bool) (r : Rule) (values : List ℤ) → Alike A B → Alike C D
+pub alike-tight-shown : {A B C D : Solutions} (n : ℕ) (hidden : ℕ → Bool) (r : Rule) (values : List ℤ) → Alike A B → Alike C D
     → TightShown n hidden A C r values → TightShown n hidden B D r values
 alike-tight-shown n hidden r values h g s = record {
   complete = h (joined hidden (assignmentOf values) (assignmentOf values)) .0 (s .complete);

@@ -10,11 +10,10 @@ use lib.Dec.{eqb}
 use lib.ListN.{length, length-append}
 use lib.Pow.{pow-mono}
 use borrow.Author.Tests.{eqb-true, eqb-false, eq-eqb, ne-eqb, lt-ltb}
-use Rattle.rules.specs.Hidden.{hiddenIn, setWithin, setOf}
+use Rattle.rules.specs.Hidden.{hiddenIn, setWithin, setOf, hiddenCount}
 use Rattle.tables.proofs.Tests.{both-true}
 use Rattle.lines.specs.Spelling.{IncreasingFrom, quantityWithin, allWithin}
 use Rattle.lines.proofs.Bits.{within-range}
-use Rattle.keys.specs.Keys.{hiddenCount}
 use Rattle.writing.specs.Writing.{hiddenFrom, hiddenList}
 use Rattle.writing.proofs.ListTexts.{hidden-last}
 

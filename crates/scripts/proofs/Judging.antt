@@ -8,9 +8,8 @@ use Prim.Native.Nat.{ℕ}
 use lib.IntN.{ℤ}
 use Rattle.rules.specs.declared.refusal.Refusal.{Refusal}
 use Rattle.rules.specs.declared.refusal.Refusal.the-variants.{Mismatch}
-use Rattle.rules.specs.Refusal.{refusalNumber, refusalValues}
+use Rattle.rules.specs.Refusal.{refusalNumber, refusalValues, integersOf}
 use Rattle.tables.proofs.Tests.{clash}
-use Rattle.marking.specs.Verdicts.{integersOf}
 use Rattle.marking.proofs.Carried.{refusal-same}
 use Rattle.lines.specs.Lines.{refused}
 use Rattle.reading.specs.Texts.{Contents}

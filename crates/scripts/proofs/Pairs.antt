@@ -10,6 +10,7 @@ use lib.IntN.{ℤ, pos}
 use lib.ListN.{length, drop, length-append, length-drop}
 use lib.Seq.{drop-append-seam}
 use borrow.Author.Tests.{le-ltb}
+use Rattle.words.specs.Lent.{Lent}
 use Rattle.places.specs.Numbering.{blockStart}
 use Rattle.rules.specs.declared.refusal.Refusal.{Refusal}
 use Rattle.rules.specs.declared.refusal.Refusal.the-variants.{Mismatch}
@@ -23,8 +24,8 @@ use Rattle.tables.specs.Meaning.{Satisfies, NamesVisible}
 use Rattle.tables.proofs.Tests.{clash}
 use Rattle.tables.proofs.Limits.{wordsInLimit-within}
 use Rattle.tables.proofs.Sizes.{long-serves}
-use Rattle.keys.specs.Keys.{andThen, lengthReply, limitReply, inSheetLimit}
-use Rattle.keys.specs.Promises.{Lent}
+use Rattle.tables.specs.Replies.{andThen, lengthReply, limitReply}
+use Rattle.keys.specs.Keys.{inSheetLimit}
 use Rattle.marking.specs.declared.verdict.Verdict.{Verdict}
 use Rattle.marking.specs.declared.verdict.Marking.{Marking}
 use Rattle.marking.specs.declared.verdict.Marking.the-variants.{Refused as NotMarked}

@@ -15,7 +15,7 @@ use Rattle.tables.specs.declared.reply.Reply.the-variants.{Done}
 use Rattle.tables.specs.declared.reply.Reply.the-variants.{Refused as NotDone}
 use Rattle.tables.specs.Tables.{tableSize}
 use Rattle.tables.proofs.Sizes.{size-known}
-use Rattle.keys.specs.Keys.{andThen}
+use Rattle.tables.specs.Replies.{andThen}
 use Rattle.keys.proofs.Promised.{untouched}
 use Rattle.lines.specs.Lines.{Judged, accepted, refused}
 use Rattle.reading.specs.declared.check.Checked.{Checked}

@@ -12,7 +12,7 @@ use Rattle.tables.specs.declared.reply.Reply.{Reply}
 use Rattle.tables.specs.declared.reply.Reply.the-variants.{Done}
 use Rattle.tables.specs.declared.reply.Reply.the-variants.{Refused as NotDone}
 use Rattle.tables.proofs.Tests.{refused-done, clash, both-true}
-use Rattle.keys.specs.Keys.{andThen, lengthReply}
+use Rattle.tables.specs.Replies.{andThen, lengthReply}
 use Rattle.marking.specs.Meaning.{workspaceSize}
 use Rattle.scripts.specs.declared.room.Lengths.{Lengths}
 use Rattle.scripts.specs.Meaning.{Room, ShortIn}

@@ -15,7 +15,7 @@ use Rattle.integers.proofs.Parts.{positivePart, negativePart}
 use Rattle.integers.proofs.Within.{within-to, within-mono}
 use Rattle.words.specs.Change.{wordAt}
 use Rattle.places.specs.Numbering.{blockStart}
-use Rattle.rules.specs.Hidden.{hiddenIn, setWithin}
+use Rattle.rules.specs.Hidden.{hiddenIn, setWithin, hiddenCount}
 use Rattle.rules.specs.Limits.{maxQuantities, maxBound}
 use Rattle.rules.specs.Meaning.{Assignment}
 use Rattle.tables.specs.declared.reply.Reply.the-variants.{Done}
@@ -24,7 +24,7 @@ use Rattle.tables.specs.Meaning.{Satisfies, SheetAllows, joined, WordsWithin}
 use Rattle.tables.proofs.Limits.{wordsInLimit-within}
 use Rattle.tables.proofs.Sizes.{size-whole, long-serves}
 use Rattle.tables.proofs.Lists.{tableOf-length}
-use Rattle.keys.specs.Keys.{keyOf, hiddenCount, refuted, inSheetLimit, keyChecks}
+use Rattle.keys.specs.Keys.{keyOf, refuted, inSheetLimit, keyChecks}
 use Rattle.keys.specs.Reducing.{Fits}
 use Rattle.keys.proofs.Several.{hideUpTo-length, key-exact}
 use Rattle.keys.proofs.Fitting.{sheet-fits, hide-ample, key-within}

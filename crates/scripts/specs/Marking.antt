@@ -11,7 +11,7 @@ use Rattle.rules.specs.Limits.{maxQuantities}
 use Rattle.tables.specs.declared.reply.Reply.{Reply}
 use Rattle.tables.specs.declared.reply.Reply.the-variants.{Done}
 use Rattle.tables.specs.declared.reply.Reply.the-variants.{Refused as NotDone}
-use Rattle.keys.specs.Keys.{andThen, lengthReply}
+use Rattle.tables.specs.Replies.{andThen, lengthReply}
 use Rattle.marking.specs.declared.verdict.Verdict.{Verdict}
 use Rattle.marking.specs.Meaning.{workspaceSize}
 use Rattle.marking.specs.Marking.{visibleReply, verdictOf}

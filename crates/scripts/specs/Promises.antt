@@ -6,16 +6,16 @@ use mathlib.Core.List.{List, [], _∷_}
 use Prim.Native.Nat.{ℕ, _≤_, _<_}
 use lib.IntN.{ℤ}
 use lib.ListN.{length}
+use Rattle.words.specs.Lent.{Lent}
 use Rattle.places.specs.Numbering.{blockStart}
 use Rattle.rules.specs.declared.rule.Rule.{Rule}
 use Rattle.rules.specs.declared.refusal.Refusal.{Refusal}
 use Rattle.rules.specs.Hidden.{hiddenIn, isListed}
 use Rattle.rules.specs.Limits.{maxQuantities}
-use Rattle.rules.specs.Refusal.{refusalNumber, refusalValues}
+use Rattle.rules.specs.Refusal.{refusalNumber, refusalValues, integersOf}
 use Rattle.rules.specs.Meaning.{Assignment}
+use Rattle.rules.specs.RuleWords.{ruleValues}
 use Rattle.tables.specs.Meaning.{Satisfies}
-use Rattle.keys.specs.Promises.{Lent}
-use Rattle.marking.specs.Verdicts.{ruleValues, integersOf}
 use Rattle.marking.specs.Meaning.{ByDemand, ByVisible, LooseRule, TightRule, LooseShown, TightShown, workspaceSize}
 use Rattle.reading.specs.Texts.{Contents}
 use Rattle.reading.specs.Meaning.{rulesOf}

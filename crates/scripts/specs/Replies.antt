@@ -4,11 +4,11 @@ use mathlib.Core.Path.{_≡_}
 use mathlib.Core.List.{List, [], _∷_}
 use Prim.Native.Nat.{ℕ}
 use lib.IntN.{ℤ}
-use Rattle.rules.specs.Refusal.{refusalNumber, refusalValues, refusalValue}
+use Rattle.rules.specs.Refusal.{refusalNumber, refusalValues, refusalValue, integersOf}
 use Rattle.marking.specs.declared.verdict.Marking.{Marking}
 use Rattle.marking.specs.declared.verdict.Marking.the-variants.{Refused as NotMarked}
 use Rattle.marking.specs.declared.verdict.Marking.the-variants.{Marked as TablesMarkedAs}
-use Rattle.marking.specs.Verdicts.{verdictNumber, verdictValues, isShown, integersOf}
+use Rattle.marking.specs.Verdicts.{verdictNumber, verdictValues, isShown}
 use Rattle.scripts.specs.declared.reply.Subject.{Subject}
 use Rattle.scripts.specs.declared.reply.Subject.the-variants.{Sheet, Script, Both}
 use Rattle.scripts.specs.declared.reply.TextMarking.{TextMarking}

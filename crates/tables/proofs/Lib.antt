@@ -1,5 +1,6 @@
 -- The laws of tables that proofs above cite.
 pub mod Tests
+pub mod Refusing
 pub mod Sizes
 pub mod Places
 pub mod Values

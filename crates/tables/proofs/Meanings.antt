@@ -12,7 +12,7 @@ use Rattle.rules.specs.declared.rule.Rule.{Rule}
 use Rattle.rules.specs.Meaning.{Assignment, Meets, boundOf, names}
 use Rattle.tables.specs.Places.{placeOf, HasPlace}
 use Rattle.tables.specs.Tables.{hasRule}
-use Rattle.tables.specs.Meaning.{HoldsRule, ruleIn, Satisfies, joined, Paper, SheetAllows, ScriptAllows, SameVisible, NamesVisible}
+use Rattle.tables.specs.Meaning.{HoldsRule, ruleIn, Satisfies, joined, Solutions, SheetAllows, ScriptAllows, SameVisible, NamesVisible}
 use Rattle.tables.proofs.Places.{ruleAt-bound, ruleAt-place, ruleAt-hasPlace, hasPlace-below, hasPlace-names}
 use Rattle.tables.proofs.Values.{place-value, meets-at, meets-named}
 
@@ -48,7 +48,7 @@ satisfies-agree n t σ τ a s = record { each = λ k p. meets-named σ τ (ruleI
     same k p q e = let l = in-range n t k p q e in a q (l .0) (l .1)
 
 -- what a sheet allows does not depend on what stands at hidden quantities, nor on quantities past n, where its rules do not
-pub allows-visible : (n : ℕ) (hidden : ℕ → Bool) (sheet : Paper) → ((σ τ : Assignment) → Agree n σ τ → sheet σ → sheet τ)
+pub allows-visible : (n : ℕ) (hidden : ℕ → Bool) (sheet : Solutions) → ((σ τ : Assignment) → Agree n σ τ → sheet σ → sheet τ)
     → (σ τ : Assignment) → SameVisible n hidden σ τ → SheetAllows hidden sheet σ → SheetAllows hidden sheet τ
 allows-visible n hidden sheet within σ τ same a = record {
   hiddens = a .hiddens;

@@ -14,7 +14,7 @@ use Rattle.rules.specs.Hidden.{hiddenIn}
 use Rattle.rules.specs.Meaning.{Assignment, literalValue}
 use Rattle.rules.specs.Steps.{ruleOf, halvedOf}
 use Rattle.tables.specs.Tables.{AllAccepted, tableOf, ruleReply}
-use Rattle.tables.specs.Meaning.{Satisfies, MeetsAll, Paper, joined, Completes, SheetAllows, ScriptAllows, ScriptForbids}
+use Rattle.tables.specs.Meaning.{Satisfies, MeetsAll, Solutions, joined, Completes, SheetAllows, ScriptAllows, ScriptForbids}
 use Rattle.tables.proofs.Lists.{tableOf-meaning}
 
 -- +1+2:5, +1-2:2, +3-2:0
@@ -30,7 +30,7 @@ unfolding rules ruleOf halvedOf ruleReply
 accepted = (refl, (refl, (refl, tt)))
 
 -- the sheet by its table
-abbrev pub sheet : Paper
+abbrev pub sheet : Solutions
 sheet = Satisfies 3 (tableOf 3 rules)
 
 -- integers for quantities 1 and 3, and one for quantity 2

@@ -7,7 +7,6 @@ use native.Mathlib.Omega.{arith}
 use Rattle.rules.specs.declared.refusal.Refusal.{Refusal}
 use Rattle.tables.specs.declared.reply.Reply.{Reply}
 use Rattle.tables.specs.declared.reply.Reply.the-variants.{Done, Refused}
-use Rattle.tables.specs.Tables.{}
 
 -- a refusal is not done
 pub refused-done : {ℓ : Refusal} → Refused ℓ ≡ Done → ⊥

@@ -2,5 +2,6 @@
 -- the steps, which compute; Promises are the contracts' records.
 pub mod Places
 pub mod Tables
+pub mod Replies
 pub mod Meaning
 pub mod Promises

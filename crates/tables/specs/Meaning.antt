@@ -65,32 +65,32 @@ NoneNames q (r ∷ rs) = (names q r ≡ false) × NoneNames q rs
 
 -- a paper, sheet or script, by what satisfies its rules: those its table holds, `Satisfies n t`, or those its text writes,
 -- `λ σ. MeetsAll σ rules`, a doubled term taken as written
-abbrev pub Paper : Type 1
-Paper = Assignment → Type 0
+abbrev pub Solutions : Type 1
+Solutions = Assignment → Type 0
 
 -- integers for the visible quantities from one assignment and for the hidden ones from another
 abbrev pub joined : (ℕ → Bool) → Assignment → Assignment → Assignment
 joined hidden visibles hiddens q = cond (hidden q) (hiddens q) (visibles q)
 
 -- hidden values complete visible integers: the two together satisfy every rule of the sheet
-abbrev pub Completes : (ℕ → Bool) → Paper → Assignment → Assignment → Type 0
+abbrev pub Completes : (ℕ → Bool) → Solutions → Assignment → Assignment → Type 0
 Completes hidden sheet visibles hiddens = sheet (joined hidden visibles hiddens)
 
 -- the sheet allows visible integers: some hidden values complete them
-pub record SheetAllows (hidden : ℕ → Bool) (sheet : Paper) (visibles : Assignment) : Type 0 where
+pub record SheetAllows (hidden : ℕ → Bool) (sheet : Solutions) (visibles : Assignment) : Type 0 where
   pub hiddens : Assignment
   pub complete : Completes hidden sheet visibles hiddens
 
 -- the script allows the visible integers that satisfy every rule of its own
-abbrev pub ScriptAllows : Paper → Assignment → Type 0
+abbrev pub ScriptAllows : Solutions → Assignment → Type 0
 ScriptAllows script visibles = script visibles
 
 -- and it forbids all others
-abbrev pub ScriptForbids : Paper → Assignment → Type 0
+abbrev pub ScriptForbids : Solutions → Assignment → Type 0
 ScriptForbids script visibles = ScriptAllows script visibles → ⊥
 
 -- some assignment of a paper breaks a rule, that is, does not meet it
-pub record Breaks (paper : Paper) (r : Rule) : Type 0 where
+pub record Breaks (paper : Solutions) (r : Rule) : Type 0 where
   pub assignment : Assignment
   pub satisfies : paper assignment
   pub broken : Meets assignment r → ⊥

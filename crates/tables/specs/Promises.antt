@@ -15,8 +15,9 @@ use Rattle.rules.specs.Meaning.{Assignment, Meets, boundOf}
 use Rattle.tables.specs.Places.{ruleAt, findPlace, HasPlace}
 use Rattle.tables.specs.declared.reply.Reply.{Reply}
 use Rattle.tables.specs.declared.reply.Reply.the-variants.{Done, Refused}
-use Rattle.tables.specs.Tables.{emptyTable, serves, isDone, replyNumber, putReply, putRule, clearReply, cleared, wordsInLimit}
+use Rattle.tables.specs.Tables.{emptyTable, serves, putReply, putRule, clearReply, cleared, wordsInLimit}
 use Rattle.tables.specs.Meaning.{Satisfies, SatisfiesWithout, WordsWithin}
+use Rattle.tables.specs.Replies.{isDone, replyNumber}
 
 -- no rules: the first 2n² words are the empty table's, and every assignment satisfies it
 pub record Emptied (n : ℕ) (before : List ℤ) (r : Reply) (after : List ℤ) : Type 0 where

@@ -5,7 +5,7 @@ use mathlib.Core.Path.{_≡_}
 use Prim.Native.Nat.{ℕ, zero, suc, _*_}
 use lib.Dec.{leb, ltb, eqb}
 use lib.IntN.{ℤ, pos, negℤ}
-use lib.ListN.{replicate, getD}
+use lib.ListN.{replicate}
 use lib.Signed.{ltZ, leZ}
 use Rattle.integers.specs.Bound.{smaller}
 use Rattle.words.specs.Change.{change, lowered}
@@ -18,7 +18,6 @@ use Rattle.rules.specs.declared.refusal.Refusal.the-variants.{Size, OutOfLimit,
 use Rattle.rules.specs.Limits.{maxQuantities, noRule}
 use Rattle.rules.specs.Literal.{negated}
 use Rattle.rules.specs.Meaning.{boundOf, names}
-use Rattle.rules.specs.Refusal.{refusalNumber, refusalValues}
 use Rattle.rules.specs.Steps.{halvedOf}
 use Rattle.tables.specs.declared.reply.Reply.{Reply}
 use Rattle.tables.specs.declared.reply.Reply.the-variants.{Done, Refused}
@@ -53,10 +52,6 @@ ruleReply n (Nothing c) = cond (hasRule c) (cond (ltZ c (pos 0)) (Refused NoAssi
 -- the reply to putting a rule into a table of so many words, a doubled term halved first
 unfoldable pub putReply : ℕ → ℕ → Rule → Reply
 putReply n words r = cond (serves n words) (ruleReply n (halvedOf r)) (Refused Size)
-
-abbrev pub isDone : Reply → Bool
-isDone Done = true
-isDone (Refused r) = false
 
 -- a word goes to a place by minimum
 unfoldable pub putAt : List ℤ → Place → ℤ → List ℤ
@@ -106,24 +101,6 @@ cleared n q t = change (blockStart n) (clearing q) t
 -- the reply to clearing quantity q. 3: it is none of 1 to n
 unfoldable pub clearReply : ℕ → ℕ → ℕ → Reply
 clearReply n words q = cond (serves n words) (cond (leb 1 q && leb q n) Done (Refused (OutOfLimit 0))) (Refused Size)
-
--- document 01's number of a reply; 0 where the call is not refused
-abbrev pub replyNumber : Reply → ℕ
-replyNumber Done = 0
-replyNumber (Refused r) = refusalNumber r
-
--- what is returned beside it
-abbrev pub replyValues : Reply → List ℕ
-replyValues Done = []
-replyValues (Refused r) = refusalValues r
-
--- the reply is returned by this number and these values
-abbrev pub Replies : Reply → ℕ → List ℕ → Type 0
-Replies r number values = (replyNumber r ≡ number) × (replyValues r ≡ values)
-
--- what is returned beside as one number, 0 where there is none
-abbrev pub replyValue : Reply → ℕ
-replyValue r = getD (replyValues r) 0 0
 
 -- a word is no rule, or a bound of at most B in magnitude
 unfoldable pub inLimit : ℤ → ℤ → Bool

@@ -1,7 +1,7 @@
 // The answer of a call on a table.
 use rules::refusal::Refusal;
 ghost use mathlib.Core.Path.{_≡_};
-ghost use Rattle.tables.specs.Tables.{replyNumber, replyValue};
+ghost use Rattle.tables.specs.Replies.{replyNumber, replyValue};
 
 pub enum Reply {
     Done,

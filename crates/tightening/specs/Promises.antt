@@ -8,6 +8,7 @@ use lib.IntN.{ℤ}
 use lib.ListN.{length}
 use lib.Signed.{_<ℤ_}
 use Rattle.words.specs.Change.{wordAt, change}
+use Rattle.words.specs.Lent.{Lent}
 use Rattle.places.specs.Numbering.{blockStart}
 use Rattle.rules.specs.Limits.{maxQuantities}
 use Rattle.tables.specs.Places.{ruleAt}
@@ -15,7 +16,6 @@ use Rattle.tables.specs.Tables.{hasRule}
 use Rattle.tables.specs.Meaning.{Satisfies, Unsatisfiable, Breaks, WordsWithin}
 use Rattle.elimination.specs.Magnitude.{addLimit}
 use Rattle.keys.specs.Keys.{refuted}
-use Rattle.keys.specs.Promises.{Lent}
 use Rattle.tightening.specs.Tightening.{tightened, gatheringLone}
 
 -- a table over n quantities whose words add

@@ -1,2 +1,3 @@
--- What the crate's contracts cite: lists of words changed word by word.
+-- What the crate's contracts cite: lists of words changed word by word, and lent slices.
 pub mod Change
+pub mod Lent

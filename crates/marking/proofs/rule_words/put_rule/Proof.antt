@@ -2,7 +2,7 @@
 use mathlib.Core.Path.{sym, ap}
 use borrow.Author.Needs.{needs}
 use Rattle.integers.proofs.Parts.{held-value}
-use Rattle.marking.specs.Verdicts.{ruleWords}
+use Rattle.rules.specs.RuleWords.{ruleWords}
 use Rattle.marking.proofs.rule_words.put_rule.Statement.{statement}
 use Rattle.marking.proofs.rule_words.put_rule.Tie as tie
 

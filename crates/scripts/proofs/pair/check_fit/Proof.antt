@@ -1,8 +1,8 @@
 -- `pair::check_fit` meets its contract. Assumes nothing.
 use mathlib.Core.Path.{_≡_, sym, _∙_}
 use borrow.Author.Needs.{needs}
-use Rattle.keys.specs.Keys.{andThen}
 use Rattle.tables.specs.declared.reply.Reply.the-variants.{Done}
+use Rattle.tables.specs.Replies.{andThen}
 use Rattle.scripts.specs.Marking.{roomChecks, firstChecks}
 use Rattle.scripts.proofs.Rooms.{same-headers, other-set, other-count}
 use Rattle.scripts.proofs.pair.check_fit.Statement.{statement}

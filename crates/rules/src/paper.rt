@@ -1,0 +1,18 @@
+// The papers of an exam and the limit of their bounds.
+use crate::sheet::Sheet;
+ghost use mathlib.Core.Path.{_≡_};
+ghost use lib.IntN.{pos};
+ghost use Rattle.rules.specs.Limits.{boundLimit};
+
+// What a text or a table is taken as.
+pub enum Paper {
+    Sheet,
+    Script,
+}
+
+// The largest magnitude of a bound on a paper over `n` quantities with a hidden set in its header.
+pub fn bound_limit(paper: Paper, n: usize, hidden: u32) -> i64
+    ensures { λ r. ⌜ r ≡ pos (boundLimit paper n hidden) ⌝ }
+{
+    Sheet::MAX_BOUND
+}

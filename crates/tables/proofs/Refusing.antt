@@ -1,0 +1,63 @@
+-- Checks that compute, tied to what they need: one check's law makes 'refused exactly when' of any call. Assumes nothing.
+use mathlib.Core.Path.{_≡_, refl, sym, _∙_, ap}
+use mathlib.Core.Bool.{Bool, true, false}
+use mathlib.Core.Logic.{_↔_, _⊎_, inl, inr, ⊎-elim}
+use Rattle.rules.specs.declared.refusal.Refusal.{Refusal}
+use Rattle.rules.specs.Refusal.{Returned, refusedAs}
+use Rattle.rules.specs.Refusing.{Needs, passed, _or_then_, RefusedBy, AllMet}
+use Rattle.rules.proofs.Refusals.{same-refusal, refusal-number}
+use Rattle.tables.specs.declared.reply.Reply.{Reply}
+use Rattle.tables.specs.declared.reply.Reply.the-variants.{Done, Refused}
+use Rattle.tables.specs.Replies.{replyReturned, replyNumber, check}
+use Rattle.tables.proofs.Tests.{clash, refused-done}
+
+-- a reply is refused by the first need that is not met, and done where all are
+pub record Tied (needs : Needs) (r : Reply) : Type 0 where
+  pub refuses : (f : Refusal) → (r ≡ Refused f) ↔ RefusedBy needs f
+  pub passes : (r ≡ Done) ↔ AllMet needs
+
+refusal-in : {f g : Refusal} → Refused f ≡ Refused g → g ≡ f
+refusal-in e = cc
+
+pub tied-done : Tied passed Done
+tied-done = record {
+  refuses = λ f. (λ e. refused-done (sym e), λ x. absurd x);
+  passes = (λ e. Prim.tt, λ x. refl);
+}
+
+-- one check more before the others, which matter only where it passes
+pub tied-more : (b : Bool) (P : Type 0) (g : Refusal) (needs : Needs) (r : Reply) → (b ≡ true) ↔ P → (P → Tied needs r)
+    → Tied (P or g then needs) (check b g r)
+tied-more true P g needs r d t = record {
+  refuses = λ f. (
+    λ e. inr (d .0 refl, t (d .0 refl) .refuses f .0 e),
+    λ x. ⊎-elim (λ y. absurd (y .0 (d .0 refl))) (λ y. t (d .0 refl) .refuses f .1 (y .1)) x,
+  );
+  passes = (λ e. (d .0 refl, t (d .0 refl) .passes .0 e), λ x. t (d .0 refl) .passes .1 (x .1));
+}
+tied-more false P g needs r d t = record {
+  refuses = λ f. (λ e. inl (λ p. clash (d .1 p) refl, refusal-in e), λ x. ⊎-elim (λ y. rw (y .1)) (λ y. clash (d .1 (y .0)) refl) x);
+  passes = (λ e. absurd (refused-done e), λ x. clash (d .1 (x .0)) refl);
+}
+
+-- ---- as it is returned
+
+pub returned-refused : (r : Reply) (f : Refusal) → (replyReturned r ≡ refusedAs f) ↔ (r ≡ Refused f)
+returned-refused r f = (go r, λ e. rw e)
+  where
+    go : (r : Reply) → replyReturned r ≡ refusedAs f → r ≡ Refused f
+    go Done e = absurd (refusal-number f (sym (ap (λ (x : Returned). x .number) e)))
+    go (Refused g) e = ap Refused (same-refusal g f e)
+
+pub number-done : (r : Reply) → (replyNumber r ≡ 0) ↔ (r ≡ Done)
+number-done r = (go r, λ e. rw e)
+  where
+    go : (r : Reply) → replyNumber r ≡ 0 → r ≡ Done
+    go Done e = refl
+    go (Refused f) e = absurd (refusal-number f e)
+
+pub tied-returned : (needs : Needs) (r : Reply) → Tied needs r → (f : Refusal) → (replyReturned r ≡ refusedAs f) ↔ RefusedBy needs f
+tied-returned needs r t f = (λ e. t .refuses f .0 (returned-refused r f .0 e), λ x. returned-refused r f .1 (t .refuses f .1 x))
+
+pub tied-number : (needs : Needs) (r : Reply) → Tied needs r → (replyNumber r ≡ 0) ↔ AllMet needs
+tied-number needs r t = (λ e. t .passes .0 (number-done r .0 e), λ x. number-done r .1 (t .passes .1 x))

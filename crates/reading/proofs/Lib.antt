@@ -8,6 +8,7 @@ pub mod Telling
 pub mod Reaching
 pub mod Answering
 pub mod Means
+pub mod Limits
 pub mod FineRules
 pub mod Passing
 pub mod Replies

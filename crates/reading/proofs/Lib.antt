@@ -21,3 +21,4 @@ pub mod Filling
 pub mod Checking
 pub mod Replying
 pub mod Frauds
+pub mod Edges

@@ -1,12 +1,12 @@
 -- What two fine texts need of what is lent and of each other: the checks are these needs in their order, and those made before the tables are filled are their first.
 -- Assumes nothing.
 use mathlib.Core.Path.{_≡_, refl, sym, _∙_}
-use mathlib.Core.Bool.{Bool, true, false, not, _&&_}
+use mathlib.Core.Bool.{Bool, true, false, not, _&&_, and-false}
 use mathlib.Core.Logic.{_↔_}
 use mathlib.Core.List.{List}
 use Prim.Native.Nat.{ℕ, _≤_, _<_}
 use lib.Dec.{eqb}
-use borrow.Author.Tests.{le-leb, lt-leb, eqb-true}
+use borrow.Author.Tests.{le-leb, lt-leb, eqb-true, eq-eqb, ne-eqb}
 use Rattle.places.specs.Numbering.{blockStart}
 use Rattle.rules.specs.declared.paper.Paper.the-variants.{Sheet, Script}
 use Rattle.rules.specs.declared.refusal.Refusal.{Refusal}
@@ -102,10 +102,20 @@ module _ (n : ℕ) (lent : Lengths) where
     unfolding firstChecks
     room-refused r f e d = d ∙ sym (room-before .stands f (sym e ∙ d) (check (sameHeaders n set script-n script-set) Mismatch Done))
 
-    pub headers-checked : (r : Reply) → r ≡ roomChecks n lent Done → r ≡ Done
+    headers-checked : (r : Reply) → r ≡ roomChecks n lent Done → r ≡ Done
         → check (sameHeaders n set script-n script-set) Mismatch Done ≡ firstChecks n set script-n script-set lent
     unfolding firstChecks
     headers-checked r e d = sym (room-before .goes-on (sym e ∙ d) (check (sameHeaders n set script-n script-set) Mismatch Done))
+
+    module _ (r : Reply) (e : r ≡ roomChecks n lent Done) (d : r ≡ Done) where
+      pub headers-same : n ≡ script-n → set ≡ script-set → Done ≡ firstChecks n set script-n script-set lent
+      headers-same a b = rw (← headers-checked r e d, eq-eqb n script-n a, eq-eqb set script-set b)
+
+      pub headers-other-count : (n ≡ script-n → ⊥) → Refused Mismatch ≡ firstChecks n set script-n script-set lent
+      headers-other-count a = rw (← headers-checked r e d, ne-eqb n script-n a)
+
+      pub headers-other-set : (set ≡ script-set → ⊥) → Refused Mismatch ≡ firstChecks n set script-n script-set lent
+      headers-other-set a = rw (← headers-checked r e d, ne-eqb set script-set a, and-false (eqb n script-n))
 
     -- where they are done there is room, and the headers are the same
     pub first-tells : firstChecks n set script-n script-set lent ≡ Done → Room n lent × (n ≡ script-n) × (set ≡ script-set)

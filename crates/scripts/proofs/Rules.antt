@@ -1,12 +1,13 @@
 -- The rules that a text writes, where its lines are fine: their table holds them, and its bounds are in the paper's limit. Assumes nothing.
 use mathlib.Core.Path.{_≡_, refl, sym, _∙_, ap}
 use mathlib.Core.Bool.{true, _&&_}
-use mathlib.Core.List.{List, [], _∷_, _++_}
+use mathlib.Core.List.{List, [], _∷_, _++_, append-nil}
 use Prim.Native.Nat.{ℕ, suc}
 use native.Mathlib.Omega.{arith}
 use lib.Dec.{leb}
 use lib.IntN.{ℤ, pos, negsuc, natAbs}
 use lib.ListN.{getD-replicate}
+use lib.Seq.{drop-nil}
 use borrow.Author.Tests.{leb-true}
 use Rattle.integers.specs.Bound.{Within}
 use Rattle.integers.proofs.Parts.{positivePart, negativePart}

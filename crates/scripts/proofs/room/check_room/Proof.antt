@@ -25,7 +25,7 @@ size-requires : tie.Need-size-requires
 size-requires c κs = search needs
 
 returns : tie.Need-returns
-returns c = let e = size (c .before .before) in sym (short-refused _ _ _ (inl (omega arith, ap TooShort e)))
+returns c = let e = size (c .before .before) in rw (← e) (sheet-short _ _ (rw (← e) (c .if1 .taken)))
 
 returns-2 : tie.Need-returns-2
 returns-2 c =

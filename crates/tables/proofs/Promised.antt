@@ -10,6 +10,7 @@ use lib.ListN.{length, drop, length-replicate, getD-replicate, List·getD-append
 use borrow.Author.Tests.{le-leb, lt-leb}
 use Rattle.words.specs.Change.{wordAt, change, fillFrom}
 use Rattle.words.proofs.Change.{fill-front}
+use Rattle.places.specs.declared.Place.{Place}
 use Rattle.places.specs.Numbering.{blockStart, isOne, higherAt, lowerAt}
 use Rattle.places.proofs.Numbering.{at-lower}
 use Rattle.rules.specs.declared.rule.Rule.{Rule}
@@ -21,14 +22,14 @@ use Rattle.rules.specs.Meaning.{Assignment}
 use Rattle.rules.specs.Steps.{halvedOf}
 use Rattle.tables.specs.declared.reply.Reply.{Reply}
 use Rattle.tables.specs.declared.reply.Reply.the-variants.{Done, Refused}
-use Rattle.tables.specs.Places.{ruleAt}
+use Rattle.tables.specs.Places.{ruleAt, findPlace}
 use Rattle.tables.specs.Tables.{tableSize, emptyTable, serves, hasRule, ruleReply, putReply, putHalved, putRule, clearReply, cleared}
 use Rattle.tables.specs.Meaning.{Satisfies}
 use Rattle.rules.proofs.Refusals.{refusal-number}
-use Rattle.tables.specs.Promises.{Emptied, Put, Cleared, AtPlace}
+use Rattle.tables.specs.Promises.{Emptied, Put, Cleared, AtPlace, Placed}
 use Rattle.tables.proofs.Tests.{clash}
 use Rattle.tables.proofs.Sizes.{serves-tells}
-use Rattle.tables.proofs.Places.{ruleAt-bound, ruleAt-found, ruleAt-hasPlace}
+use Rattle.tables.proofs.Places.{ruleAt-bound, ruleAt-found, ruleAt-hasPlace, found-inOrder, found-inside, found-nowhere}
 use Rattle.tables.proofs.Putting.{accepted-put}
 use Rattle.tables.proofs.Without.{cleared-meaning}
 
@@ -107,4 +108,14 @@ at-place k c r e = record {
   place = rw e (ruleAt-found k c);
   inside = λ n h. rw e (ruleAt-hasPlace n k c h);
   lower-first = λ x y b f. ruleAt-lower k c x y b (sym e ∙ f);
+}
+
+-- ---- the place of a rule
+
+pub placed : (rule : Rule) (r : Place) → r ≡ findPlace rule → Placed rule r
+placed rule r e = record {
+  reply = e;
+  nowhere = rw e (found-nowhere rule);
+  inside = λ k f. found-inside rule k (sym e ∙ f);
+  back = λ k f. found-inOrder rule k (sym e ∙ f);
 }

@@ -6,12 +6,14 @@ use mathlib.Core.List.{List, _++_}
 use Prim.Native.Nat.{ℕ, _/_, _<_}
 use lib.IntN.{ℤ}
 use lib.ListN.{length, drop}
-use Rattle.places.specs.declared.Place.the-variants.{At}
+use Rattle.places.specs.declared.Place.{Place}
+use Rattle.places.specs.declared.Place.the-variants.{At, Nowhere}
 use Rattle.places.specs.Numbering.{blockStart}
 use Rattle.rules.specs.declared.rule.Rule.{Rule}
 use Rattle.rules.specs.declared.rule.Rule.the-variants.{Two}
 use Rattle.rules.specs.declared.refusal.Refusal.the-variants.{Size}
 use Rattle.rules.specs.Meaning.{Assignment, Meets, boundOf}
+use Rattle.rules.specs.Steps.{inOrder}
 use Rattle.tables.specs.Places.{ruleAt, findPlace, HasPlace}
 use Rattle.tables.specs.declared.reply.Reply.{Reply}
 use Rattle.tables.specs.declared.reply.Reply.the-variants.{Done, Refused}
@@ -49,3 +51,11 @@ pub record AtPlace (k : ℕ) (c : ℤ) (r : Rule) : Type 0 where
   pub place : findPlace r ≡ At k
   pub inside : (n : ℕ) → k < blockStart n → HasPlace n r
   pub lower-first : (x y : ℕ) (b : ℤ) → r ≡ Two x y b → x / 2 < y / 2
+
+-- where a rule's term stands: nowhere where no table has a place for it; else at a place that just those tables have which have room for the rule, and the rule
+-- of that place, with its bound, is the rule itself, the lower quantity first
+pub record Placed (rule : Rule) (r : Place) : Type 0 where
+  pub reply : r ≡ findPlace rule
+  pub nowhere : (r ≡ Nowhere) ↔ ((n : ℕ) → HasPlace n rule → ⊥)
+  pub inside : (k : ℕ) → r ≡ At k → (n : ℕ) → (k < blockStart n) ↔ HasPlace n rule
+  pub back : (k : ℕ) → r ≡ At k → ruleAt k (boundOf rule) ≡ inOrder rule

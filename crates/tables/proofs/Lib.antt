@@ -14,3 +14,4 @@ pub mod Needed
 pub mod Lists
 pub mod Promised
 pub mod SheetA
+mod Examples

@@ -7,7 +7,7 @@ use lib.ListN.{length, drop}
 use lib.Seq.{drop-append-seam}
 use borrow.Author.Tests.{leb-true}
 use Rattle.rules.specs.Limits.{maxQuantities, maxRules, maxBound}
-use Rattle.tables.specs.Tables.{AllAccepted}
+use Rattle.tables.proofs.Lists.{AllAccepted}
 use Rattle.tables.proofs.Tests.{both-true}
 use Rattle.lines.specs.Spelling.{Written, rule, lineText, lineWithin, writtenRules}
 use Rattle.lines.specs.Lines.{accepted, judged, ruleJudged}

@@ -10,14 +10,20 @@ use lib.IntN.{ℤ}
 use borrow.Author.Tests.{ltb-true, ltb-false, lt-ltb, le-ltb, eqb-true, eqb-false, eq-eqb, ne-eqb}
 use Rattle.places.specs.declared.Place.{Place}
 use Rattle.places.specs.declared.Place.the-variants.{At, Nowhere}
-use Rattle.places.specs.Numbering.{blockStart, placeOfPair, placeOfTwo, findTwo, blockOf, offsetOf, isOne, higherAt, lowerAt}
+use Rattle.places.specs.Numbering.{blockStart, placeOfOne, placeOfPair, placeOfTwo, findTwo, blockOf, offsetOf, isOne, higherAt, lowerAt}
 use Rattle.places.proofs.Numbering.{block-ends, one-below, pair-below, one-isOne, one-higher, pair-isOne, pair-higher, pair-lower, higher-half, at-one, at-lower, at-pair, at-below}
 use Rattle.rules.specs.declared.rule.Rule.{Rule}
 use Rattle.rules.specs.declared.rule.Rule.the-variants.{One, Two, Nothing}
 use Rattle.rules.specs.Literal.{quantityOf}
 use Rattle.rules.specs.Meaning.{boundOf, names}
 use Rattle.rules.specs.Steps.{inOrder}
-use Rattle.tables.specs.Places.{ruleAt, placeOf, findPlace, HasPlace}
+use Rattle.tables.specs.Places.{ruleAt, findPlace, HasPlace}
+
+-- the place of a term of one quantity, or of two different ones
+unfoldable pub placeOf : Rule → ℕ
+placeOf (One x c) = placeOfOne x
+placeOf (Two x y c) = placeOfTwo x y
+placeOf (Nothing c) = 0
 
 -- ---- each place is that of a term
 

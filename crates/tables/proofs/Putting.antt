@@ -25,10 +25,10 @@ use Rattle.rules.specs.Steps.{halvedOf}
 use Rattle.rules.proofs.Meanings.{halved-meaning}
 use Rattle.tables.specs.declared.reply.Reply.the-variants.{Done}
 use Rattle.tables.specs.Replies.{check}
-use Rattle.tables.specs.Places.{ruleAt, placeOf, findPlace, HasPlace}
+use Rattle.tables.specs.Places.{ruleAt, findPlace, HasPlace}
 use Rattle.tables.specs.Tables.{hasRule, ruleReply, putAt, putHalved, putRule}
 use Rattle.tables.specs.Meaning.{HoldsRule, ruleIn, Satisfies}
-use Rattle.tables.proofs.Places.{hasPlace-below, found-two}
+use Rattle.tables.proofs.Places.{placeOf, hasPlace-below, found-two}
 use Rattle.tables.proofs.Values.{place-value, meets-at, at-meets}
 use Rattle.tables.proofs.Tests.{passed, both-true}
 

@@ -1,7 +1,6 @@
 -- The table's steps: its size, its empty form, a rule put in, a quantity's places cleared, and the test of its words.
 use mathlib.Core.Bool.{Bool, true, false, cond, not, _&&_}
 use mathlib.Core.List.{List, [], _∷_}
-use mathlib.Core.Path.{_≡_}
 use Prim.Native.Nat.{ℕ, zero, suc, _*_}
 use lib.Dec.{leb, ltb, eqb}
 use lib.IntN.{ℤ, pos, negℤ}
@@ -89,11 +88,6 @@ putRule t r = putHalved t (halvedOf r)
 unfoldable pub putAll : List ℤ → List Rule → List ℤ
 putAll t [] = t
 putAll t (r ∷ rs) = putAll (putRule t r) rs
-
--- every rule of a list is accepted for n quantities
-abbrev pub AllAccepted : ℕ → List Rule → Type 0
-AllAccepted n [] = Unit {0}
-AllAccepted n (r ∷ rs) = (ruleReply n (halvedOf r) ≡ Done) × AllAccepted n rs
 
 -- the empty table with a list of rules put in
 abbrev pub tableOf : ℕ → List Rule → List ℤ

@@ -11,11 +11,13 @@ use Rattle.integers.specs.Bound.{Within}
 use Rattle.words.specs.Change.{wordAt, change, startingAt}
 use Rattle.places.specs.Numbering.{blockStart}
 use Rattle.rules.specs.Limits.{maxQuantities}
+use Rattle.rules.specs.declared.rule.Rule.{Rule}
 use Rattle.rules.specs.Meaning.{Assignment}
+use Rattle.rules.specs.Steps.{sumOver}
 use Rattle.tables.specs.Tables.{hasRule}
 use Rattle.tables.specs.Meaning.{Satisfies, Unsatisfiable, SheetAllows, WordsWithin, assignmentOf}
 use Rattle.elimination.specs.Hiding.{pairing, paired, contradicts, eliminated}
-use Rattle.elimination.specs.ByRules.{HiddenByRules}
+use Rattle.elimination.specs.ByRules.{IsSum, HiddenByRules}
 use Rattle.elimination.specs.Choosing.{choice}
 use Rattle.elimination.specs.Feasible.{Feasible}
 use Rattle.elimination.specs.Rows.{gathering}
@@ -95,12 +97,14 @@ pub record Paired (from n j : ℕ) (before : List ℤ) (r : Bool) (after : List 
   pub reply : r ≡ contradicts from n j before
   pub table : after ≡ paired from n j before
 
--- quantity j + 1 hidden, and whether a sum is a contradiction: place by place, and in document 01's words. The bounds at most double. Where there is no
--- contradiction, the table allows just what some integer for the quantity completes; where there is one, nothing satisfied the table
+-- quantity j + 1 hidden, and whether a sum is a contradiction: place by place, and in document 01's words, each sum being the one that `Rule::sum` hands back. The
+-- bounds at most double. Where there is no contradiction, the table allows just what some integer for the quantity completes; where there is one, nothing
+-- satisfied the table
 pub record QuantityHidden (n j : ℕ) (before : List ℤ) (r : Bool) (after : List ℤ) : Type 0 where
   pub reply : r ≡ contradicts 0 n j before
   pub table : after ≡ eliminated n j before
   pub rules : HiddenByRules n j before r after
+  pub sums : (u : Rule) (s : IsSum n j before u) → u ≡ sumOver (2 * j) (s .plus) (s .minus)
   pub growth : (B : ℕ) → WordsWithin (blockStart n) (pos B) before → WordsWithin (blockStart n) (pos (B + B)) after
   pub meaning : r ≡ false → (σ : Assignment) → Satisfies n after σ ↔ SheetAllows (eqb (suc j)) (Satisfies n before) σ
   pub none : r ≡ true → Unsatisfiable n before

@@ -16,12 +16,13 @@ use Rattle.tables.specs.Tables.{clearReply}
 use Rattle.tables.specs.Promises.{Cleared}
 use Rattle.tables.proofs.Sizes.{long-serves}
 use Rattle.elimination.specs.Hiding.{eliminated}
-use Rattle.elimination.specs.Promises.{Ready, Paired, QuantityHidden}
+use Rattle.elimination.specs.Promises.{Paired, QuantityHidden}
 use Rattle.elimination.proofs.Step.{Adds, paired-length}
 use Rattle.elimination.proofs.Exact.{eliminate-exact, eliminate-none}
 use Rattle.elimination.proofs.Growth.{eliminated-within}
 use Rattle.elimination.proofs.Document.{by-rules}
 use Rattle.elimination.proofs.SumOver.{sums-over}
+use Rattle.elimination.specs.Inner.{Ready}
 
 clear-done : (n j words : ℕ) → j < n → n ≤ maxQuantities → blockStart n ≤ words → clearReply n words (suc j) ≡ Done
 unfolding clearReply

@@ -17,8 +17,9 @@ use Rattle.keys.specs.Promises.{AllPaired}
 use Rattle.keys.proofs.Deciding.{refuted-exactly}
 use Rattle.keys.proofs.Growing.{pair-ample}
 use Rattle.tightening.specs.Tightening.{strengthened, tightened}
-use Rattle.tightening.specs.Promises.{Adding, Tightened}
+use Rattle.tightening.specs.Promises.{Tightened}
 use Rattle.tightening.proofs.Least.{clash-refuted, tightened-least}
+use Rattle.tightening.specs.Inner.{Adding}
 
 -- the words of a table paired without a contradiction add
 pub clear-adding : (n : ℕ) (t u : List ℤ) → Fits n t → AllPaired false n t false u → Adding n u

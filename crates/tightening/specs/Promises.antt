@@ -3,36 +3,17 @@ use mathlib.Core.Bool.{Bool, true, false}
 use mathlib.Core.Path.{_≡_}
 use mathlib.Core.Logic.{_↔_}
 use mathlib.Core.List.{List}
-use Prim.Native.Nat.{ℕ, _*_, _≤_, _<_}
+use Prim.Native.Nat.{ℕ, _<_}
 use lib.IntN.{ℤ}
-use lib.ListN.{length}
 use lib.Signed.{_<ℤ_}
-use Rattle.words.specs.Change.{wordAt, change}
+use Rattle.words.specs.Change.{wordAt}
 use Rattle.words.specs.Lent.{Lent}
 use Rattle.places.specs.Numbering.{blockStart}
-use Rattle.rules.specs.Limits.{maxQuantities}
 use Rattle.tables.specs.Places.{ruleAt}
 use Rattle.tables.specs.Tables.{hasRule}
-use Rattle.tables.specs.Meaning.{Satisfies, Unsatisfiable, Breaks, WordsWithin}
-use Rattle.elimination.specs.Magnitude.{addLimit}
+use Rattle.tables.specs.Meaning.{Satisfies, Unsatisfiable, Breaks}
 use Rattle.keys.specs.Keys.{refuted}
-use Rattle.tightening.specs.Tightening.{tightened, gatheringLone}
-
--- a table over n quantities whose words add
-pub record Adding (n : ℕ) (t : List ℤ) : Type 0 where
-  pub most : n ≤ maxQuantities
-  pub room : blockStart n ≤ length t
-  pub words : WordsWithin (blockStart n) addLimit t
-
--- a table over n quantities, and a row with room for the bound of each literal alone
-pub record LoneGatherable (n : ℕ) (table row : List ℤ) : Type 0 where
-  pub most : n ≤ maxQuantities
-  pub room : blockStart n ≤ length table
-  pub row-room : 2 * n ≤ length row
-
--- these bounds gathered
-pub record LoneGathered (n : ℕ) (table before after : List ℤ) : Type 0 where
-  pub row : after ≡ change (2 * n) (gatheringLone table) before
+use Rattle.tightening.specs.Tightening.{tightened}
 
 -- a table made the tightest, and whether no integers satisfy it. Where some do, each word is the least bound of its term: a bound is smaller exactly where
 -- some assignment that satisfies the table breaks it, and where the word is no rule, every bound is broken. Where none do, the table's words are free

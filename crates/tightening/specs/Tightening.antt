@@ -19,7 +19,3 @@ strengthened n t = change (blockStart n) (strengthening t) t
 -- the tightest table
 unfoldable pub tightened : ℕ → List ℤ → List ℤ
 tightened n t = strengthened n (pairUpTo false n n t)
-
--- as a change: the bounds of each literal alone
-abbrev pub gatheringLone : List ℤ → ℕ → ℤ → ℤ
-gatheringLone t x w = loneWord t x

@@ -1,152 +1,163 @@
--- What the calls' checks answer, and what it tells that they pass. Assumes nothing.
+-- The two calls' checks: which refusal stands at each, what it tells that they pass, and that they are document 01's. Assumes nothing.
 use mathlib.Core.Path.{_≡_, refl, sym, _∙_}
-use mathlib.Core.Bool.{Bool, true, false, _&&_, and-false}
+use mathlib.Core.Bool.{Bool, true, false, not, _&&_, and-false}
 use mathlib.Core.List.{List}
+use mathlib.Core.Logic.{_↔_}
 use Prim.Native.Nat.{ℕ, _≤_, _<_}
 use native.Mathlib.Omega.{arith}
-use lib.Dec.{ltb}
+use lib.Dec.{leb}
 use lib.IntN.{ℤ, pos}
 use lib.ListN.{length}
-use borrow.Author.Tests.{ltb-false, lt-ltb, le-ltb}
+use borrow.Author.Tests.{leb-true, le-leb, lt-leb}
 use Rattle.places.specs.Numbering.{blockStart}
+use Rattle.rules.specs.declared.paper.Paper.{Paper}
+use Rattle.rules.specs.declared.paper.Paper.the-variants.{Sheet}
 use Rattle.rules.specs.declared.refusal.Refusal.{Refusal}
-use Rattle.rules.specs.declared.refusal.Refusal.the-variants.{Size, OutOfLimit, TooShort}
+use Rattle.rules.specs.declared.refusal.Refusal.the-variants.{Size, OutOfLimit, NoAssignment, TooShort}
 use Rattle.rules.specs.Hidden.{setWithin}
-use Rattle.rules.specs.Limits.{maxBound}
+use Rattle.rules.specs.Limits.{boundLimit}
 use Rattle.tables.specs.declared.reply.Reply.{Reply}
 use Rattle.tables.specs.declared.reply.Reply.the-variants.{Done, Refused}
 use Rattle.tables.specs.Tables.{tableSize, serves}
-use Rattle.tables.specs.Meaning.{WordsWithin}
+use Rattle.tables.specs.Meaning.{TableSized, Satisfiable, Unsatisfiable}
 use Rattle.tables.specs.Promises.{InLimit}
-use Rattle.tables.proofs.Tests.{passed, not-refused, both-true, refused-done}
+use Rattle.tables.proofs.Tests.{both-true, refused-done, clash}
 use Rattle.tables.proofs.Limits.{wordsInLimit-within}
-use Rattle.tables.proofs.Sizes.{Served, serves-tells}
-use Rattle.tables.specs.Replies.{andThen, lengthReply, limitReply}
-use Rattle.keys.specs.Keys.{lentChecks, inSheetLimit, keyChecks, assignmentChecks}
-use Rattle.keys.specs.Reducing.{Fits}
-use Rattle.keys.proofs.Fitting.{sheet-fits}
+use Rattle.tables.proofs.Sizes.{serves-sized, serves-tells}
+use Rattle.tables.proofs.Refusing.{Tied, tied-done, tied-more}
+use Rattle.keys.specs.Keys.{every, refuted, boundsInLimit, keyReply, assignmentReply}
+use Rattle.keys.specs.Inner.{Fits, KeyChecked, AssignmentChecked}
+use Rattle.keys.specs.Meaning.{BoundsWithin, NumbersWithin, keyNeeds, assignmentNeeds}
+use Rattle.keys.proofs.Several.{refuted-false}
+use Rattle.keys.proofs.Fitting.{paper-fits, hide-ample}
+use Rattle.keys.proofs.Deciding.{refuted-exactly}
 
--- ---- one check after the other
+-- ---- the tests, and what they mean
 
-pub then-passed : (a b : Reply) → a ≡ Done → andThen a b ≡ b
-unfolding andThen
-then-passed a b e = rw e
+pub length-test : (a b : ℕ) → (leb a b ≡ true) ↔ (a ≤ b)
+length-test a b = (leb-true a b, le-leb a b)
 
-pub then-refused : (a b : Reply) (f : Refusal) → a ≡ Refused f → andThen a b ≡ a
-unfolding andThen
-then-refused a b f e = rw e
+pub bounds : (paper : Paper) (n set : ℕ) (t : List ℤ) → (boundsInLimit paper n set t ≡ true) ↔ BoundsWithin paper n set t
+bounds paper n set t = wordsInLimit-within (blockStart n) (pos (boundLimit paper n set)) t
 
-then-tells : (a b : Reply) → andThen a b ≡ Done → (a ≡ Done) × (b ≡ Done)
-unfolding andThen
-then-tells Done b e = (refl, e)
-then-tells (Refused f) b e = absurd (refused-done e)
+numbers : (n set : ℕ) (t : List ℤ) → ((setWithin n set && boundsInLimit Sheet n set t) ≡ true) ↔ NumbersWithin n set t
+numbers n set t = (
+  λ e. let p = both-true (setWithin n set) (boundsInLimit Sheet n set t) e in (p .0, bounds Sheet n set t .0 (p .1)),
+  λ p. rw (p .0, bounds Sheet n set t .1 (p .1)),
+)
 
--- ---- a table and a workspace
+-- the test of a table's words by its size is that of its bounds
+pub limit-test : (paper : Paper) (n set m : ℕ) (limit : ℤ) (t : List ℤ) (r : Bool) → serves n (length t) ≡ true → m ≡ tableSize n
+    → limit ≡ pos (boundLimit paper n set) → InLimit m limit t r → boundsInLimit paper n set t ≡ r
+limit-test paper n set m limit t r e d l i = let s : m ≡ blockStart n = d ∙ serves-tells n (length t) e .size in sym (rw (s, l) at (i .reply))
 
-pub lent-size : (n words workspace : ℕ) → serves n words ≡ false → Refused Size ≡ lentChecks n words workspace
-unfolding lentChecks
-lent-size n words workspace e = rw e
+-- 'no assignment' is decided
+module _ (n set : ℕ) (t : List ℤ) (s : TableSized n (length t)) (b : BoundsWithin Sheet n set t) where
+  pub checked-fits : Fits n t
+  checked-fits = paper-fits Sheet n set t (s .most) (s .room) b
 
-pub lent-short : (n words workspace needed : ℕ) → serves n words ≡ true → needed ≡ tableSize n → workspace < needed
-    → Refused (TooShort needed) ≡ lentChecks n words workspace
-unfolding lentChecks lengthReply
-lent-short n words workspace needed e d h =
-    let s = serves-tells n words e in
-    let p : needed ≡ blockStart n = d ∙ s .size in
-    rw (e, p, lt-ltb workspace (blockStart n) (omega arith))
+  pub decided-none : (refuted n t ≡ true) ↔ Unsatisfiable n t
+  decided-none = refuted-exactly n t checked-fits
 
-pub lent-done : (n words workspace needed : ℕ) → serves n words ≡ true → needed ≡ tableSize n → needed ≤ workspace → Done ≡ lentChecks n words workspace
-unfolding lentChecks lengthReply
-lent-done n words workspace needed e d h =
-    let s = serves-tells n words e in
-    let p : needed ≡ blockStart n = d ∙ s .size in
-    rw (e, le-ltb workspace (blockStart n) (omega arith))
+  pub decided-some : (not (refuted n t) ≡ true) ↔ Satisfiable n t
+  decided-some = (go (refuted n t) refl, λ x. back x (refuted n t) refl)
+    where
+      go : (d : Bool) → refuted n t ≡ d → not d ≡ true → Satisfiable n t
+      go true e c = clash refl (sym c)
+      go false e c = refuted-false n t (s .room) (hide-ample every n t checked-fits) e
 
--- what it tells that both serve
-pub record Lending (n words workspace : ℕ) : Type 0 where
-  pub served : Served n words
-  pub long : blockStart n ≤ workspace
+      back : Satisfiable n t → (d : Bool) → refuted n t ≡ d → not d ≡ true
+      back x true e = absurd (decided-none .0 e (x .assignment) (x .satisfies))
+      back x false e = refl
 
-pub lent-tells : (n words workspace : ℕ) → lentChecks n words workspace ≡ Done → Lending n words workspace
-unfolding lentChecks lengthReply
-lent-tells n words workspace e =
-    let p = passed (serves n words) (lengthReply workspace (blockStart n)) Size e in
-    let q = not-refused (ltb workspace (blockStart n)) Done (TooShort (blockStart n)) (p .1) in
-    record { served = serves-tells n words (p .0); long = ltb-false workspace (blockStart n) (q .0) }
+-- ---- the calls are refused by the first need that is not met
 
--- the test of a served table's words is that of the sheet's
-pub sheet-test : (n m workspace : ℕ) (t : List ℤ) (r : Bool) → lentChecks n (length t) workspace ≡ Done → m ≡ tableSize n → InLimit m (pos maxBound) t r
-    → inSheetLimit n t ≡ r
-sheet-test n m workspace t r e d i =
-    let p : m ≡ blockStart n = d ∙ lent-tells n (length t) workspace e .served .size in sym (rw p at (i .reply))
+pub key-tied : (n set : ℕ) (t : List ℤ) (w : ℕ) → Tied (keyNeeds n set t w) (keyReply n set t w)
+unfolding keyReply
+key-tied n set t w =
+    tied-more _ _ _ _ _ (serves-sized n (length t)) (λ s.
+    tied-more _ _ _ _ _ (length-test (blockStart n) w) (λ l.
+    tied-more _ _ _ _ _ (numbers n set t) (λ m.
+    tied-more _ _ _ _ _ (decided-some n set t s (m .1)) (λ x. tied-done))))
 
--- ---- the key call
+pub assignment-tied : (n : ℕ) (t : List ℤ) (w v : ℕ) → Tied (assignmentNeeds n t w v) (assignmentReply n t w v)
+unfolding assignmentReply
+assignment-tied n t w v =
+    tied-more _ _ _ _ _ (serves-sized n (length t)) (λ s.
+    tied-more _ _ _ _ _ (length-test (blockStart n) w) (λ l.
+    tied-more _ _ _ _ _ (length-test n v) (λ k.
+    tied-more _ _ _ _ _ (bounds Sheet n 0 t) (λ b.
+    tied-more _ _ _ _ _ (decided-some n 0 t s b) (λ x. tied-done)))))
 
-limit-passed : (b : Bool) → limitReply b ≡ Done → b ≡ true
-unfolding limitReply
-limit-passed b e = passed b Done (OutOfLimit 0) e .0
+-- ---- at each check of the key call
 
-pub key-set : (n set workspace : ℕ) (t : List ℤ) → lentChecks n (length t) workspace ≡ Done → setWithin n set ≡ false
-    → Refused (OutOfLimit 0) ≡ keyChecks n set t workspace
-unfolding keyChecks limitReply
-key-set n set workspace t e d = rw (then-passed (lentChecks n (length t) workspace) (limitReply (setWithin n set && inSheetLimit n t)) e, d)
+-- a refusal that is the call's reply
+pub key-stops : (n set : ℕ) (t : List ℤ) (w : ℕ) (f : Refusal) → Refused f ≡ keyReply n set t w → KeyChecked n set t w (Refused f)
+key-stops n set t w f e = record { stands = λ g d. e; passes = λ d. absurd (refused-done d) }
 
-pub key-words : (n set workspace : ℕ) (t : List ℤ) → lentChecks n (length t) workspace ≡ Done → inSheetLimit n t ≡ false
-    → Refused (OutOfLimit 0) ≡ keyChecks n set t workspace
-unfolding keyChecks limitReply
-key-words n set workspace t e f =
-    rw (then-passed (lentChecks n (length t) workspace) (limitReply (setWithin n set && inSheetLimit n t)) e, f, and-false (setWithin n set))
+module _ (n set : ℕ) (t : List ℤ) (w : ℕ) where
+  pub key-size : serves n (length t) ≡ false → KeyChecked n set t w (Refused Size)
+  unfolding keyReply
+  key-size e = key-stops n set t w Size (rw e)
 
-pub key-passed : (n set workspace : ℕ) (t : List ℤ) → lentChecks n (length t) workspace ≡ Done → setWithin n set ≡ true → inSheetLimit n t ≡ true
-    → Done ≡ keyChecks n set t workspace
-unfolding keyChecks limitReply
-key-passed n set workspace t e d f =
-    rw (then-passed (lentChecks n (length t) workspace) (limitReply (setWithin n set && inSheetLimit n t)) e, d, f)
+  module _ (m : ℕ) (e : serves n (length t) ≡ true) (d : m ≡ tableSize n) where
+    size : m ≡ blockStart n
+    size = d ∙ serves-tells n (length t) e .size
 
-pub key-lent : (n set workspace : ℕ) (t : List ℤ) (r : Reply) (f : Refusal) → r ≡ lentChecks n (length t) workspace → r ≡ Refused f
-    → r ≡ keyChecks n set t workspace
-unfolding keyChecks
-key-lent n set workspace t r f e d =
-    e ∙ sym (then-refused (lentChecks n (length t) workspace) (limitReply (setWithin n set && inSheetLimit n t)) f (sym e ∙ d))
+    pub key-short : w < m → KeyChecked n set t w (Refused (TooShort m))
+    unfolding keyReply
+    key-short h = key-stops n set t w (TooShort m) (rw (e, lt-leb (blockStart n) w (omega (arith, size)), size))
 
-pub key-tells : (n set workspace : ℕ) (t : List ℤ) → keyChecks n set t workspace ≡ Done
-    → Lending n (length t) workspace × Fits n t × WordsWithin (blockStart n) (pos maxBound) t
-unfolding keyChecks
-key-tells n set workspace t e =
-    let p = then-tells (lentChecks n (length t) workspace) (limitReply (setWithin n set && inSheetLimit n t)) e in
-    let l = lent-tells n (length t) workspace (p .0) in
-    let q = both-true (setWithin n set) (inSheetLimit n t) (limit-passed (setWithin n set && inSheetLimit n t) (p .1)) in
-    (l, sheet-fits n t (l .served .most) (l .served .room) (q .1), wordsInLimit-within (blockStart n) (pos maxBound) t .0 (q .1))
+    module _ (l : m ≤ w) where
+      pub key-set : setWithin n set ≡ false → KeyChecked n set t w (Refused (OutOfLimit 0))
+      unfolding keyReply
+      key-set f = key-stops n set t w (OutOfLimit 0) (rw (e, le-leb (blockStart n) w (omega (arith, size)), f))
 
--- ---- the assignment call
+      pub key-words : boundsInLimit Sheet n set t ≡ false → KeyChecked n set t w (Refused (OutOfLimit 0))
+      unfolding keyReply
+      key-words i =
+          key-stops n set t w (OutOfLimit 0)
+          (rw (e, le-leb (blockStart n) w (omega (arith, size)), i, and-false (setWithin n set)))
 
-pub values-short : (n workspace values : ℕ) (t : List ℤ) → lentChecks n (length t) workspace ≡ Done → values < n
-    → Refused (TooShort n) ≡ assignmentChecks n t workspace values
-unfolding assignmentChecks lengthReply andThen
-values-short n workspace values t e h = rw (e, lt-ltb values n h)
+      pub key-passes : setWithin n set ≡ true → boundsInLimit Sheet n set t ≡ true → KeyChecked n set t w Done
+      key-passes f i = record {
+        stands = λ g c. absurd (refused-done (sym c));
+        passes = λ c.
+            (serves-sized n (length t) .0 e, omega (arith, size), (f, bounds Sheet n set t .0 i));
+      }
 
-pub values-words : (n workspace values : ℕ) (t : List ℤ) → lentChecks n (length t) workspace ≡ Done → n ≤ values → inSheetLimit n t ≡ false
-    → Refused (OutOfLimit 0) ≡ assignmentChecks n t workspace values
-unfolding assignmentChecks lengthReply andThen limitReply
-values-words n workspace values t e h f = rw (e, le-ltb values n h, f)
+-- ---- and of the assignment call
 
-pub values-passed : (n workspace values : ℕ) (t : List ℤ) → lentChecks n (length t) workspace ≡ Done → n ≤ values → inSheetLimit n t ≡ true
-    → Done ≡ assignmentChecks n t workspace values
-unfolding assignmentChecks lengthReply andThen limitReply
-values-passed n workspace values t e h f = rw (e, le-ltb values n h, f)
+pub assignment-stops : (n : ℕ) (t : List ℤ) (w v : ℕ) (f : Refusal) → Refused f ≡ assignmentReply n t w v → AssignmentChecked n t w v (Refused f)
+assignment-stops n t w v f e = record { stands = λ g d. e; passes = λ d. absurd (refused-done d) }
 
-pub values-lent : (n workspace values : ℕ) (t : List ℤ) (r : Reply) (f : Refusal) → r ≡ lentChecks n (length t) workspace → r ≡ Refused f
-    → r ≡ assignmentChecks n t workspace values
-unfolding assignmentChecks
-values-lent n workspace values t r f e d =
-    e ∙ sym (then-refused (lentChecks n (length t) workspace) (andThen (lengthReply values n) (limitReply (inSheetLimit n t))) f (sym e ∙ d))
+module _ (n : ℕ) (t : List ℤ) (w v : ℕ) where
+  pub assignment-size : serves n (length t) ≡ false → AssignmentChecked n t w v (Refused Size)
+  unfolding assignmentReply
+  assignment-size e = assignment-stops n t w v Size (rw e)
 
-pub assignment-tells : (n workspace values : ℕ) (t : List ℤ) → assignmentChecks n t workspace values ≡ Done
-    → Lending n (length t) workspace × (n ≤ values) × Fits n t
-unfolding assignmentChecks lengthReply
-assignment-tells n workspace values t e =
-    let p = then-tells (lentChecks n (length t) workspace) (andThen (lengthReply values n) (limitReply (inSheetLimit n t))) e in
-    let l = lent-tells n (length t) workspace (p .0) in
-    let q = then-tells (lengthReply values n) (limitReply (inSheetLimit n t)) (p .1) in
-    let v = not-refused (ltb values n) Done (TooShort n) (q .0) in
-    (l, ltb-false values n (v .0), sheet-fits n t (l .served .most) (l .served .room) (limit-passed (inSheetLimit n t) (q .1)))
+  module _ (m : ℕ) (e : serves n (length t) ≡ true) (d : m ≡ tableSize n) where
+    sized : m ≡ blockStart n
+    sized = d ∙ serves-tells n (length t) e .size
+
+    pub assignment-short : w < m → AssignmentChecked n t w v (Refused (TooShort m))
+    unfolding assignmentReply
+    assignment-short h = assignment-stops n t w v (TooShort m) (rw (e, lt-leb (blockStart n) w (omega (arith, sized)), sized))
+
+    module _ (l : m ≤ w) where
+      pub assignment-brief : v < n → AssignmentChecked n t w v (Refused (TooShort n))
+      unfolding assignmentReply
+      assignment-brief h = assignment-stops n t w v (TooShort n) (rw (e, le-leb (blockStart n) w (omega (arith, sized)), lt-leb n v h))
+
+      pub assignment-words : n ≤ v → boundsInLimit Sheet n 0 t ≡ false → AssignmentChecked n t w v (Refused (OutOfLimit 0))
+      unfolding assignmentReply
+      assignment-words k i =
+          assignment-stops n t w v (OutOfLimit 0)
+          (rw (e, le-leb (blockStart n) w (omega (arith, sized)), le-leb n v k, i))
+
+      pub assignment-passes : n ≤ v → boundsInLimit Sheet n 0 t ≡ true → AssignmentChecked n t w v Done
+      assignment-passes k i = record {
+        stands = λ g c. absurd (refused-done (sym c));
+        passes = λ c.
+            (serves-sized n (length t) .0 e, omega (arith, sized), k, bounds Sheet n 0 t .0 i);
+      }

@@ -13,7 +13,7 @@ use Rattle.places.specs.Numbering.{blockStart}
 use Rattle.rules.specs.Meaning.{Assignment}
 use Rattle.tables.specs.Meaning.{HoldsRule, Satisfies, WordsWithin}
 use Rattle.elimination.specs.Magnitude.{Unnamed}
-use Rattle.keys.specs.Reducing.{Fits}
+use Rattle.keys.specs.Inner.{Fits}
 
 -- two tables over n quantities hold the same words
 pub record SameTable (n : ℕ) (t u : List ℤ) : Type 0 where

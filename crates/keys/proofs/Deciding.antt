@@ -16,8 +16,7 @@ use Rattle.tables.specs.Tables.{tableSize}
 use Rattle.tables.proofs.Tests.{clash}
 use Rattle.tables.proofs.Sizes.{size-whole}
 use Rattle.keys.specs.Keys.{every, refuted}
-use Rattle.keys.specs.Reducing.{pairUpTo, clashUpTo, fillDown, Fits}
-use Rattle.keys.specs.Promises.{AllPaired, Decided}
+use Rattle.keys.specs.Inner.{pairUpTo, clashUpTo, fillDown, Fits, AllPaired, Decided}
 use Rattle.keys.proofs.Several.{refuted-true, refuted-false}
 use Rattle.keys.proofs.Copying.{SameTable, copied, same-back, same-satisfies, same-fits}
 use Rattle.keys.proofs.Fitting.{hide-ample}

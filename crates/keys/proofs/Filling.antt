@@ -23,7 +23,7 @@ use Rattle.elimination.proofs.Terms.{TermsMet, satisfies-met}
 use Rattle.elimination.proofs.Exact.{upward-choose}
 use Rattle.elimination.proofs.Values.{literal-within}
 use Rattle.elimination.specs.Inner.{Valued}
-use Rattle.keys.specs.Reducing.{fillDown, Layered}
+use Rattle.keys.specs.Inner.{fillDown, Layered}
 use Rattle.keys.proofs.Fitting.{limit-rises}
 use Rattle.keys.proofs.Room.{Closed}
 

@@ -1,4 +1,4 @@
--- The sums fit: what hiding several quantities does to magnitudes, for any n and any limits, and that a table within the sheet's limits has room for all
+-- The sums fit: what hiding several quantities does to magnitudes, for any n and any limits, and that a table within a paper's limit has room for all
 -- steps. Assumes nothing.
 use mathlib.Core.Path.{_≡_, refl}
 use mathlib.Core.Bool.{Bool, true, false, cond}
@@ -13,17 +13,17 @@ use lib.ListN.{length}
 use borrow.Author.Tests.{ltb-true, ltb-false}
 use Rattle.integers.proofs.Within.{within-mono}
 use Rattle.places.specs.Numbering.{blockStart}
-use Rattle.rules.specs.Limits.{maxQuantities, maxBound}
+use Rattle.rules.specs.declared.paper.Paper.{Paper}
+use Rattle.rules.specs.Limits.{maxQuantities, maxBound, boundLimit}
 use Rattle.rules.specs.Hidden.{hiddenCount}
 use Rattle.tables.specs.Meaning.{WordsWithin}
-use Rattle.tables.proofs.Limits.{wordsInLimit-within}
 use Rattle.elimination.specs.Hiding.{eliminated}
 use Rattle.elimination.specs.Magnitude.{Unnamed}
 use Rattle.elimination.proofs.Growth.{eliminated-within}
 use Rattle.elimination.proofs.Unnamed.{eliminated-unnamed-within, unnamed-eliminated}
 use Rattle.elimination.specs.Inner.{Ready}
-use Rattle.keys.specs.Keys.{hideUpTo, keyOf, inSheetLimit}
-use Rattle.keys.specs.Reducing.{Grows, Fits}
+use Rattle.keys.specs.Keys.{hideUpTo, keyOf}
+use Rattle.keys.specs.Inner.{Grows, Fits}
 use Rattle.keys.proofs.Several.{Ample, AmpleUpTo, hideUpTo-length}
 
 -- limits that each step raises do not fall
@@ -133,25 +133,33 @@ hide-ample hidden n t f j h =
 pub hide-ready : (hidden : ℕ → Bool) (n j : ℕ) (t : List ℤ) → Fits n t → j < n → Ready n j (hideUpTo hidden n j t)
 hide-ready hidden n j t f h = let a = hide-ample hidden n t f j h in record { most = f .most; one = h; room = a .room; words = a .words }
 
--- ---- the sheet's limits
+-- ---- a paper's limit
 
 -- a bound at most doubles at each step
-abbrev pub sheetLimit : ℕ → ℕ
-sheetLimit j = maxBound * 2 ^ j
+doubling : (B n j : ℕ) → j < n → (B * 2 ^ j ≤ B * 2 ^ j) × (B * 2 ^ j + B * 2 ^ j ≤ B * 2 ^ suc j)
+doubling B n j h = (omega arith, rw (doubled B j) (omega arith))
 
-sheet-step : (n j : ℕ) → j < n → (sheetLimit j ≤ sheetLimit j) × (sheetLimit j + sheetLimit j ≤ sheetLimit (suc j))
-sheet-step n j h = (omega arith, omega arith)
+-- the one fact about numbers: doubled once for each quantity, the limit of a paper is below 2 ^ 62
+pub limit-doubled : (paper : Paper) (n set : ℕ) → n ≤ maxQuantities → boundLimit paper n set * 2 ^ n < 2 ^ 62
+unfolding boundLimit
+limit-doubled paper n set h =
+    omega (
+      arith,
+      limit-rises maxQuantities (λ j. maxBound * 2 ^ j) (λ j. maxBound * 2 ^ j) (doubling maxBound maxQuantities) n maxQuantities h (omega arith),
+    )
 
-pub sheet-fits : (n : ℕ) (t : List ℤ) → n ≤ maxQuantities → blockStart n ≤ length t → inSheetLimit n t ≡ true → Fits n t
-sheet-fits n t h l e = record {
+-- so sums fit in the table of a paper
+pub paper-fits : (paper : Paper) (n set : ℕ) (t : List ℤ) → n ≤ maxQuantities → blockStart n ≤ length t
+    → WordsWithin (blockStart n) (pos (boundLimit paper n set)) t → Fits n t
+paper-fits paper n set t h l w = record {
   most = h;
-  limit = sheetLimit;
-  reach = sheetLimit;
+  limit = λ j. boundLimit paper n set * 2 ^ j;
+  reach = λ j. boundLimit paper n set * 2 ^ j;
   grows = record {
     room = l;
-    start = words-mono (blockStart n) maxBound (sheetLimit 0) t (omega arith) (wordsInLimit-within (blockStart n) (pos maxBound) t .0 e);
+    start = words-mono (blockStart n) (boundLimit paper n set) (boundLimit paper n set * 2 ^ 0) t (omega arith) w;
     named = λ j g. inl refl;
-    step = sheet-step n;
+    step = doubling (boundLimit paper n set) n;
   };
-  last = omega (arith, limit-rises maxQuantities sheetLimit sheetLimit (sheet-step maxQuantities) n maxQuantities h (omega arith));
+  last = limit-doubled paper n set h;
 }

@@ -15,7 +15,7 @@ use Rattle.elimination.specs.Magnitude.{Unnamed}
 use Rattle.elimination.proofs.Growth.{paired-within}
 use Rattle.elimination.proofs.Unnamed.{unnamed-same, unnamed-paired}
 use Rattle.elimination.specs.Inner.{Ready}
-use Rattle.keys.specs.Reducing.{pairedFrom, pairUpTo, Fits}
+use Rattle.keys.specs.Inner.{pairedFrom, pairUpTo, Fits}
 use Rattle.keys.proofs.Several.{Ample}
 use Rattle.keys.proofs.Fitting.{words-mono, limit-ample}
 use Rattle.keys.proofs.Pairing.{pairUpTo-length, pair-room}

@@ -16,7 +16,7 @@ use Rattle.elimination.specs.Magnitude.{Past, OwnWithin, Unnamed}
 use Rattle.elimination.proofs.Step.{pair-early, lone-early}
 use Rattle.elimination.proofs.Growth.{words-own}
 use Rattle.elimination.proofs.Unnamed.{unnamed-lone, unnamed-pair}
-use Rattle.keys.specs.Reducing.{pairUpTo, Fits, Layered}
+use Rattle.keys.specs.Inner.{pairUpTo, Fits, Layered}
 use Rattle.keys.proofs.Pairing.{pair-room}
 use Rattle.keys.proofs.Growing.{pair-unnamed, pair-within, pair-ample}
 

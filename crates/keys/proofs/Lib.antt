@@ -10,7 +10,6 @@ pub mod Filling
 pub mod Copying
 pub mod Deciding
 pub mod Checking
-pub mod Refusing
 pub mod Turns
 pub mod Promised
 pub mod Sheets

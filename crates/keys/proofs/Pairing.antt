@@ -18,8 +18,7 @@ use Rattle.elimination.specs.Hiding.{paired, contradicts}
 use Rattle.elimination.specs.Promises.{Paired}
 use Rattle.elimination.proofs.Step.{paired-length}
 use Rattle.elimination.proofs.Exact.{paired-kept, paired-only}
-use Rattle.keys.specs.Reducing.{pairedFrom, pairUpTo, clashUpTo}
-use Rattle.keys.specs.Promises.{AllPaired}
+use Rattle.keys.specs.Inner.{pairedFrom, pairUpTo, clashUpTo, AllPaired}
 use Rattle.keys.proofs.Several.{or-either}
 
 -- pairing keeps the table's length,

@@ -1,6 +1,7 @@
 -- The records of the two calls' contracts, from plain facts. Assumes nothing.
 use mathlib.Core.Path.{_≡_, refl, sym, _∙_}
-use mathlib.Core.Bool.{Bool, true, false, cond}
+use mathlib.Core.Bool.{Bool, true, false, cond, not}
+use mathlib.Core.Logic.{_↔_}
 use mathlib.Core.List.{List}
 use Prim.Native.Nat.{ℕ, zero, suc, _≤_}
 use native.Mathlib.Omega.{arith}
@@ -10,29 +11,33 @@ use Rattle.words.specs.Change.{change, copying}
 use Rattle.words.proofs.Change.{change-drop}
 use Rattle.words.specs.Lent.{Lent}
 use Rattle.places.specs.Numbering.{blockStart}
+use borrow.Author.Tests.{le-leb}
+use Rattle.rules.specs.declared.paper.Paper.the-variants.{Sheet}
 use Rattle.rules.specs.declared.refusal.Refusal.{Refusal}
 use Rattle.rules.specs.declared.refusal.Refusal.the-variants.{NoAssignment}
-use Rattle.rules.specs.Limits.{maxBound}
+use Rattle.rules.specs.Limits.{boundLimit}
 use Rattle.rules.proofs.Refusals.{refusal-number}
 use Rattle.rules.specs.Hidden.{hiddenIn}
 use Rattle.tables.specs.declared.reply.Reply.{Reply}
 use Rattle.tables.specs.declared.reply.Reply.the-variants.{Done, Refused}
 use Rattle.tables.specs.Tables.{cleared}
-use Rattle.tables.proofs.Tests.{refused-done, clash}
-use Rattle.tables.specs.Meaning.{assignmentOf}
-use Rattle.tables.specs.Replies.{replyNumber}
+use Rattle.tables.proofs.Tests.{clash}
+use Rattle.tables.specs.Meaning.{TableSized, Unsatisfiable, assignmentOf}
+use Rattle.tables.proofs.Sizes.{serves-sized}
+use Rattle.tables.proofs.Refusing.{tied-returned, tied-number}
+use Rattle.keys.specs.Meaning.{BoundsWithin, NumbersWithin}
+use Rattle.tables.specs.Replies.{replyNumber, check}
 use Rattle.elimination.specs.Hiding.{paired, eliminated}
-use Rattle.keys.specs.Keys.{every, hideUpTo, keyOf, refuted, orNoAssignment, keyChecks, keyReply, assignmentChecks, assignmentReply}
-use Rattle.keys.specs.Reducing.{pairUpTo, fillDown, Fits, Layered}
-use Rattle.keys.specs.Promises.{Keyed, Assigned, Decided}
+use Rattle.keys.specs.Keys.{every, hideUpTo, keyOf, refuted, keyReply, assignmentReply, freesWorkspace}
+use Rattle.keys.specs.Inner.{pairUpTo, fillDown, Fits, Layered, Decided}
+use Rattle.keys.specs.Promises.{Keyed, Assigned}
 use Rattle.keys.proofs.Several.{key-exact, key-visible, refuted-false}
 use Rattle.keys.proofs.Fitting.{hide-ample, key-within}
 use Rattle.keys.proofs.Copying.{SameTable, copied, same-back, same-satisfies, same-fits}
 use Rattle.keys.proofs.Layers.{reduced-layered}
 use Rattle.keys.proofs.Filling.{fillDown-length, fillDown-rest, filled-range}
 use Rattle.keys.proofs.Deciding.{reduced-satisfies, reduced-refuted}
-use Rattle.keys.proofs.Checking.{then-passed, then-refused, key-tells, assignment-tells}
-use Rattle.keys.proofs.Refusing.{key-reasons, assignment-reasons}
+use Rattle.keys.proofs.Checking.{bounds, checked-fits, decided-none, key-tied, assignment-tied}
 use Rattle.keys.proofs.Turns.{key-turns}
 
 -- ---- words past the table's
@@ -59,109 +64,110 @@ rest-key hidden n t = rest-hidden hidden n n t
 pub untouched : (m : ℕ) (free : Bool) (w : List ℤ) → Lent m free w w
 untouched m free w = record { size = refl; rest = refl; kept = λ e. refl }
 
-zero-five : _≡_ {A = ℕ} 0 5 → ⊥
-zero-five e = omega arith
-
 not-done : (r : Reply) (f : Refusal) → r ≡ Refused f → replyNumber r ≡ 0 → ⊥
 not-done r f d e = refusal-number f (rw d at e)
 
+-- past the checks before it, 5 exactly when no integers satisfy
+five-none : (n : ℕ) (t : List ℤ) (r : Reply) → r ≡ check (not (refuted n t)) NoAssignment Done → (refuted n t ≡ true) ↔ Unsatisfiable n t
+    → (replyNumber r ≡ 5) ↔ Unsatisfiable n t
+five-none n t r e d = (go (refuted n t) refl, λ u. rw (e, d .1 u))
+  where
+    go : (b : Bool) → refuted n t ≡ b → replyNumber r ≡ 5 → Unsatisfiable n t
+    go true c z = d .0 c
+    go false c z = let y : replyNumber r ≡ 0 = rw (e, c) in let x : ⊥ = omega (arith, y, z) in absurd x
+
 -- ---- the key call
 
-pub key-refused : (n set : ℕ) (t w : List ℤ) (r : Reply) (f : Refusal) → r ≡ keyChecks n set t (length w) → r ≡ Refused f → Keyed n set t w r t w
+-- its reply past the checks before 5
+key-late : (n set : ℕ) (t : List ℤ) (w : ℕ) → TableSized n (length t) → blockStart n ≤ w → NumbersWithin n set t
+    → keyReply n set t w ≡ check (not (refuted n t)) NoAssignment Done
 unfolding keyReply
-key-refused n set t w r f e d = record {
-  reply = reply;
-  refused = key-reasons n set t (length w) _ reply;
+key-late n set t w s l m = rw (serves-sized n (length t) .1 s, le-leb (blockStart n) w l, m .0, bounds Sheet n set t .1 (m .1))
+
+key-none : (n set : ℕ) (t : List ℤ) (w : ℕ) (r : Reply) → r ≡ keyReply n set t w → TableSized n (length t) → blockStart n ≤ w → NumbersWithin n set t
+    → (replyNumber r ≡ 5) ↔ Unsatisfiable n t
+key-none n set t w r e s l m = five-none n t r (e ∙ key-late n set t w s l m) (decided-none n set t s (m .1))
+
+-- refused, with the table as it was
+pub key-refused : (n set : ℕ) (t w w' : List ℤ) (r : Reply) (f : Refusal) → r ≡ keyReply n set t (length w) → r ≡ Refused f
+    → Lent (blockStart n) (freesWorkspace r) w w' → Keyed n set t w r t w'
+key-refused n set t w w' r f e d l = record {
+  reply = e;
+  refused = tied-returned _ r _ e (key-tied n set t (length w));
+  accepted = tied-number _ r _ e (key-tied n set t (length w));
+  none = key-none n set t (length w) r e;
   words = rw d;
-  steps = λ c. absurd (not-done r f d c);
   rest = refl;
-  lent = untouched (blockStart n) _ w;
-  meaning = λ c. absurd (not-done r f d c);
-  some = λ c. absurd (not-done r f d c);
-  none = λ c. absurd (refused-done (sym d ∙ e ∙ c));
-  visible = λ c. absurd (not-done r f d c);
-  growth = λ c. absurd (not-done r f d c);
+  lent = l;
+  made = λ c. absurd (not-done r f d c);
 }
-  where
-    reply : r ≡ keyReply n set t (length w)
-    reply = e ∙ sym (then-refused (keyChecks n set t (length w)) (orNoAssignment (refuted n t)) f (sym e ∙ d))
 
-pub key-none : (n set : ℕ) (t w w' : List ℤ) → keyChecks n set t (length w) ≡ Done → Decided n t w true w' → Keyed n set t w (Refused NoAssignment) t w'
-unfolding keyReply orNoAssignment
-key-none n set t w w' e d = record {
-  reply = reply;
-  refused = key-reasons n set t (length w) _ reply;
-  words = refl;
-  steps = λ c. absurd (refusal-number NoAssignment c);
-  rest = refl;
-  lent = d .lent;
-  meaning = λ c. absurd (refusal-number NoAssignment c);
-  some = λ c. absurd (refusal-number NoAssignment c);
-  none = λ c. (λ g. d .meaning .0 refl, λ u. refl);
-  visible = λ c. absurd (refusal-number NoAssignment c);
-  growth = λ c. absurd (refusal-number NoAssignment c);
-}
-  where
-    reply : Refused NoAssignment ≡ keyReply n set t (length w)
-    reply = sym (then-passed (keyChecks n set t (length w)) (orNoAssignment (refuted n t)) e ∙ rw (← d .reply))
+-- the reply by the decision
+key-decided : (n set : ℕ) (t w w' : List ℤ) (b : Bool) → TableSized n (length t) × (blockStart n ≤ length w) × NumbersWithin n set t → Decided n t w b w'
+    → check (not b) NoAssignment Done ≡ keyReply n set t (length w)
+key-decided n set t w w' b p d = sym (key-late n set t (length w) (p .0) (p .1) (p .2) ∙ rw (← d .reply))
 
-pub key-done : (n set : ℕ) (t w t' w' : List ℤ) → keyChecks n set t (length w) ≡ Done → Decided n t w false w' → t' ≡ keyOf (hiddenIn set) n t
-    → Keyed n set t w Done t' w'
-unfolding keyReply orNoAssignment
-key-done n set t w t' w' e d k =
-    let p = key-tells n set (length w) t e in
-    let f = p .1 in
+pub key-five : (n set : ℕ) (t w w' : List ℤ) → TableSized n (length t) × (blockStart n ≤ length w) × NumbersWithin n set t → Decided n t w true w'
+    → Keyed n set t w (Refused NoAssignment) t w'
+key-five n set t w w' p d = key-refused n set t w w' (Refused NoAssignment) NoAssignment (key-decided n set t w w' true p d) refl (d .lent)
+
+pub key-done : (n set : ℕ) (t w t' w' : List ℤ) → TableSized n (length t) × (blockStart n ≤ length w) × NumbersWithin n set t → Decided n t w false w'
+    → t' ≡ keyOf (hiddenIn set) n t → Keyed n set t w Done t' w'
+key-done n set t w t' w' p d k =
+    let f = checked-fits n set t (p .0) (p .2 .1) in
     let s = refuted-false n t (f .grows .room) (hide-ample every n t f) (sym (d .reply)) in
+    let e = key-decided n set t w w' false p d in
     record {
-      reply = reply;
-      refused = key-reasons n set t (length w) _ reply;
+      reply = e;
+      refused = tied-returned _ Done _ e (key-tied n set t (length w));
+      accepted = tied-number _ Done _ e (key-tied n set t (length w));
+      none = key-none n set t (length w) Done e;
       words = k;
-      steps = λ c. rw k (key-turns (hiddenIn set) n t (f .grows .room));
       rest = rw k (rest-key (hiddenIn set) n t);
       lent = d .lent;
-      meaning = λ c σ. rw k (key-exact (hiddenIn set) n t (s .assignment) (hide-ample (hiddenIn set) n t f) (s .satisfies) σ);
-      some = λ c. s;
-      none = λ c. (λ g. absurd (zero-five g), λ u. absurd (u (s .assignment) (s .satisfies)));
-      visible = λ c. rw k (key-visible (hiddenIn set) n t (f .grows .room));
-      growth = λ c. rw k (key-within (hiddenIn set) n maxBound t (f .grows .room) (p .2));
+      made = λ c. rw k (record {
+        meaning = λ σ. key-exact (hiddenIn set) n t (s .assignment) (hide-ample (hiddenIn set) n t f) (s .satisfies) σ;
+        some = s;
+        steps = key-turns (hiddenIn set) n t (f .grows .room);
+        visible = key-visible (hiddenIn set) n t (f .grows .room);
+        growth = key-within (hiddenIn set) n (boundLimit Sheet n set) t (f .grows .room) (p .2 .1);
+      });
     }
-  where
-    reply : Done ≡ keyReply n set t (length w)
-    reply = sym (then-passed (keyChecks n set t (length w)) (orNoAssignment (refuted n t)) e ∙ rw (← d .reply))
 
 -- ---- the assignment call
 
-pub assignment-refused : (n : ℕ) (t w v : List ℤ) (r : Reply) (f : Refusal) → r ≡ assignmentChecks n t (length w) (length v) → r ≡ Refused f
-    → Assigned n t w v r w v
+assignment-late : (n : ℕ) (t : List ℤ) (w v : ℕ) → TableSized n (length t) → blockStart n ≤ w → n ≤ v → BoundsWithin Sheet n 0 t
+    → assignmentReply n t w v ≡ check (not (refuted n t)) NoAssignment Done
 unfolding assignmentReply
-assignment-refused n t w v r f e d = record {
-  reply = reply;
-  refused = assignment-reasons n t (length w) (length v) _ reply;
-  lent = untouched (blockStart n) _ w;
-  written = untouched n _ v;
-  meaning = λ c. absurd (not-done r f d c);
-  range = λ c. absurd (not-done r f d c);
-  none = λ c. absurd (refused-done (sym d ∙ e ∙ c));
-}
-  where
-    reply : r ≡ assignmentReply n t (length w) (length v)
-    reply = e ∙ sym (then-refused (assignmentChecks n t (length w) (length v)) (orNoAssignment (refuted n t)) f (sym e ∙ d))
+assignment-late n t w v s l k b = rw (serves-sized n (length t) .1 s, le-leb (blockStart n) w l, le-leb n v k, bounds Sheet n 0 t .1 b)
 
-pub assignment-none : (n : ℕ) (t w v w' : List ℤ) → assignmentChecks n t (length w) (length v) ≡ Done → Decided n t w true w'
-    → Assigned n t w v (Refused NoAssignment) w' v
-unfolding assignmentReply orNoAssignment
-assignment-none n t w v w' e d = record {
-  reply = reply;
-  refused = assignment-reasons n t (length w) (length v) _ reply;
-  lent = d .lent;
+assignment-none : (n : ℕ) (t : List ℤ) (w v : ℕ) (r : Reply) → r ≡ assignmentReply n t w v → TableSized n (length t) → blockStart n ≤ w → n ≤ v
+    → BoundsWithin Sheet n 0 t → (replyNumber r ≡ 5) ↔ Unsatisfiable n t
+assignment-none n t w v r e s l k b = five-none n t r (e ∙ assignment-late n t w v s l k b) (decided-none n 0 t s b)
+
+-- refused, with the assignment's words as they were
+pub assignment-refused : (n : ℕ) (t w v w' : List ℤ) (r : Reply) (f : Refusal) → r ≡ assignmentReply n t (length w) (length v) → r ≡ Refused f
+    → Lent (blockStart n) (freesWorkspace r) w w' → Assigned n t w v r w' v
+assignment-refused n t w v w' r f e d l = record {
+  reply = e;
+  refused = tied-returned _ r _ e (assignment-tied n t (length w) (length v));
+  accepted = tied-number _ r _ e (assignment-tied n t (length w) (length v));
+  none = assignment-none n t (length w) (length v) r e;
+  lent = l;
   written = untouched n _ v;
-  meaning = λ c. absurd (refusal-number NoAssignment c);
-  range = λ c. absurd (refusal-number NoAssignment c);
-  none = λ c. (λ g. d .meaning .0 refl, λ u. refl);
+  found = λ c. absurd (not-done r f d c);
 }
-  where
-    reply : Refused NoAssignment ≡ assignmentReply n t (length w) (length v)
-    reply = sym (then-passed (assignmentChecks n t (length w) (length v)) (orNoAssignment (refuted n t)) e ∙ rw (← d .reply))
+
+assignment-decided : (n : ℕ) (t w v w' : List ℤ) (b : Bool)
+    → TableSized n (length t) × (blockStart n ≤ length w) × (n ≤ length v) × BoundsWithin Sheet n 0 t → Decided n t w b w'
+    → check (not b) NoAssignment Done ≡ assignmentReply n t (length w) (length v)
+assignment-decided n t w v w' b p d = sym (assignment-late n t (length w) (length v) (p .0) (p .1) (p .2) (p .3) ∙ rw (← d .reply))
+
+pub assignment-five : (n : ℕ) (t w v w' : List ℤ)
+    → TableSized n (length t) × (blockStart n ≤ length w) × (n ≤ length v) × BoundsWithin Sheet n 0 t → Decided n t w true w'
+    → Assigned n t w v (Refused NoAssignment) w' v
+assignment-five n t w v w' p d =
+    assignment-refused n t w v w' (Refused NoAssignment) NoAssignment (assignment-decided n t w v w' true p d) refl (d .lent)
 
 -- the table that the values are read from
 pub decided-layered : (n : ℕ) (t w w' : List ℤ) (r : Bool) → Fits n t → blockStart n ≤ length w → r ≡ false → Decided n t w r w' → Layered n w'
@@ -169,29 +175,30 @@ decided-layered n t w w' r f l e d =
     rw (d .words e) (reduced-layered n (change (blockStart n) (copying t) w)
     (same-fits n t (change (blockStart n) (copying t) w) (copied n t w (f .grows .room) l) f))
 
-pub assignment-done : (n : ℕ) (t w v w' v' : List ℤ) → assignmentChecks n t (length w) (length v) ≡ Done → Decided n t w false w' → v' ≡ fillDown n w' n v
-    → Assigned n t w v Done w' v'
-unfolding assignmentReply orNoAssignment
-assignment-done n t w v w' v' e d k =
-    let p = assignment-tells n (length w) (length v) t e in
+pub assignment-done : (n : ℕ) (t w v w' v' : List ℤ)
+    → TableSized n (length t) × (blockStart n ≤ length w) × (n ≤ length v) × BoundsWithin Sheet n 0 t → Decided n t w false w'
+    → v' ≡ fillDown n w' n v → Assigned n t w v Done w' v'
+assignment-done n t w v w' v' p d k =
+    let e = assignment-decided n t w v w' false p d in
+    let g = checked-fits n 0 t (p .0) (p .3) in
     let u : List ℤ = change (blockStart n) (copying t) w in
-    let same : SameTable n t u = copied n t w (p .0 .served .room) (p .0 .long) in
-    let f : Fits n u = same-fits n t u same (p .2) in
+    let same : SameTable n t u = copied n t w (p .0 .room) (p .1) in
+    let f : Fits n u = same-fits n t u same g in
     let filled : v' ≡ fillDown n (pairUpTo true n n u) n v = k ∙ rw (d .words refl) in
-    let s = reduced-satisfies n u v f (p .1) (reduced-refuted n t u same (p .2) ∙ sym (d .reply)) in
+    let s = reduced-satisfies n u v f (p .2) (reduced-refuted n t u same g ∙ sym (d .reply)) in
     record {
-      reply = reply;
-      refused = assignment-reasons n t (length w) (length v) _ reply;
+      reply = e;
+      refused = tied-returned _ Done _ e (assignment-tied n t (length w) (length v));
+      accepted = tied-number _ Done _ e (assignment-tied n t (length w) (length v));
+      none = assignment-none n t (length w) (length v) Done e;
       lent = d .lent;
       written = record {
         size = rw filled (fillDown-length n n (pairUpTo true n n u) v);
         rest = rw filled (fillDown-rest n n (pairUpTo true n n u) v (omega arith));
         kept = λ c. clash refl c;
       };
-      meaning = λ c. rw filled (same-satisfies n u t (assignmentOf (fillDown n (pairUpTo true n n u) n v)) (same-back n t u same) s);
-      range = λ c i h. rw filled (filled-range n (pairUpTo true n n u) v (reduced-layered n u f) (p .1) i h);
-      none = λ c. (λ g. absurd (zero-five g), λ z. absurd (z _ (same-satisfies n u t _ (same-back n t u same) s)));
+      found = λ c. rw filled (record {
+        meaning = same-satisfies n u t (assignmentOf (fillDown n (pairUpTo true n n u) n v)) (same-back n t u same) s;
+        range = λ i h. filled-range n (pairUpTo true n n u) v (reduced-layered n u f) (p .2) i h;
+      });
     }
-  where
-    reply : Done ≡ assignmentReply n t (length w) (length v)
-    reply = sym (then-passed (assignmentChecks n t (length w) (length v)) (orNoAssignment (refuted n t)) e ∙ rw (← d .reply))

@@ -15,7 +15,7 @@ use Rattle.elimination.specs.Magnitude.{Past}
 use Rattle.elimination.proofs.Terms.{TermsMet}
 use Rattle.elimination.proofs.Step.{SumsOf, neither, pair-early, lone-early, step-lower}
 use Rattle.elimination.proofs.Exact.{upward-room}
-use Rattle.keys.specs.Reducing.{pairUpTo, clashUpTo, Fits}
+use Rattle.keys.specs.Inner.{pairUpTo, clashUpTo, Fits}
 use Rattle.keys.proofs.Pairing.{pair-room}
 use Rattle.keys.proofs.Growing.{pair-ample}
 

@@ -10,13 +10,14 @@ use Rattle.words.specs.Change.{changeFrom, change, lowered}
 use Rattle.places.specs.Numbering.{blockStart, placeOfOne, placeOfPair, placeOfTwo, findTwo, blockUpTo, blockOf, offsetOf, isOne, higherAt, lowerAt}
 use Rattle.rules.specs.declared.rule.Rule.{Rule}
 use Rattle.rules.specs.Hidden.{hiddenIn}
+use Rattle.rules.specs.Limits.{boundLimit}
 use Rattle.rules.specs.Meaning.{names}
 use Rattle.rules.specs.Steps.{ruleOf, halvedOf}
 use Rattle.tables.specs.Places.{ruleAt, findPlace}
 use Rattle.tables.specs.Tables.{tableSize, serves, putAt, putHalved, putRule, putAll, tableOf, cleared, inLimit, wordsInLimit}
-use Rattle.tables.specs.Replies.{replyNumber, andThen, lengthReply, limitReply}
+use Rattle.tables.specs.Replies.{replyNumber}
 use Rattle.elimination.specs.Hiding.{withSum, withHalf, bareBelow, pairWord, onOne, onTwo, lowestAt, pairing, anyBare, paired, contradicts, eliminated}
-use Rattle.keys.specs.Keys.{hideUpTo, keyOf, refutedUpTo, refuted, lentChecks, keyChecks, orNoAssignment, keyReply}
+use Rattle.keys.specs.Keys.{hideUpTo, keyOf, refutedUpTo, refuted, keyReply}
 
 -- a sheet of n quantities with its hidden set, bit q - 1 for quantity q, and its rules as written; document 01's number of the reply, 0 where the
 -- key is made; and the key's rules as written, none where the call is refused
@@ -76,7 +77,7 @@ unfolding
     blockStart placeOfOne placeOfPair placeOfTwo findTwo blockUpTo blockOf offsetOf isOne higherAt lowerAt
     names ruleOf halvedOf ruleAt findPlace tableSize serves putAt putHalved putRule putAll cleared inLimit wordsInLimit
     withSum withHalf bareBelow pairWord onOne onTwo lowestAt pairing anyBare paired contradicts eliminated
-    hideUpTo keyOf refutedUpTo refuted andThen lengthReply limitReply lentChecks keyChecks orNoAssignment keyReply
+    boundLimit hideUpTo keyOf refutedUpTo refuted keyReply
 steps = tt
 
 -- both pass, by computing

@@ -1,19 +1,21 @@
 -- The key of a sheet, 'no assignment', and the replies of the two calls (document 01, 'Hiding', 'Finding an assignment', 'Returned to the
 -- caller').
-use mathlib.Core.Bool.{Bool, true, false, cond, _&&_, _||_}
+use mathlib.Core.Bool.{Bool, true, false, cond, not, _&&_, _||_}
 use mathlib.Core.List.{List}
 use Prim.Native.Nat.{ℕ, zero, suc}
-use lib.Dec.{eqb}
+use lib.Dec.{leb, eqb}
 use lib.IntN.{ℤ, pos}
 use lib.ListN.{length}
 use Rattle.places.specs.Numbering.{blockStart}
-use Rattle.rules.specs.declared.refusal.Refusal.the-variants.{Size, NoAssignment}
-use Rattle.rules.specs.Limits.{maxBound}
+use Rattle.rules.specs.declared.paper.Paper.{Paper}
+use Rattle.rules.specs.declared.paper.Paper.the-variants.{Sheet}
+use Rattle.rules.specs.declared.refusal.Refusal.the-variants.{Size, OutOfLimit, NoAssignment, TooShort}
+use Rattle.rules.specs.Limits.{boundLimit}
 use Rattle.rules.specs.Hidden.{setWithin}
 use Rattle.tables.specs.declared.reply.Reply.{Reply}
-use Rattle.tables.specs.declared.reply.Reply.the-variants.{Done, Refused}
+use Rattle.tables.specs.declared.reply.Reply.the-variants.{Done}
 use Rattle.tables.specs.Tables.{serves, wordsInLimit}
-use Rattle.tables.specs.Replies.{replyNumber, andThen, lengthReply, limitReply}
+use Rattle.tables.specs.Replies.{replyNumber, check}
 use Rattle.elimination.specs.Hiding.{contradicts, eliminated}
 
 -- of the first m quantities those that are hidden, hidden in increasing number, in a table over n quantities
@@ -21,7 +23,7 @@ unfoldable pub hideUpTo : (ℕ → Bool) → ℕ → ℕ → List ℤ → List �
 hideUpTo hidden n zero t = t
 hideUpTo hidden n (suc j) t = cond (hidden (suc j)) (eliminated n j (hideUpTo hidden n j t)) (hideUpTo hidden n j t)
 
--- the key: the table with every hidden quantity hidden
+-- the key: the table with every hidden quantity hidden, in the field's terms its projection on the visible ones
 unfoldable pub keyOf : (ℕ → Bool) → ℕ → List ℤ → List ℤ
 keyOf hidden n t = hideUpTo hidden n n t
 
@@ -38,36 +40,28 @@ refutedUpTo n (suc j) t = refutedUpTo n j t || contradicts 0 n j (hideUpTo every
 unfoldable pub refuted : ℕ → List ℤ → Bool
 refuted n t = refutedUpTo n n t
 
--- ---- replies
+-- ---- the calls' replies: document 01's checks, one after the other
 
--- are all words of a table in the sheet's limit?
-abbrev pub inSheetLimit : ℕ → List ℤ → Bool
-inSheetLimit n t = wordsInLimit (blockStart n) (pos maxBound) t
+-- are all bounds of a table in the limit of a paper with this hidden set in its header?
+abbrev pub boundsInLimit : Paper → ℕ → ℕ → List ℤ → Bool
+boundsInLimit paper n set t = wordsInLimit (blockStart n) (pos (boundLimit paper n set)) t
 
--- the reply to n, a table and a workspace of so many words: 1 for n and the table, 6 for the workspace
-unfoldable pub lentChecks : ℕ → ℕ → ℕ → Reply
-lentChecks n table workspace = cond (serves n table) (lengthReply workspace (blockStart n)) (Refused Size)
-
--- the key call's checks before 5: 1, 6, 3
-unfoldable pub keyChecks : ℕ → ℕ → List ℤ → ℕ → Reply
-keyChecks n set t workspace = andThen (lentChecks n (length t) workspace) (limitReply (setWithin n set && inSheetLimit n t))
-
--- the assignment call's: 1, 6 for the workspace, 6 for the assignment, 3
-unfoldable pub assignmentChecks : ℕ → List ℤ → ℕ → ℕ → Reply
-assignmentChecks n t workspace values =
-    andThen (lentChecks n (length t) workspace) (andThen (lengthReply values n) (limitReply (inSheetLimit n t)))
-
--- the last check: 5 where no integers satisfy
-unfoldable pub orNoAssignment : Bool → Reply
-orNoAssignment none = cond none (Refused NoAssignment) Done
-
--- the key call's reply
+-- the key call's reply for a table and a workspace of so many words: 1, 6, 3, 5
 unfoldable pub keyReply : ℕ → ℕ → List ℤ → ℕ → Reply
-keyReply n set t workspace = andThen (keyChecks n set t workspace) (orNoAssignment (refuted n t))
+keyReply n set t workspace =
+    check (serves n (length t)) Size
+    (check (leb (blockStart n) workspace) (TooShort (blockStart n))
+    (check (setWithin n set && boundsInLimit Sheet n set t) (OutOfLimit 0)
+    (check (not (refuted n t)) NoAssignment Done)))
 
--- the assignment call's reply
+-- the assignment call's: 1, 6 for the workspace, 6 for the assignment, 3, 5. It is lent no hidden set
 unfoldable pub assignmentReply : ℕ → List ℤ → ℕ → ℕ → Reply
-assignmentReply n t workspace values = andThen (assignmentChecks n t workspace values) (orNoAssignment (refuted n t))
+assignmentReply n t workspace values =
+    check (serves n (length t)) Size
+    (check (leb (blockStart n) workspace) (TooShort (blockStart n))
+    (check (leb n values) (TooShort n)
+    (check (boundsInLimit Sheet n 0 t) (OutOfLimit 0)
+    (check (not (refuted n t)) NoAssignment Done))))
 
 -- the replies after which the workspace is free: success and 5
 abbrev pub freesWorkspace : Reply → Bool

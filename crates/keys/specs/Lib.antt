@@ -1,6 +1,7 @@
--- What the crate's contracts cite. Keys are document 01's steps and replies, which compute; Reducing is how the program pairs all quantities and
--- so decides 'no assignment' in one table, which document 01 leaves free; Meaning says why a call is refused and what hiding several is, by no algorithm; Promises are the contracts' records, with demand 2's meaning in them.
+-- What the crate's contracts cite. Meaning says what the two calls need and what hiding several is, by no algorithm; Promises are the calls' records, with
+-- demand 2's meaning in them; Keys are document 01's steps and replies, which compute. Inner is what the functions inside ask and answer: how the program pairs all
+-- quantities and so decides 'no assignment' in one table, which document 01 leaves free.
 pub mod Keys
-pub mod Reducing
+pub mod Inner
 pub mod Meaning
 pub mod Promises

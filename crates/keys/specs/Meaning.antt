@@ -1,46 +1,49 @@
--- When the key call and the assignment call succeed, and when and why they are refused (document 01, 'Returned to the caller'); and several quantities
--- hidden, in document 01's own words. No order of work is in it but document 01's.
+-- What the key call and the assignment call need (document 01, 'Returned to the caller'); and several quantities hidden, in document 01's own words. No order
+-- of work is in it but document 01's.
 use mathlib.Core.Bool.{Bool, true, false}
 use mathlib.Core.Path.{_≡_}
-use mathlib.Core.Logic.{_⊎_}
 use mathlib.Core.List.{List}
 use Prim.Native.Nat.{ℕ, suc, _≤_, _<_}
 use lib.IntN.{ℤ, pos}
 use lib.ListN.{length}
 use Rattle.places.specs.Numbering.{blockStart}
-use Rattle.rules.specs.declared.refusal.Refusal.{Refusal}
+use Rattle.rules.specs.declared.paper.Paper.{Paper}
+use Rattle.rules.specs.declared.paper.Paper.the-variants.{Sheet}
 use Rattle.rules.specs.declared.refusal.Refusal.the-variants.{Size, OutOfLimit, NoAssignment, TooShort}
 use Rattle.rules.specs.Hidden.{setWithin}
-use Rattle.rules.specs.Limits.{maxBound}
-use Rattle.tables.specs.Meaning.{TableSized, Unsatisfiable, WordsWithin}
+use Rattle.rules.specs.Limits.{boundLimit}
+use Rattle.rules.specs.Refusing.{Needs, passed, _or_then_}
+use Rattle.tables.specs.Meaning.{TableSized, Satisfiable, WordsWithin}
 use Rattle.elimination.specs.ByRules.{HiddenByRules}
 
--- ---- when the calls succeed, and why they are refused
+-- ---- what the calls need, in the order of their checks
 
--- the bounds of a table are in the sheet's limit
-abbrev pub BoundsWithin : ℕ → List ℤ → Type 0
-BoundsWithin n t = WordsWithin (blockStart n) (pos maxBound) t
+-- the bounds of a table are in the limit of a paper with this hidden set in its header
+abbrev pub BoundsWithin : Paper → ℕ → ℕ → List ℤ → Type 0
+BoundsWithin paper n set t = WordsWithin (blockStart n) (pos (boundLimit paper n set)) t
 
 -- and the hidden set names no quantity past n
 abbrev pub NumbersWithin : ℕ → ℕ → List ℤ → Type 0
-NumbersWithin n set t = (setWithin n set ≡ true) × BoundsWithin n t
+NumbersWithin n set t = (setWithin n set ≡ true) × BoundsWithin Sheet n set t
 
--- the key call on a table and a workspace of w words is refused by the first check that fails: 1, 6, 3, 5
-abbrev pub KeyRefused : ℕ → ℕ → List ℤ → ℕ → Refusal → Type 0
-KeyRefused n set t w f =
-    ((TableSized n (length t) → ⊥) × (f ≡ Size))
-    ⊎ ((TableSized n (length t) × (w < blockStart n) × (f ≡ TooShort (blockStart n)))
-    ⊎ ((TableSized n (length t) × (blockStart n ≤ w) × (NumbersWithin n set t → ⊥) × (f ≡ OutOfLimit 0))
-    ⊎ (TableSized n (length t) × (blockStart n ≤ w) × NumbersWithin n set t × Unsatisfiable n t × (f ≡ NoAssignment))))
+-- the key call on a table and a workspace of w words: 1, 6, 3, 5
+abbrev pub keyNeeds : ℕ → ℕ → List ℤ → ℕ → Needs
+keyNeeds n set t w =
+    TableSized n (length t) or Size then
+    (blockStart n ≤ w) or TooShort (blockStart n) then
+    NumbersWithin n set t or OutOfLimit 0 then
+    Satisfiable n t or NoAssignment then
+    passed
 
 -- the assignment call on a table, a workspace of w words and v words for the assignment: 1, 6 for the workspace, 6 for the assignment, 3, 5
-abbrev pub AssignmentRefused : ℕ → List ℤ → ℕ → ℕ → Refusal → Type 0
-AssignmentRefused n t w v f =
-    ((TableSized n (length t) → ⊥) × (f ≡ Size))
-    ⊎ ((TableSized n (length t) × (w < blockStart n) × (f ≡ TooShort (blockStart n)))
-    ⊎ ((TableSized n (length t) × (blockStart n ≤ w) × (v < n) × (f ≡ TooShort n))
-    ⊎ ((TableSized n (length t) × (blockStart n ≤ w) × (n ≤ v) × (BoundsWithin n t → ⊥) × (f ≡ OutOfLimit 0))
-    ⊎ (TableSized n (length t) × (blockStart n ≤ w) × (n ≤ v) × BoundsWithin n t × Unsatisfiable n t × (f ≡ NoAssignment)))))
+abbrev pub assignmentNeeds : ℕ → List ℤ → ℕ → ℕ → Needs
+assignmentNeeds n t w v =
+    TableSized n (length t) or Size then
+    (blockStart n ≤ w) or TooShort (blockStart n) then
+    (n ≤ v) or TooShort n then
+    BoundsWithin Sheet n 0 t or OutOfLimit 0 then
+    Satisfiable n t or NoAssignment then
+    passed
 
 -- ---- several quantities hidden
 

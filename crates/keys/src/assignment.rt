@@ -1,14 +1,15 @@
 // The assignment call: integers that satisfy a table, or the refusal that there are none.
-use crate::checks;
 use crate::decide;
+use rules::paper;
+use rules::paper::Paper;
 use rules::refusal::Refusal;
-use rules::sheet::Sheet;
+use tables::limit;
 use tables::reply::Reply;
+use tables::table;
 ghost use mathlib.Core.Path.{_≡_};
 ghost use Prim.Native.Nat.{_≤_};
 ghost use lib.ListN.{length};
-ghost use Rattle.keys.specs.Keys.{assignmentChecks};
-ghost use Rattle.keys.specs.Reducing.{Layered, fillDown};
+ghost use Rattle.keys.specs.Inner.{Layered, fillDown, AssignmentChecked};
 ghost use Rattle.keys.specs.Promises.{Assigned};
 
 // Chooses a value for each quantity of a reduced table, the last first.
@@ -23,18 +24,22 @@ pub fn fill(n: usize, table: &[i64], values: &mut [i64])
     }
 }
 
-// The assignment call's reply before 5 is decided: its first refusal, or done.
+// The assignment call's checks before 5: its first refusal, or done.
 fn check(n: usize, table: &[i64], workspace: usize, values: usize) -> Reply
-    ensures { λ r. ⌜ r ≡ assignmentChecks n (now (table .entry)) workspace values ⌝ }
+    ensures { λ r. ⌜ AssignmentChecked n (now (table .entry)) workspace values r ⌝ }
 {
-    let lent = checks::lent(n, table.len(), workspace);
-    let Reply::Done = lent else {
-        return lent;
-    };
+    if !table::serves(n, table.len()) {
+        return Reply::Refused(Refusal::Size);
+    }
+    let needed = table::size(n);
+    if workspace < needed {
+        return Reply::Refused(Refusal::TooShort { needed });
+    }
     if values < n {
         return Reply::Refused(Refusal::TooShort { needed: n });
     }
-    if !tables::limit::is_table_in(table, tables::table::size(n), Sheet::MAX_BOUND) {
+    let most = paper::bound_limit(Paper::Sheet, n, 0);
+    if !limit::is_table_in(table, needed, most) {
         return Reply::Refused(Refusal::OutOfLimit { line: 0 });
     }
     Reply::Done

@@ -4,8 +4,7 @@ ghost use Prim.Native.Nat.{_≤_, _<_};
 ghost use lib.ListN.{length};
 ghost use Rattle.places.specs.Numbering.{blockStart};
 ghost use Rattle.rules.specs.Limits.{maxQuantities};
-ghost use Rattle.keys.specs.Reducing.{pairedFrom, Fits};
-ghost use Rattle.keys.specs.Promises.{AllPaired, Decided};
+ghost use Rattle.keys.specs.Inner.{pairedFrom, Fits, AllPaired, Decided};
 
 // The number of first quantities that take no part where quantity `j + 1` is paired: where `later`, those up to itself, else none.
 fn paired_from(j: usize, later: bool) -> usize

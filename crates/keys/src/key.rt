@@ -1,17 +1,20 @@
 // The key call: the sheet's table is replaced by its key.
-use crate::checks;
 use crate::decide;
+use rules::hidden;
+use rules::paper;
+use rules::paper::Paper;
 use rules::refusal::Refusal;
-use rules::sheet::Sheet;
+use tables::limit;
 use tables::reply::Reply;
+use tables::table;
 ghost use mathlib.Core.Path.{_≡_};
 ghost use mathlib.Core.Bool.{cond};
 ghost use Prim.Native.Nat.{suc};
 ghost use Rattle.rules.specs.Hidden.{hiddenIn};
 ghost use Rattle.elimination.specs.Hiding.{eliminated};
 ghost use Rattle.elimination.specs.Inner.{Ready};
-ghost use Rattle.keys.specs.Keys.{keyOf, keyChecks};
-ghost use Rattle.keys.specs.Reducing.{Fits};
+ghost use Rattle.keys.specs.Keys.{keyOf};
+ghost use Rattle.keys.specs.Inner.{Fits, KeyChecked};
 ghost use Rattle.keys.specs.Promises.{Keyed};
 
 // Hides quantity `j + 1` where the set has it.
@@ -19,8 +22,7 @@ fn hide_member(n: usize, set: u32, table: &mut [i64], j: usize)
     requires { ⌜ Ready n j (now table) ⌝ }
     ensures { λ _. ⌜ now (table .exit) ≡ cond (hiddenIn set (suc j)) (eliminated n j (now (table .entry))) (now (table .entry)) ⌝ }
 {
-    let hidden = rules::hidden::is_hidden(set, j + 1);
-    if !hidden {
+    if !hidden::is_hidden(set, j + 1) {
         return;
     }
     elimination::hide::hide(n, table, j);
@@ -38,18 +40,22 @@ pub fn hide_set(n: usize, set: u32, table: &mut [i64])
     }
 }
 
-// The key call's reply before 5 is decided: its first refusal, or done.
+// The key call's checks before 5: its first refusal, or done.
 fn check(n: usize, set: u32, table: &[i64], workspace: usize) -> Reply
-    ensures { λ r. ⌜ r ≡ keyChecks n set (now (table .entry)) workspace ⌝ }
+    ensures { λ r. ⌜ KeyChecked n set (now (table .entry)) workspace r ⌝ }
 {
-    let lent = checks::lent(n, table.len(), workspace);
-    let Reply::Done = lent else {
-        return lent;
-    };
-    if !rules::hidden::is_within(set, n) {
+    if !table::serves(n, table.len()) {
+        return Reply::Refused(Refusal::Size);
+    }
+    let needed = table::size(n);
+    if workspace < needed {
+        return Reply::Refused(Refusal::TooShort { needed });
+    }
+    if !hidden::is_within(set, n) {
         return Reply::Refused(Refusal::OutOfLimit { line: 0 });
     }
-    if !tables::limit::is_table_in(table, tables::table::size(n), Sheet::MAX_BOUND) {
+    let most = paper::bound_limit(Paper::Sheet, n, set);
+    if !limit::is_table_in(table, needed, most) {
         return Reply::Refused(Refusal::OutOfLimit { line: 0 });
     }
     Reply::Done

@@ -23,7 +23,7 @@ use Rattle.tables.proofs.Places.{ruleAt-bound, ruleAt-hasPlace}
 use Rattle.tables.proofs.Putting.{hasPlace-put}
 use Rattle.tables.proofs.Tests.{clash, both-true}
 use Rattle.keys.specs.Keys.{every, refuted}
-use Rattle.keys.specs.Reducing.{Fits}
+use Rattle.keys.specs.Inner.{Fits}
 use Rattle.keys.proofs.Several.{refuted-true, refuted-false}
 use Rattle.keys.proofs.Fitting.{hide-ample}
 use Rattle.marking.specs.Meaning.{FirstAt, FirstBroken, NoneBroken}

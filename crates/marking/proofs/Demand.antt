@@ -23,7 +23,7 @@ use Rattle.tables.specs.Meaning.{HoldsRule, ruleIn, Satisfies, Satisfiable, Uns
 use Rattle.tables.proofs.Tests.{clash}
 use Rattle.tables.proofs.Meanings.{script-visible}
 use Rattle.keys.specs.Keys.{keyOf, every, refuted}
-use Rattle.keys.specs.Reducing.{Fits}
+use Rattle.keys.specs.Inner.{Fits}
 use Rattle.keys.proofs.Several.{hideUpTo-length, hide-all, allows-own, key-exact, refuted-false}
 use Rattle.keys.proofs.Fitting.{hide-ample}
 use Rattle.keys.proofs.Deciding.{refuted-exactly}

@@ -26,7 +26,7 @@ use Rattle.tables.specs.Tables.{hasRule, tableSize}
 use Rattle.tables.specs.Meaning.{HoldsRule, ruleIn, Satisfies, Breaks}
 use Rattle.tables.proofs.Tests.{clash, both-true}
 use Rattle.tables.proofs.Sizes.{size-known}
-use Rattle.keys.specs.Reducing.{Fits}
+use Rattle.keys.specs.Inner.{Fits}
 use Rattle.keys.proofs.Copying.{SameTable, copied, same-back, same-satisfies}
 use Rattle.tightening.specs.Promises.{Tightened}
 use Rattle.marking.specs.Meaning.{FirstAt, workspaceSize}

@@ -13,7 +13,7 @@ use Rattle.words.specs.Lent.{Lent}
 use Rattle.places.specs.Numbering.{blockStart}
 use Rattle.tables.proofs.Tests.{clash}
 use Rattle.keys.specs.Keys.{hideUpTo, keyOf}
-use Rattle.keys.specs.Promises.{Decided}
+use Rattle.keys.specs.Inner.{Decided}
 use Rattle.keys.proofs.Copying.{SameTable, copied}
 use Rattle.keys.proofs.Promised.{rest-key}
 use Rattle.keys.proofs.Several.{hideUpTo-length}

@@ -34,7 +34,7 @@ use Rattle.elimination.specs.Magnitude.{Unnamed}
 use Rattle.elimination.proofs.TermWords.{quantity-cases, pair-same, pair-first, pair-second}
 use Rattle.elimination.proofs.Step.{paired-length, within-rule}
 use Rattle.keys.specs.Keys.{hideUpTo, keyOf}
-use Rattle.keys.specs.Reducing.{Fits}
+use Rattle.keys.specs.Inner.{Fits}
 use Rattle.keys.proofs.Copying.{SameTable}
 use Rattle.keys.proofs.Several.{key-visible}
 use Rattle.keys.proofs.Fitting.{words-mono, key-within, sheet-fits}

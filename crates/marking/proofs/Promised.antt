@@ -32,8 +32,7 @@ use Rattle.tables.proofs.Limits.{wordsInLimit-within}
 use Rattle.tables.proofs.Meanings.{table-allows-visible, script-visible}
 use Rattle.tables.proofs.Tests.{refused-done, clash}
 use Rattle.keys.specs.Keys.{keyOf, refuted, assignmentChecks}
-use Rattle.keys.specs.Reducing.{pairUpTo, fillDown}
-use Rattle.keys.specs.Promises.{Decided}
+use Rattle.keys.specs.Inner.{pairUpTo, fillDown, Decided}
 use Rattle.keys.proofs.Copying.{copied, holds-same, same-unnamed}
 use Rattle.keys.proofs.Deciding.{refuted-exactly}
 use Rattle.keys.proofs.Checking.{lent-done, values-passed}

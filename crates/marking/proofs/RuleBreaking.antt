@@ -30,8 +30,7 @@ use Rattle.tables.proofs.Places.{placeOf, ruleAt-hasPlace, hasPlace-below}
 use Rattle.tables.proofs.Sizes.{serves-tells, long-serves}
 use Rattle.tables.proofs.Tests.{clash}
 use Rattle.elimination.specs.Magnitude.{Unnamed}
-use Rattle.keys.specs.Reducing.{pairUpTo, clashUpTo, fillDown, Fits, Layered}
-use Rattle.keys.specs.Promises.{AllPaired}
+use Rattle.keys.specs.Inner.{pairUpTo, clashUpTo, fillDown, Fits, Layered, AllPaired}
 use Rattle.keys.proofs.Copying.{SameTable, copied, same-back, same-unnamed, same-satisfies, same-fits}
 use Rattle.keys.proofs.Deciding.{reduced-satisfies}
 use Rattle.keys.proofs.Filling.{fillDown-length, fillDown-rest, filled-range}

@@ -12,7 +12,7 @@ use Rattle.rules.specs.Meaning.{Assignment, Meets, names}
 use Rattle.tables.specs.Meaning.{HoldsRule, ruleIn, Satisfies, joined, SheetAllows, NamesVisible, assignmentOf}
 use Rattle.tables.proofs.Meanings.{satisfies-agree}
 use Rattle.keys.specs.Keys.{every, keyOf, refuted}
-use Rattle.keys.specs.Reducing.{Fits}
+use Rattle.keys.specs.Inner.{Fits}
 use Rattle.keys.proofs.Copying.{SameTable, holds-same}
 use Rattle.keys.proofs.Several.{key-exact, key-visible, refuted-false, cond-same}
 use Rattle.keys.proofs.Fitting.{hide-ample}

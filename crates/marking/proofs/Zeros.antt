@@ -18,7 +18,7 @@ use Rattle.elimination.specs.Hiding.{pairWord, loneWord}
 use Rattle.elimination.specs.Choosing.{withUpper, withUppers, boundedBy, chosen, choice}
 use Rattle.elimination.specs.Magnitude.{Unnamed}
 use Rattle.elimination.proofs.Unnamed.{unnamed-lone, unnamed-pair}
-use Rattle.keys.specs.Reducing.{pairUpTo, fillDown}
+use Rattle.keys.specs.Inner.{pairUpTo, fillDown}
 use Rattle.keys.proofs.Pairing.{pair-room}
 use Rattle.keys.proofs.Growing.{pair-unnamed}
 use Rattle.keys.proofs.Filling.{fillDown-length}

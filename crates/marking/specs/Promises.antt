@@ -24,7 +24,7 @@ use Rattle.tables.specs.Places.{ruleAt}
 use Rattle.tables.specs.Tables.{hasRule, putRule}
 use Rattle.tables.specs.Meaning.{HoldsRule, ruleIn, Satisfies, Unsatisfiable, Breaks, assignmentOf}
 use Rattle.elimination.specs.Magnitude.{Unnamed}
-use Rattle.keys.specs.Reducing.{Fits}
+use Rattle.keys.specs.Inner.{Fits}
 use Rattle.marking.specs.declared.verdict.Verdict.{Verdict}
 use Rattle.marking.specs.declared.verdict.Verdict.the-variants.{Loose, Tight}
 use Rattle.marking.specs.declared.verdict.Marking.{Marking}

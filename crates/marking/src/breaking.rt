@@ -12,7 +12,7 @@ ghost use mathlib.Core.Path.{_≡_};
 ghost use Prim.Native.Nat.{_+_, _*_, _≤_};
 ghost use lib.ListN.{length};
 ghost use Rattle.places.specs.Numbering.{blockStart};
-ghost use Rattle.keys.specs.Reducing.{Fits};
+ghost use Rattle.keys.specs.Inner.{Fits};
 ghost use Rattle.marking.specs.Marking.{firstBelow};
 ghost use Rattle.marking.specs.Meaning.{workspaceSize};
 ghost use Rattle.marking.specs.Promises.{LeastBounds, BrokenFound, RuleBreakable, RuleBroken, FrontBreakable, FrontBroken};

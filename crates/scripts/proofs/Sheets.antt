@@ -25,7 +25,7 @@ use Rattle.tables.proofs.Limits.{wordsInLimit-within}
 use Rattle.tables.proofs.Sizes.{size-whole, long-serves}
 use Rattle.tables.proofs.Lists.{tableOf-length}
 use Rattle.keys.specs.Keys.{keyOf, refuted, inSheetLimit, keyChecks}
-use Rattle.keys.specs.Reducing.{Fits}
+use Rattle.keys.specs.Inner.{Fits}
 use Rattle.keys.proofs.Several.{hideUpTo-length, key-exact}
 use Rattle.keys.proofs.Fitting.{sheet-fits, hide-ample, key-within}
 use Rattle.keys.proofs.Deciding.{refuted-exactly}

@@ -2,7 +2,7 @@
 use mathlib.Core.Path.{_≡_, refl, sym, _∙_, ap}
 use mathlib.Core.Bool.{Bool, true, false, cond}
 use mathlib.Core.List.{List, _++_}
-use mathlib.Core.Logic.{_↔_, _⊎_, inl, inr}
+use mathlib.Core.Logic.{_⊎_, inl, inr}
 use Prim.Native.Nat.{ℕ, _/_, _≤_, _<_}
 use native.Mathlib.Omega.{arith}
 use lib.IntN.{ℤ, pos}
@@ -17,15 +17,12 @@ use Rattle.rules.specs.declared.rule.Rule.{Rule}
 use Rattle.rules.specs.declared.rule.Rule.the-variants.{One, Two}
 use Rattle.rules.specs.declared.refusal.Refusal.{Refusal}
 use Rattle.rules.specs.declared.refusal.Refusal.the-variants.{Size, OutOfLimit}
-use Rattle.rules.specs.Refusal.{refusedAs}
-use Rattle.rules.specs.Refusing.{RefusedBy}
 use Rattle.rules.specs.Limits.{noRule}
 use Rattle.rules.specs.Meaning.{Assignment}
 use Rattle.rules.specs.Steps.{halvedOf}
 use Rattle.tables.specs.declared.reply.Reply.{Reply}
 use Rattle.tables.specs.declared.reply.Reply.the-variants.{Done, Refused}
 use Rattle.tables.specs.Places.{ruleAt, findPlace}
-use Rattle.tables.specs.Replies.{replyReturned}
 use Rattle.tables.specs.Tables.{tableSize, emptyTable, emptyReply, serves, hasRule, ruleReply, putReply, putHalved, putRule, clearReply, cleared}
 use Rattle.tables.specs.Meaning.{Satisfies}
 use Rattle.rules.proofs.Refusals.{refusal-number}
@@ -40,13 +37,13 @@ use Rattle.tables.proofs.Without.{cleared-meaning}
 
 -- ---- emptied
 
--- a reply that is the step's is refused exactly where a need is not met
-emptied-exact : (n : ℕ) (t : List ℤ) (r : Reply) → r ≡ emptyReply n (length t)
-    → (f : Refusal) → (replyReturned r ≡ refusedAs f) ↔ RefusedBy (emptyNeeds n (length t)) f
-emptied-exact n t r e = rw e (tied-returned (emptyNeeds n (length t)) (emptyReply n (length t)) (empty-tied n (length t)))
-
 pub emptied-refused : (n : ℕ) (t : List ℤ) → serves n (length t) ≡ false → Emptied n t (Refused Size) t
-emptied-refused n t e = record { reply = rw e; refused = emptied-exact n t (Refused Size) (rw e); table = refl; meaning = λ d. absurd (refusal-number Size d) }
+emptied-refused n t e = record {
+  reply = rw e;
+  refused = tied-returned (emptyNeeds n (length t)) (Refused Size) (emptyReply n (length t)) (rw e) (empty-tied n (length t));
+  table = refl;
+  meaning = λ d. absurd (refusal-number Size d);
+}
 
 -- the empty table in front asks nothing, whatever follows it
 no-rules : (n : ℕ) (v : List ℤ) (σ : Assignment) → Satisfies n (emptyTable n ++ v) σ
@@ -60,7 +57,7 @@ no-rules n v σ = record { each = λ k p. clash {b = hasRule noRule} (rw (word k
 pub emptied-done : (n : ℕ) (t u : List ℤ) → serves n (length t) ≡ true → u ≡ change (tableSize n) (fillFrom 0 noRule) t → Emptied n t Done u
 emptied-done n t u e f = record {
   reply = rw e;
-  refused = emptied-exact n t Done (rw e);
+  refused = tied-returned (emptyNeeds n (length t)) Done (emptyReply n (length t)) (rw e) (empty-tied n (length t));
   table = filled;
   meaning = λ d σ. rw filled (no-rules n (drop (blockStart n) t) σ);
 }
@@ -72,13 +69,14 @@ emptied-done n t u e f = record {
 
 -- ---- a rule put in
 
-put-exact : (n : ℕ) (q : Rule) (t : List ℤ) (r : Reply) → r ≡ putReply n (length t) q
-    → (f : Refusal) → (replyReturned r ≡ refusedAs f) ↔ RefusedBy (putNeeds n (length t) q) f
-put-exact n q t r e = rw e (tied-returned (putNeeds n (length t) q) (putReply n (length t) q) (put-tied n (length t) q))
-
 -- not done, the table is as it was
 put-kept : (n : ℕ) (q : Rule) (t : List ℤ) (r : Reply) (f : Refusal) → r ≡ putReply n (length t) q → r ≡ Refused f → Put n q t r t
-put-kept n q t r f e d = record { reply = e; refused = put-exact n q t r e; table = rw d; meaning = λ g. absurd (refusal-number f (rw d at g)) }
+put-kept n q t r f e d = record {
+  reply = e;
+  refused = tied-returned (putNeeds n (length t) q) r (putReply n (length t) q) e (put-tied n (length t) q);
+  table = rw d;
+  meaning = λ g. absurd (refusal-number f (rw d at g));
+}
 
 pub put-refused-size : (n : ℕ) (r : Rule) (t : List ℤ) → serves n (length t) ≡ false → Put n r t (Refused Size) t
 unfolding putReply
@@ -92,7 +90,7 @@ pub put-done : (n : ℕ) (r h : Rule) (t u : List ℤ) → serves n (length t) �
 unfolding putReply putRule
 put-done n r h t u e q d f = record {
   reply = whole;
-  refused = put-exact n r t Done whole;
+  refused = tied-returned (putNeeds n (length t) r) Done (putReply n (length t) r) whole (put-tied n (length t) r);
   table = placed;
   meaning = λ g σ. rw placed (accepted-put n t r σ (serves-tells n (length t) e .room) (sym q));
 }
@@ -105,12 +103,13 @@ put-done n r h t u e q d f = record {
 
 -- ---- a quantity's places cleared
 
-cleared-exact : (n q : ℕ) (t : List ℤ) (r : Reply) → r ≡ clearReply n (length t) q
-    → (f : Refusal) → (replyReturned r ≡ refusedAs f) ↔ RefusedBy (clearNeeds n (length t) q) f
-cleared-exact n q t r e = rw e (tied-returned (clearNeeds n (length t) q) (clearReply n (length t) q) (clear-tied n (length t) q))
-
 cleared-kept : (n q : ℕ) (t : List ℤ) (f : Refusal) → Refused f ≡ clearReply n (length t) q → Cleared n q t (Refused f) t
-cleared-kept n q t f e = record { reply = e; refused = cleared-exact n q t (Refused f) e; table = refl; meaning = λ d. absurd (refusal-number f d) }
+cleared-kept n q t f e = record {
+  reply = e;
+  refused = tied-returned (clearNeeds n (length t) q) (Refused f) (clearReply n (length t) q) e (clear-tied n (length t) q);
+  table = refl;
+  meaning = λ d. absurd (refusal-number f d);
+}
 
 pub cleared-refused-size : (n q : ℕ) (t : List ℤ) → serves n (length t) ≡ false → Cleared n q t (Refused Size) t
 unfolding clearReply
@@ -125,7 +124,7 @@ pub cleared-done : (n q : ℕ) (t u : List ℤ) → serves n (length t) ≡ true
 unfolding clearReply
 cleared-done n q t u e l h d = record {
   reply = whole;
-  refused = cleared-exact n q t Done whole;
+  refused = tied-returned (clearNeeds n (length t) q) Done (clearReply n (length t) q) whole (clear-tied n (length t) q);
   table = d;
   meaning = λ g σ. rw d (cleared-meaning n q t σ (serves-tells n (length t) e .room));
 }

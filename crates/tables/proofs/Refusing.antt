@@ -56,8 +56,9 @@ number-done r = (go r, λ e. rw e)
     go Done e = refl
     go (Refused f) e = absurd (refusal-number f e)
 
-pub tied-returned : (needs : Needs) (r : Reply) → Tied needs r → (f : Refusal) → (replyReturned r ≡ refusedAs f) ↔ RefusedBy needs f
-tied-returned needs r t f = (λ e. t .refuses f .0 (returned-refused r f .0 e), λ x. returned-refused r f .1 (t .refuses f .1 x))
+-- a reply that is tied to its needs, by what is returned of it
+pub tied-returned : (needs : Needs) (r s : Reply) → r ≡ s → Tied needs s → (f : Refusal) → (replyReturned r ≡ refusedAs f) ↔ RefusedBy needs f
+tied-returned needs r s d t f = (λ e. t .refuses f .0 (sym d ∙ returned-refused r f .0 e), λ x. returned-refused r f .1 (d ∙ t .refuses f .1 x))
 
-pub tied-number : (needs : Needs) (r : Reply) → Tied needs r → (replyNumber r ≡ 0) ↔ AllMet needs
-tied-number needs r t = (λ e. t .passes .0 (number-done r .0 e), λ x. number-done r .1 (t .passes .1 x))
+pub tied-number : (needs : Needs) (r s : Reply) → r ≡ s → Tied needs s → (replyNumber r ≡ 0) ↔ AllMet needs
+tied-number needs r s d t = (λ e. t .passes .0 (sym d ∙ number-done r .0 e), λ x. number-done r .1 (d ∙ t .passes .1 x))

@@ -27,7 +27,7 @@ use Rattle.elimination.proofs.SumWords.{hasRule-mono}
 use Rattle.elimination.proofs.Terms.{TermsMet, satisfies-met, literal-agree}
 use Rattle.elimination.proofs.Unnamed.{unnamed-lone, unnamed-pair}
 use Rattle.keys.specs.Keys.{keyOf}
-use Rattle.keys.specs.Reducing.{pairUpTo, Fits}
+use Rattle.keys.specs.Inner.{pairUpTo, Fits}
 use Rattle.keys.proofs.Several.{hideUpTo-length, hideUpTo-unnamed, key-exact}
 use Rattle.keys.proofs.Fitting.{hide-ample}
 use Rattle.tightening.proofs.Lower.{most-lone, most-pair, key-most}

@@ -23,7 +23,7 @@ use Rattle.elimination.specs.Hiding.{withSum, pairWord, loneWord}
 use Rattle.elimination.proofs.TermWords.{lone-at, pair-at}
 use Rattle.elimination.proofs.SumWords.{hasRule-mono, withSum-word, withSum-sum, withSum-elim}
 use Rattle.keys.specs.Keys.{every, refuted}
-use Rattle.keys.specs.Reducing.{pairUpTo, clashUpTo, Fits}
+use Rattle.keys.specs.Inner.{pairUpTo, clashUpTo, Fits}
 use Rattle.keys.proofs.Several.{refuted-false}
 use Rattle.keys.proofs.Fitting.{hide-ample}
 use Rattle.keys.proofs.Pairing.{pair-room, clash-unsatisfiable}

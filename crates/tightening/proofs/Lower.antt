@@ -26,7 +26,7 @@ use Rattle.elimination.proofs.SumWords.{hasRule-mono, le-trans}
 use Rattle.elimination.proofs.PairedWords.{lone-elim, lone-lowered, lone-plus, lone-minus, lone-half, pair-elim, pair-lowered, pair-sum}
 use Rattle.elimination.proofs.Step.{paired-length, bare-clear, neither, anyBare-clear}
 use Rattle.keys.specs.Keys.{hideUpTo, keyOf, every, refutedUpTo}
-use Rattle.keys.specs.Reducing.{pairUpTo, clashUpTo}
+use Rattle.keys.specs.Inner.{pairUpTo, clashUpTo}
 use Rattle.keys.proofs.Several.{hideUpTo-length}
 use Rattle.keys.proofs.Pairing.{pair-room}
 

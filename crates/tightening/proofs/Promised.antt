@@ -12,8 +12,7 @@ use Rattle.places.specs.Numbering.{blockStart}
 use Rattle.tables.specs.Meaning.{Unsatisfiable}
 use Rattle.tables.proofs.Tests.{clash}
 use Rattle.keys.specs.Keys.{refuted}
-use Rattle.keys.specs.Reducing.{pairUpTo, Fits}
-use Rattle.keys.specs.Promises.{AllPaired}
+use Rattle.keys.specs.Inner.{pairUpTo, Fits, AllPaired}
 use Rattle.keys.proofs.Deciding.{refuted-exactly}
 use Rattle.keys.proofs.Growing.{pair-ample}
 use Rattle.tightening.specs.Tightening.{strengthened, tightened}

@@ -19,7 +19,7 @@ use Rattle.tables.proofs.Tests.{clash}
 use Rattle.elimination.specs.Hiding.{pairWord, loneWord}
 use Rattle.elimination.specs.Magnitude.{Past}
 use Rattle.elimination.proofs.Terms.{TermsMet, satisfies-met, met-some, literal-agree}
-use Rattle.keys.specs.Reducing.{pairUpTo, Fits}
+use Rattle.keys.specs.Inner.{pairUpTo, Fits}
 use Rattle.keys.proofs.Pairing.{pair-room, pair-kept}
 use Rattle.tightening.proofs.Completing.{Visible, visible-completes, changed, changed-own, changed-other, raised-met}
 

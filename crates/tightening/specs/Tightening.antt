@@ -7,7 +7,7 @@ use lib.IntN.{ℤ}
 use Rattle.words.specs.Change.{change}
 use Rattle.places.specs.Numbering.{blockStart, isOne, higherAt, lowerAt}
 use Rattle.elimination.specs.Hiding.{withSum, loneWord}
-use Rattle.keys.specs.Reducing.{pairUpTo}
+use Rattle.keys.specs.Inner.{pairUpTo}
 
 -- as a change: at the term of two literals the sum of their bounds alone, by minimum
 unfoldable pub strengthening : List ℤ → ℕ → ℤ → ℤ

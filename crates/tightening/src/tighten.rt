@@ -2,7 +2,7 @@
 // gets the sum of their bounds alone.
 use rules::sheet::Sheet;
 ghost use mathlib.Core.Path.{_≡_};
-ghost use Rattle.keys.specs.Reducing.{Fits};
+ghost use Rattle.keys.specs.Inner.{Fits};
 ghost use Rattle.tightening.specs.Tightening.{strengthened};
 ghost use Rattle.tightening.specs.Promises.{Tightened};
 ghost use Rattle.tightening.specs.Inner.{Adding, LoneGatherable, LoneGathered};

@@ -1,8 +1,7 @@
 -- `assignment::assignment` meets its contract: the checks, the decision in the workspace, then the values. Assumes nothing.
-use mathlib.Core.Path.{sym, _∙_}
 use borrow.Author.Needs.{needs}
-use Rattle.keys.proofs.Checking.{assignment-tells}
-use Rattle.keys.proofs.Promised.{assignment-refused, assignment-none, assignment-done, decided-layered}
+use Rattle.keys.proofs.Checking.{checked-fits}
+use Rattle.keys.proofs.Promised.{untouched, assignment-refused, assignment-five, assignment-done, decided-layered}
 use Rattle.keys.proofs.assignment.assignment.Statement.{statement}
 use Rattle.keys.proofs.assignment.assignment.Tie as tie
 
@@ -16,13 +15,14 @@ enum-told-2 : tie.Need-enum-told-2
 enum-told-2 c = search needs
 
 returns : tie.Need-returns
-returns c = assignment-refused _ _ _ _ _ _ (c .before .before .check .ensures) (c .enum-told2 .given .1)
+returns c =
+    assignment-refused _ _ _ _ _ _ _ (c .before .before .check .ensures .stands _ (c .enum-told2 .given .1)) (c .enum-told2 .given .1) (untouched _ _ _)
 
 decide-requires : tie.Need-decide-requires
 decide-requires c κs =
     let a = c .before in
-    let t = assignment-tells _ _ _ _ (sym (a .before .before .check .ensures) ∙ a .enum-told .given .1) in
-    (t .2, t .0 .long)
+    let p = a .before .before .check .ensures .passes (a .enum-told .given .1) in
+    (checked-fits _ _ _ (p .0) (p .3), p .1)
 
 same-length : tie.Need-same-length
 same-length c = search needs
@@ -31,15 +31,16 @@ returns-2 : tie.Need-returns-2
 returns-2 c =
     let d = c .before .before in
     let a = d .before .before in
-    assignment-none _ _ _ _ _ (sym (a .before .before .check .ensures) ∙ a .enum-told .given .1) (rw (c .if1 .taken) at (d .decide .ensures))
+    let p = a .before .before .check .ensures .passes (a .enum-told .given .1) in
+    assignment-five _ _ _ _ _ p (rw (c .if1 .taken) at (d .decide .ensures))
 
 fill-requires : tie.Need-fill-requires
 fill-requires c κs =
     let o = c .before .before in
     let d = o .before .before in
     let a = d .before .before in
-    let t = assignment-tells _ _ _ _ (sym (a .before .before .check .ensures) ∙ a .enum-told .given .1) in
-    (decided-layered _ _ _ _ _ (t .2) (t .0 .long) (o .if1 .left) (d .decide .ensures), t .1)
+    let p = a .before .before .check .ensures .passes (a .enum-told .given .1) in
+    (decided-layered _ _ _ _ _ (checked-fits _ _ _ (p .0) (p .3)) (p .1) (o .if1 .left) (d .decide .ensures), p .2)
 
 same-length-2 : tie.Need-same-length-2
 same-length-2 c = search needs
@@ -52,7 +53,7 @@ returns-3 c =
     let o = c .before .before .before .before in
     let d = o .before .before in
     let a = d .before .before in
-    assignment-done _ _ _ _ _ _ (sym (a .before .before .check .ensures) ∙ a .enum-told .given .1) (rw (o .if1 .left) at (d .decide .ensures))
+    assignment-done _ _ _ _ _ _ (a .before .before .check .ensures .passes (a .enum-told .given .1)) (rw (o .if1 .left) at (d .decide .ensures))
     (c .before .fill .ensures)
 
 pub assignment-spec : {M : Type 1} → statement M

@@ -7,7 +7,7 @@ use lib.ListN.{length, length-set}
 use denote.Ref.{now}
 use borrow.Author.Needs.{needs}
 use Rattle.integers.proofs.Parts.{held-value}
-use Rattle.keys.specs.Reducing.{fillDown}
+use Rattle.keys.specs.Inner.{fillDown}
 use Rattle.keys.proofs.Filling.{fill-none, fill-more, fill-valued}
 use Rattle.keys.proofs.assignment.fill.Statement.{statement}
 use Rattle.keys.proofs.assignment.fill.Tie as tie

@@ -7,7 +7,7 @@ use native.Mathlib.Numerals.{add-one}
 use native.Mathlib.Omega.{arith}
 use lib.ListN.{length}
 use denote.Ref.{now}
-use Rattle.keys.specs.Reducing.{pairUpTo, clashUpTo}
+use Rattle.keys.specs.Inner.{pairUpTo, clashUpTo}
 use Rattle.keys.proofs.Growing.{pair-ready}
 use Rattle.keys.proofs.Pairing.{pairedFrom-most, pair-none, pair-more, clash-more, paired-clash, paired-clear}
 use Rattle.keys.proofs.decide.pair_all.Statement.{statement}

@@ -1,8 +1,7 @@
 -- `key::key` meets its contract: the checks, the decision in the workspace, then the hiding in the table. Assumes nothing.
-use mathlib.Core.Path.{sym, _∙_}
 use borrow.Author.Needs.{needs}
-use Rattle.keys.proofs.Checking.{key-tells}
-use Rattle.keys.proofs.Promised.{key-refused, key-none, key-done}
+use Rattle.keys.proofs.Checking.{checked-fits}
+use Rattle.keys.proofs.Promised.{untouched, key-refused, key-five, key-done}
 use Rattle.keys.proofs.key.key.Statement.{statement}
 use Rattle.keys.proofs.key.key.Tie as tie
 
@@ -19,13 +18,14 @@ same-length : tie.Need-same-length
 same-length c = search needs
 
 returns : tie.Need-returns
-returns c = key-refused _ _ _ _ _ _ (c .before .before .check .ensures) (c .enum-told2 .given .1)
+returns c =
+    key-refused _ _ _ _ _ _ _ (c .before .before .check .ensures .stands _ (c .enum-told2 .given .1)) (c .enum-told2 .given .1) (untouched _ _ _)
 
 decide-requires : tie.Need-decide-requires
 decide-requires c κs =
     let a = c .before .before in
-    let t = key-tells _ _ _ _ (sym (a .before .before .check .ensures) ∙ a .enum-told .given .1) in
-    (t .1, t .0 .long)
+    let p = a .before .before .check .ensures .passes (a .enum-told .given .1) in
+    (checked-fits _ _ _ (p .0) (p .2 .1), p .1)
 
 same-length-2 : tie.Need-same-length-2
 same-length-2 c = search needs
@@ -37,12 +37,14 @@ returns-2 : tie.Need-returns-2
 returns-2 c =
     let d = c .before .before in
     let a = d .before .before .before in
-    key-none _ _ _ _ _ (sym (a .before .before .check .ensures) ∙ a .enum-told .given .1) (rw (c .if1 .taken) at (d .decide .ensures))
+    let p = a .before .before .check .ensures .passes (a .enum-told .given .1) in
+    key-five _ _ _ _ _ p (rw (c .if1 .taken) at (d .decide .ensures))
 
 hide-set-requires : tie.Need-hide-set-requires
 hide-set-requires c κs =
     let a = c .before .before .before .before .before .before in
-    key-tells _ _ _ _ (sym (a .before .before .check .ensures) ∙ a .enum-told .given .1) .1
+    let p = a .before .before .check .ensures .passes (a .enum-told .given .1) in
+    checked-fits _ _ _ (p .0) (p .2 .1)
 
 same-length-4 : tie.Need-same-length-4
 same-length-4 c = search needs
@@ -55,7 +57,7 @@ returns-3 c =
     let o = c .before .before .before in
     let d = o .before .before in
     let a = d .before .before .before in
-    key-done _ _ _ _ _ _ (sym (a .before .before .check .ensures) ∙ a .enum-told .given .1) (rw (o .if1 .left) at (d .decide .ensures))
+    key-done _ _ _ _ _ _ (a .before .before .check .ensures .passes (a .enum-told .given .1)) (rw (o .if1 .left) at (d .decide .ensures))
     (c .before .hide-set .ensures)
 
 pub key-spec : {M : Type 1} → statement M

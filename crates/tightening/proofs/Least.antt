@@ -126,10 +126,10 @@ unfolding positivePart negativePart
 sum-rule a b h g = lt-ltZ (a +ℤ b) noRule (omega (linear, parts-add a b))
 
 -- where pairing meets no contradiction, each word of the tightest table is the least bound of its term
-pub tightened-bounds : (n : ℕ) (t : List ℤ) → Fits n t → clashUpTo false n n t ≡ false → (k : ℕ) → k < blockStart n
+pub tightened-least : (n : ℕ) (t : List ℤ) → Fits n t → clashUpTo false n n t ≡ false → (k : ℕ) → k < blockStart n
     → LeastBound n t k (wordAt (tightened n t) k)
 unfolding tightened positivePart negativePart
-tightened-bounds n t f clear k h = go (isOne k) refl
+tightened-least n t f clear k h = go (isOne k) refl
   where
     u : List ℤ
     u = pairUpTo false n n t

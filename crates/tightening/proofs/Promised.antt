@@ -18,7 +18,7 @@ use Rattle.keys.proofs.Deciding.{refuted-exactly}
 use Rattle.keys.proofs.Growing.{pair-ample}
 use Rattle.tightening.specs.Tightening.{strengthened, tightened}
 use Rattle.tightening.specs.Promises.{LeastBound, Tightened}
-use Rattle.tightening.proofs.Least.{clash-refuted, bound-least, tightened-bounds}
+use Rattle.tightening.proofs.Least.{clash-refuted, bound-least, tightened-least}
 use Rattle.tightening.specs.Inner.{Adding}
 
 -- the words of a table paired without a contradiction add
@@ -76,4 +76,4 @@ tightened-some n t u v f p e = record {
     made = e ∙ rw (p .table refl)
 
     bounds : (k : ℕ) → k < blockStart n → LeastBound n t k (wordAt v k)
-    bounds = rw made (tightened-bounds n t f (sym (p .reply)))
+    bounds = rw made (tightened-least n t f (sym (p .reply)))

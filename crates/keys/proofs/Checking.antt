@@ -46,10 +46,14 @@ numbers n set t = (
   λ p. rw (p .0, bounds Sheet n set t .1 (p .1)),
 )
 
--- the test of a table's words by its size is that of its bounds
+-- the test of a table's first words is that of its bounds
+pub bounds-test : (paper : Paper) (n set m : ℕ) (limit : ℤ) (t : List ℤ) (r : Bool) → m ≡ blockStart n → limit ≡ pos (boundLimit paper n set)
+    → InLimit m limit t r → boundsInLimit paper n set t ≡ r
+bounds-test paper n set m limit t r s l i = sym (rw (s, l) at (i .reply))
+
 pub limit-test : (paper : Paper) (n set m : ℕ) (limit : ℤ) (t : List ℤ) (r : Bool) → serves n (length t) ≡ true → m ≡ tableSize n
     → limit ≡ pos (boundLimit paper n set) → InLimit m limit t r → boundsInLimit paper n set t ≡ r
-limit-test paper n set m limit t r e d l i = let s : m ≡ blockStart n = d ∙ serves-tells n (length t) e .size in sym (rw (s, l) at (i .reply))
+limit-test paper n set m limit t r e d l i = bounds-test paper n set m limit t r (d ∙ serves-tells n (length t) e .size) l i
 
 -- 'no assignment' is decided
 module _ (n set : ℕ) (t : List ℤ) (s : TableSized n (length t)) (b : BoundsWithin Sheet n set t) where

@@ -5,7 +5,7 @@ use mathlib.Core.Bool.{Bool, true, false, cond}
 use mathlib.Core.List.{List}
 use mathlib.Core.Logic.{_⊎_, inl, inr}
 use Prim.Native.Nat.{ℕ, zero, suc, _+_, _*_, _≤_, _<_, _^_}
-use native.Mathlib.Nat.{mul-add, two-pow-succ}
+use native.Mathlib.Nat.{mul-add, add-mul, two-pow-succ}
 use native.Mathlib.Omega.{arith}
 use lib.Dec.{ltb}
 use lib.IntN.{ℤ, pos}
@@ -139,13 +139,14 @@ hide-ready hidden n j t f h = let a = hide-ample hidden n t f j h in record { mo
 doubling : (B n j : ℕ) → j < n → (B * 2 ^ j ≤ B * 2 ^ j) × (B * 2 ^ j + B * 2 ^ j ≤ B * 2 ^ suc j)
 doubling B n j h = (omega arith, rw (doubled B j) (omega arith))
 
--- the one fact about numbers: doubled once for each quantity, the limit of a paper is below 2 ^ 62
-pub limit-doubled : (paper : Paper) (n set : ℕ) → n ≤ maxQuantities → boundLimit paper n set * 2 ^ n < 2 ^ 62
+-- the one fact about numbers: one more than the limit of a paper, doubled once for each quantity, is below 2 ^ 62
+pub limit-doubled : (paper : Paper) (n set : ℕ) → n ≤ maxQuantities → (boundLimit paper n set + 1) * 2 ^ n < 2 ^ 62
 unfolding boundLimit
 limit-doubled paper n set h =
     omega (
       arith,
-      limit-rises maxQuantities (λ j. maxBound * 2 ^ j) (λ j. maxBound * 2 ^ j) (doubling maxBound maxQuantities) n maxQuantities h (omega arith),
+      limit-rises maxQuantities (λ j. (maxBound + 1) * 2 ^ j) (λ j. (maxBound + 1) * 2 ^ j) (doubling (maxBound + 1) maxQuantities) n maxQuantities h
+      (omega arith),
     )
 
 -- so sums fit in the table of a paper
@@ -161,5 +162,5 @@ paper-fits paper n set t h l w = record {
     named = λ j g. inl refl;
     step = doubling (boundLimit paper n set) n;
   };
-  last = limit-doubled paper n set h;
+  last = omega (arith, add-mul (boundLimit paper n set) 1 (2 ^ n), limit-doubled paper n set h);
 }

@@ -30,7 +30,7 @@ use Rattle.tables.specs.Replies.{replyNumber, check}
 use Rattle.elimination.specs.Hiding.{paired, eliminated}
 use Rattle.keys.specs.Keys.{every, hideUpTo, keyOf, refuted, keyReply, assignmentReply, freesWorkspace}
 use Rattle.keys.specs.Inner.{pairUpTo, fillDown, Fits, Layered, Decided}
-use Rattle.keys.specs.Promises.{Keyed, Assigned}
+use Rattle.keys.specs.Promises.{Keyed, AssignmentFound, Assigned}
 use Rattle.keys.proofs.Several.{key-exact, key-visible, refuted-false}
 use Rattle.keys.proofs.Fitting.{hide-ample, key-within}
 use Rattle.keys.proofs.Copying.{SameTable, copied, same-back, same-satisfies, same-fits}
@@ -175,30 +175,43 @@ decided-layered n t w w' r f l e d =
     rw (d .words e) (reduced-layered n (change (blockStart n) (copying t) w)
     (same-fits n t (change (blockStart n) (copying t) w) (copied n t w (f .grows .room) l) f))
 
+-- the values read back from it, where some integers satisfy the table
+pub record ValuesFound (n : ℕ) (t v v' : List ℤ) : Type 0 where
+  pub written : Lent n true v v'
+  pub found : AssignmentFound n t v'
+
+pub values-found : (n : ℕ) (t w v w' v' : List ℤ) → Fits n t → blockStart n ≤ length t → blockStart n ≤ length w → n ≤ length v → Decided n t w false w'
+    → v' ≡ fillDown n w' n v → ValuesFound n t v v'
+values-found n t w v w' v' g m l p d k =
+    let u : List ℤ = change (blockStart n) (copying t) w in
+    let same : SameTable n t u = copied n t w m l in
+    let f : Fits n u = same-fits n t u same g in
+    let filled : v' ≡ fillDown n (pairUpTo true n n u) n v = k ∙ rw (d .words refl) in
+    let s = reduced-satisfies n u v f p (reduced-refuted n t u same g ∙ sym (d .reply)) in
+    rw filled (record {
+      written = record {
+        size = fillDown-length n n (pairUpTo true n n u) v;
+        rest = fillDown-rest n n (pairUpTo true n n u) v (omega arith);
+        kept = λ c. clash refl c;
+      };
+      found = record {
+        meaning = same-satisfies n u t (assignmentOf (fillDown n (pairUpTo true n n u) n v)) (same-back n t u same) s;
+        range = λ i h. filled-range n (pairUpTo true n n u) v (reduced-layered n u f) p i h;
+      };
+    })
+
 pub assignment-done : (n : ℕ) (t w v w' v' : List ℤ)
     → TableSized n (length t) × (blockStart n ≤ length w) × (n ≤ length v) × BoundsWithin Sheet n 0 t → Decided n t w false w'
     → v' ≡ fillDown n w' n v → Assigned n t w v Done w' v'
 assignment-done n t w v w' v' p d k =
     let e = assignment-decided n t w v w' false p d in
-    let g = checked-fits n 0 t (p .0) (p .3) in
-    let u : List ℤ = change (blockStart n) (copying t) w in
-    let same : SameTable n t u = copied n t w (p .0 .room) (p .1) in
-    let f : Fits n u = same-fits n t u same g in
-    let filled : v' ≡ fillDown n (pairUpTo true n n u) n v = k ∙ rw (d .words refl) in
-    let s = reduced-satisfies n u v f (p .2) (reduced-refuted n t u same g ∙ sym (d .reply)) in
+    let a = values-found n t w v w' v' (checked-fits n 0 t (p .0) (p .3)) (p .0 .room) (p .1) (p .2) d k in
     record {
       reply = e;
       refused = tied-returned _ Done _ e (assignment-tied n t (length w) (length v));
       accepted = tied-number _ Done _ e (assignment-tied n t (length w) (length v));
       none = assignment-none n t (length w) (length v) Done e;
       lent = d .lent;
-      written = record {
-        size = rw filled (fillDown-length n n (pairUpTo true n n u) v);
-        rest = rw filled (fillDown-rest n n (pairUpTo true n n u) v (omega arith));
-        kept = λ c. clash refl c;
-      };
-      found = λ c. rw filled (record {
-        meaning = same-satisfies n u t (assignmentOf (fillDown n (pairUpTo true n n u) n v)) (same-back n t u same) s;
-        range = λ i h. filled-range n (pairUpTo true n n u) v (reduced-layered n u f) (p .2) i h;
-      });
+      written = a .written;
+      found = λ c. a .found;
     }

@@ -16,7 +16,7 @@ use Rattle.rules.specs.declared.rule.Rule.the-variants.{One, Two, Nothing}
 use Rattle.rules.specs.declared.refusal.Refusal.{Refusal}
 use Rattle.rules.specs.Literal.{literalOf, signedOf}
 use Rattle.rules.specs.Meaning.{Assignment, hasTerm}
-use Rattle.rules.specs.Refusal.{refusalNumber, refusalValues, integersOf}
+use Rattle.rules.specs.Refusal.{refusalNumber}
 use Rattle.rules.specs.Steps.{trivialRule, isNone, ruleOf}
 use Rattle.rules.proofs.Refusals.{same-refusal, refusal-below}
 use Rattle.rules.specs.RuleWords.{ruleValues, ruleWords, ruleIn}
@@ -25,7 +25,7 @@ use Rattle.tables.specs.Meaning.{Solutions}
 use Rattle.tables.proofs.Tests.{clash}
 use Rattle.marking.specs.declared.verdict.Verdict.{Verdict}
 use Rattle.marking.specs.declared.verdict.Verdict.the-variants.{Equal, Loose, Tight}
-use Rattle.marking.specs.Verdicts.{verdictNumber, verdictValues}
+use Rattle.marking.specs.Verdicts.{verdictNumber}
 use Rattle.marking.specs.Meaning.{FirstBroken, LooseRule, BreaksCarried, LooseShown, TightShown}
 
 -- ---- a refusal
@@ -40,25 +40,6 @@ verdict-from (Tight r) = omega arith
 pub verdict-refusal : (v : Verdict) (f : Refusal) → verdictNumber v ≡ refusalNumber f → ⊥
 verdict-refusal v f e = omega (arith, e, verdict-from v, refusal-below f)
 
--- the natural numbers of integers
-unfoldable naturals : List ℤ → List ℕ
-naturals [] = []
-naturals (z ∷ zs) = mag z ∷ naturals zs
-
--- they are those that the integers were made of
-naturals-back : (xs : List ℕ) → naturals (integersOf xs) ≡ xs
-unfolding naturals
-naturals-back [] = refl
-naturals-back (x ∷ xs) = ap (λ (ys : List ℕ). x ∷ ys) (naturals-back xs)
-
--- the integers of two lists are the same only where the lists are
-same-integers : (xs ys : List ℕ) → integersOf xs ≡ integersOf ys → xs ≡ ys
-same-integers xs ys e = sym (naturals-back xs) ∙ ap naturals e ∙ naturals-back ys
-
--- two refusals with the same number and values are the same
-pub refusal-same : (f g : Refusal) → refusalNumber f ≡ refusalNumber g → integersOf (refusalValues f) ≡ integersOf (refusalValues g) → f ≡ g
-refusal-same f g e d = same-refusal f g e (same-integers (refusalValues f) (refusalValues g) d)
-
 -- ---- a rule that is carried
 
 -- the literal of a signed quantity number is the literal that it was made of
@@ -71,44 +52,6 @@ signed-back x = go (eqb (x % 2) 0) refl
     go : (b : Bool) → eqb (x % 2) 0 ≡ b → literalOf (cond b (pos (x / 2 + 1)) (negℤ (pos (x / 2 + 1)))) ≡ x
     go true e = rw next (let z = eqb-true (x % 2) 0 e in omega arith)
     go false e = rw next (let z = eqb-false (x % 2) 0 e in omega arith)
-
--- the rule of some values
-unfoldable ruleFor : List ℤ → Rule
-ruleFor [] = trivialRule
-ruleFor (p ∷ []) = trivialRule
-ruleFor (p ∷ c ∷ []) = One (literalOf p) c
-ruleFor (p ∷ q ∷ c ∷ zs) = Two (literalOf p) (literalOf q) c
-
--- it is the rule that has them, where that has a term
-rule-for : (r : Rule) → hasTerm r ≡ true → ruleFor (ruleValues r) ≡ r
-unfolding ruleFor
-rule-for (One x c) e = rw (signed-back x)
-rule-for (Two x y c) e = rw (signed-back x, signed-back y)
-rule-for (Nothing c) e = clash e refl
-
--- has a list a first element?
-unfoldable hasFirst : List ℤ → Bool
-hasFirst [] = false
-hasFirst (z ∷ zs) = true
-
--- a rule has a term exactly where it has values
-term-first : (r : Rule) → hasFirst (ruleValues r) ≡ hasTerm r
-unfolding hasFirst
-term-first (One x c) = refl
-term-first (Two x y c) = refl
-term-first (Nothing c) = refl
-
--- rules with the same values both have a term or both have none
-same-term : (r s : Rule) → ruleValues r ≡ ruleValues s → hasTerm r ≡ hasTerm s
-same-term r s e = sym (term-first r) ∙ ap hasFirst e ∙ term-first s
-
--- so two rules with the same values are the same, or neither has a term
-same-rule : (r s : Rule) → ruleValues r ≡ ruleValues s → (r ≡ s) ⊎ ((hasTerm r ≡ false) × (hasTerm s ≡ false))
-same-rule r s e = go (hasTerm r) refl
-  where
-    go : (b : Bool) → hasTerm r ≡ b → (r ≡ s) ⊎ ((hasTerm r ≡ false) × (hasTerm s ≡ false))
-    go true h = inl (sym (rule-for r h) ∙ ap ruleFor e ∙ rule-for s (sym (same-term r s e) ∙ h))
-    go false h = inr (h, sym (same-term r s e) ∙ h)
 
 -- ---- its words for a host
 
@@ -138,72 +81,3 @@ ruleAt-term k c = go (isOne k)
     go : (b : Bool) → hasTerm (cond b (One (higherAt k) c) (Two (lowerAt k) (higherAt k) c)) ≡ true
     go true = refl
     go false = refl
-
--- a rule with no term asks nothing to be broken
-bare-broken : (σ : Assignment) (r : Rule) → hasTerm r ≡ false → BreaksCarried σ r
-bare-broken σ (One x c) e = clash refl e
-bare-broken σ (Two x y c) e = clash refl e
-bare-broken σ (Nothing c) e = tt
-
--- ---- what is known of the rule that a verdict carries is known of any rule with its values
-
-module _ (r s : Rule) (e : ruleValues r ≡ ruleValues s) where
-  -- the first broken rule is returned by its values alone
-  pub first-alike : (n : ℕ) (rules : List ℤ) (paper : Solutions) → FirstBroken n rules paper r → FirstBroken n rules paper s
-  first-alike n rules paper f = go (same-rule r s e)
-    where
-      go : (r ≡ s) ⊎ ((hasTerm r ≡ false) × (hasTerm s ≡ false)) → FirstBroken n rules paper s
-      go (inl d) = rw d at f
-      go (inr h) = clash (ap hasTerm (f .is) ∙ ruleAt-term (f .place) (wordAt rules (f .place))) (h .0)
-
-  -- so is the rule of a loose verdict
-  pub loose-alike : (hidden : ℕ → Bool) (n : ℕ) (sheet : List ℤ) (script : Solutions) → LooseRule hidden n sheet script r → LooseRule hidden n sheet script s
-  loose-alike hidden n sheet script (inl h) = inl (h .0, sym (same-term r s e) ∙ h .1)
-  loose-alike hidden n sheet script (inr h) = inr (h .0, first-alike n _ script (h .1))
-
-  -- and what breaks the one rule breaks the other
-  breaks-alike : (σ : Assignment) → BreaksCarried σ r → BreaksCarried σ s
-  breaks-alike σ b = go (same-rule r s e)
-    where
-      go : (r ≡ s) ⊎ ((hasTerm r ≡ false) × (hasTerm s ≡ false)) → BreaksCarried σ s
-      go (inl d) = rw d at b
-      go (inr h) = bare-broken σ s (h .1)
-
-  -- so the same assignment shows a loose verdict
-  pub loose-shown-alike : (n : ℕ) (hidden : ℕ → Bool) (sheet script : Solutions) (values : List ℤ) → LooseShown n hidden sheet script r values
-      → LooseShown n hidden sheet script s values
-  loose-shown-alike n hidden sheet script values l = record {
-    allowed = l .allowed;
-    incomplete = l .incomplete;
-    breaks = breaks-alike _ (l .breaks);
-    zero = l .zero;
-    there = l .there;
-    range = l .range;
-  }
-
-  -- and a tight one
-  pub tight-shown-alike : (n : ℕ) (hidden : ℕ → Bool) (sheet script : Solutions) (values : List ℤ) → TightShown n hidden sheet script r values
-      → TightShown n hidden sheet script s values
-  tight-shown-alike n hidden sheet script values t = record {
-    complete = t .complete;
-    forbidden = t .forbidden;
-    breaks = breaks-alike _ (t .breaks);
-    there = t .there;
-    range = t .range;
-  }
-
--- ---- a verdict
-
--- a verdict of the number 101 is loose, with a rule of the same values
-pub loose-returned : (v : Verdict) (values : List ℤ) → verdictNumber v ≡ 101 → verdictValues v ≡ values
-    → (r : Rule) × (v ≡ Loose r) × (ruleValues r ≡ values)
-loose-returned Equal values e d = absurd (omega arith)
-loose-returned (Loose r) values e d = (r, refl, d)
-loose-returned (Tight r) values e d = absurd (omega arith)
-
--- one of the number 102 is tight, with a rule of the same values
-pub tight-returned : (v : Verdict) (values : List ℤ) → verdictNumber v ≡ 102 → verdictValues v ≡ values
-    → (r : Rule) × (v ≡ Tight r) × (ruleValues r ≡ values)
-tight-returned Equal values e d = absurd (omega arith)
-tight-returned (Loose r) values e d = absurd (omega arith)
-tight-returned (Tight r) values e d = (r, refl, d)

@@ -30,8 +30,8 @@ use Rattle.keys.specs.Inner.{Fits}
 use Rattle.keys.proofs.Copying.{SameTable, copied, same-back, same-satisfies}
 use Rattle.tightening.specs.Promises.{Tightened}
 use Rattle.marking.specs.Meaning.{FirstAt, workspaceSize}
-use Rattle.marking.specs.Marking.{firstBelowFrom, firstBelow, firstBroken}
-use Rattle.marking.specs.Promises.{LeastBounds, Found, BrokenFound, RuleBreakable, RuleBroken, FrontBreakable, FrontBroken}
+use Rattle.marking.specs.Marking.{firstBroken}
+use Rattle.marking.specs.Inner.{firstBelowFrom, firstBelow, LeastBounds, Found, BrokenFound, RuleBreakable, RuleBroken, FrontBreakable, FrontBroken}
 use Rattle.marking.proofs.Breakable.{Exactly, breakable-exactly, first-none, first-at, first-nowhere}
 
 -- ---- the first place whose word is a rule and smaller than the word m places further on

@@ -15,4 +15,3 @@ pub mod Lending
 pub mod Showing
 pub mod Promised
 pub mod Frauds
-pub mod Cases

@@ -5,7 +5,7 @@ use mathlib.Core.Bool.{Bool, true, false, cond, not}
 use mathlib.Core.List.{List}
 use mathlib.Core.Logic.{_⊎_, inl, inr}
 use Prim.Native.Nat.{ℕ, zero, suc, _+_, _*_, _≤_, _<_, _^_}
-use native.Mathlib.Nat.{mul-add, add-mul, mul-assoc, two-pow-succ}
+use native.Mathlib.Nat.{mul-add, add-mul, mul-assoc, mul-le-mul, two-pow-succ}
 use native.Mathlib.Omega.{arith}
 use lib.IntN.{ℤ, pos}
 use lib.ListN.{length}
@@ -18,7 +18,8 @@ use Rattle.places.specs.Numbering.{blockStart, placeOfOne, placeOfPair, isOne, 
 use Rattle.places.proofs.Numbering.{one-below, pair-below, at-lower, at-below}
 use Rattle.rules.specs.declared.rule.Rule.{Rule}
 use Rattle.rules.specs.Hidden.{hiddenIn, hiddenCount}
-use Rattle.rules.specs.Limits.{maxQuantities, maxBound}
+use Rattle.rules.specs.declared.paper.Paper.the-variants.{Sheet, Script}
+use Rattle.rules.specs.Limits.{maxQuantities, boundLimit}
 use Rattle.rules.specs.Meaning.{names}
 use Rattle.rules.specs.Steps.{oppositeOf}
 use Rattle.rules.proofs.Meanings.{opposite-bound}
@@ -26,7 +27,6 @@ use Rattle.tables.specs.Tables.{hasRule, putRule, clearing, cleared}
 use Rattle.tables.specs.Meaning.{HoldsRule, ruleIn, NamesVisible, WordsWithin}
 use Rattle.tables.proofs.Tests.{clash}
 use Rattle.tables.proofs.Places.{ruleAt-bound, ruleAt-hasPlace}
-use Rattle.tables.proofs.Limits.{wordsInLimit-within}
 use Rattle.tables.proofs.Lists.{put-length}
 use Rattle.tables.proofs.Without.{cleared-word}
 use Rattle.elimination.specs.Hiding.{pairWord, loneWord, onOne, onTwo, pairing, paired, eliminated}
@@ -34,12 +34,13 @@ use Rattle.elimination.specs.Magnitude.{Unnamed}
 use Rattle.elimination.proofs.TermWords.{quantity-cases, pair-same, pair-first, pair-second}
 use Rattle.elimination.proofs.Step.{paired-length, within-rule}
 use Rattle.keys.specs.Keys.{hideUpTo, keyOf}
+use Rattle.keys.specs.Meaning.{BoundsWithin}
 use Rattle.keys.specs.Inner.{Fits}
 use Rattle.keys.proofs.Copying.{SameTable}
 use Rattle.keys.proofs.Several.{key-visible}
-use Rattle.keys.proofs.Fitting.{words-mono, key-within, sheet-fits}
-use Rattle.marking.specs.Meaning.{TablesAccepted}
+use Rattle.keys.proofs.Fitting.{words-mono, key-within, limit-doubled, paper-fits}
 use Rattle.marking.proofs.Puts.{put-within, put-unnamed, opposite-hasPlace, opposite-names}
+use Rattle.marking.specs.Inner.{TablesAccepted}
 
 -- ---- a table that names visible quantities alone
 
@@ -100,54 +101,62 @@ visible-fits hidden n L t m l w u h = record {
     go j true e = inr (u j e)
     go j false e = inl refl
 
--- ---- the limit of a sheet's key
+-- ---- the limit of a key
 
--- every bound of the key of a sheet is within this
-abbrev keyLimit : (ℕ → Bool) → ℕ → ℕ
-keyLimit hidden n = maxBound * 2 ^ hiddenCount hidden n
+-- every bound of the key of a sheet within B is within this
+abbrev keyLimit : (ℕ → Bool) → ℕ → ℕ → ℕ
+keyLimit hidden n B = B * 2 ^ hiddenCount hidden n
 
--- one more than that, doubled for each visible quantity, is below 2 ^ 62,
-key-doubled : (k v : ℕ) → k + v ≤ maxQuantities → (maxBound * 2 ^ k + 1) * 2 ^ v < 2 ^ 62
-key-doubled k v h =
-    let whole : maxBound * 2 ^ k * 2 ^ v ≡ maxBound * 2 ^ (k + v) = mul-assoc maxBound (2 ^ k) (2 ^ v) ∙ rw (pow-add 2 k v) in
-    rw (add-mul (maxBound * 2 ^ k) 1 (2 ^ v), whole)
-    (omega (arith, pow-mono {i = k + v} {j = maxQuantities} h, pow-mono {i = v} {j = maxQuantities} (omega arith)))
+-- one more than that, doubled for each visible quantity, is no more than one more than B doubled for every one
+key-doubled : (B k v : ℕ) → (B * 2 ^ k + 1) * 2 ^ v ≤ (B + 1) * 2 ^ (k + v)
+key-doubled B k v =
+    let whole : B * 2 ^ k * 2 ^ v ≡ B * 2 ^ (k + v) = mul-assoc B (2 ^ k) (2 ^ v) ∙ rw (pow-add 2 k v) in
+    rw (add-mul (B * 2 ^ k) 1 (2 ^ v), whole, add-mul B 1 (2 ^ (k + v))) (omega (arith, pow-mono {i = v} {j = k + v} (omega arith)))
 
--- and itself a word's
-key-word : (hidden : ℕ → Bool) (n : ℕ) → n ≤ maxQuantities → keyLimit hidden n + 1 < 9223372036854775807
-key-word hidden n h = omega (arith, pow-mono {i = hiddenCount hidden n} {j = maxQuantities} (omega (arith, count-both hidden n)))
+module _ (hidden : ℕ → Bool) (n B : ℕ) (h : (B + 1) * 2 ^ n < 2 ^ 62) where
+  -- so it is below 2 ^ 62
+  key-fits : (keyLimit hidden n B + 1) * 2 ^ visibleCount hidden n < 2 ^ 62
+  key-fits = let d = rw (count-both hidden n) at (key-doubled B (hiddenCount hidden n) (visibleCount hidden n)) in omega (arith, d, h)
 
--- a sheet's own words are within it
-sheet-within : (hidden : ℕ → Bool) (n : ℕ) (t : List ℤ) → WordsWithin (blockStart n) (pos maxBound) t → WordsWithin (blockStart n) (pos (keyLimit hidden n)) t
-sheet-within hidden n t w = words-mono (blockStart n) maxBound (keyLimit hidden n) t (omega (arith, pow-pos (hiddenCount hidden n))) w
+  -- and itself a word's
+  key-word : keyLimit hidden n B + 1 < 9223372036854775807
+  key-word =
+      let one : keyLimit hidden n B + 1 ≤ keyLimit hidden n B + 1 = omega arith in
+      omega (arith, key-fits, mul-le-mul one (pow-pos (visibleCount hidden n)))
+
+-- words within B are within it
+sheet-within : (hidden : ℕ → Bool) (n B : ℕ) (t : List ℤ) → WordsWithin (blockStart n) (pos B) t → WordsWithin (blockStart n) (pos (keyLimit hidden n B)) t
+sheet-within hidden n B t w =
+    let one : B ≤ B = omega arith in
+    words-mono (blockStart n) B (keyLimit hidden n B) t (omega (arith, mul-le-mul one (pow-pos (hiddenCount hidden n)))) w
 
 -- ---- the opposite of a rule put in
 
--- a table like a key: its bounds are within the limit of one, and its rules name visible quantities alone
-record KeyLike (hidden : ℕ → Bool) (n : ℕ) (t : List ℤ) : Type 0 where
-  within : WordsWithin (blockStart n) (pos (keyLimit hidden n)) t
+-- a table like a key of a sheet within B: its bounds are within the limit of one, and its rules name visible quantities alone
+record KeyLike (hidden : ℕ → Bool) (n B : ℕ) (t : List ℤ) : Type 0 where
+  within : WordsWithin (blockStart n) (pos (keyLimit hidden n B)) t
   visible : NamesVisible n hidden t
 
-module _ (hidden : ℕ → Bool) (n : ℕ) (rules : List ℤ) (k : ℕ) (most : n ≤ maxQuantities) (r : KeyLike hidden n rules) (p : HoldsRule n rules k) where
+module _ (hidden : ℕ → Bool) (n B : ℕ) (rules : List ℤ) (k : ℕ) (h : (B + 1) * 2 ^ n < 2 ^ 62) (r : KeyLike hidden n B rules) (p : HoldsRule n rules k) where
   -- the opposite of a rule's bound is larger by one at most
-  opposite-within : Within (pos (keyLimit hidden n + 1)) (oppositeBound (wordAt rules k))
+  opposite-within : Within (pos (keyLimit hidden n B + 1)) (oppositeBound (wordAt rules k))
   opposite-within = within-opposite (r .within .each k (p .inside) (p .there) (p .rule))
 
   -- so it is a bound
   opposed-small : hasRule (oppositeBound (wordAt rules k)) ≡ true
-  opposed-small = within-rule (key-word hidden n most) opposite-within
+  opposed-small = within-rule (key-word hidden n B h) opposite-within
 
   -- and sums fit with the opposite put in
-  opposed-fits : (t : List ℤ) → blockStart n ≤ length t → KeyLike hidden n t → Fits n (putRule t (oppositeOf (ruleIn rules k)))
-  opposed-fits t l w =
-      visible-fits hidden n (keyLimit hidden n + 1) (putRule t o) most (omega (arith, put-length t o))
-      (put-within (blockStart n) (keyLimit hidden n + 1) t o
-      (words-mono (blockStart n) (keyLimit hidden n) (keyLimit hidden n + 1) t (omega arith) (w .within))
+  opposed-fits : (t : List ℤ) → n ≤ maxQuantities → blockStart n ≤ length t → KeyLike hidden n B t → Fits n (putRule t (oppositeOf (ruleIn rules k)))
+  opposed-fits t most l w =
+      visible-fits hidden n (keyLimit hidden n B + 1) (putRule t o) most (omega (arith, put-length t o))
+      (put-within (blockStart n) (keyLimit hidden n B + 1) t o
+      (words-mono (blockStart n) (keyLimit hidden n B) (keyLimit hidden n B + 1) t (omega arith) (w .within))
       (rw (opposite-bound (ruleIn rules k), ruleAt-bound k (wordAt rules k)) opposite-within))
-      (λ j h. put-unnamed n j t o (opposite-hasPlace n (ruleIn rules k) (ruleAt-hasPlace n k (wordAt rules k) (p .inside)))
-      (opposite-names (suc j) (ruleIn rules k) ∙ visible-unnamed hidden n j rules (r .visible) h .each k p)
-      (visible-unnamed hidden n j t (w .visible) h))
-      (key-doubled (hiddenCount hidden n) (visibleCount hidden n) (omega (arith, count-both hidden n)))
+      (λ j g. put-unnamed n j t o (opposite-hasPlace n (ruleIn rules k) (ruleAt-hasPlace n k (wordAt rules k) (p .inside)))
+      (opposite-names (suc j) (ruleIn rules k) ∙ visible-unnamed hidden n j rules (r .visible) g .each k p)
+      (visible-unnamed hidden n j t (w .visible) g))
+      (key-fits hidden n B h)
     where
       o : Rule
       o = oppositeOf (ruleIn rules k)
@@ -158,49 +167,64 @@ module _ (hidden : ℕ → Bool) (n : ℕ) (rules : List ℤ) (k : ℕ) (most : 
 abbrev none : ℕ → Bool
 none q = false
 
--- where none is hidden, a table in the sheet's limits is like a key
-sheet-like : (n : ℕ) (t : List ℤ) → WordsWithin (blockStart n) (pos maxBound) t → KeyLike none n t
-sheet-like n t w = record { within = sheet-within none n t w; visible = record { each = λ k p q d. refl } }
+-- where none is hidden, a table within B is like a key
+sheet-like : (n B : ℕ) (t : List ℤ) → WordsWithin (blockStart n) (pos B) t → KeyLike none n B t
+sheet-like n B t w = record { within = sheet-within none n B t w; visible = record { each = λ k p q d. refl } }
+
+-- scripts have a sheet's limit
+script-limit : (n set : ℕ) (t : List ℤ) → BoundsWithin Script n set t → BoundsWithin Sheet n set t
+unfolding boundLimit
+script-limit n set t w = w
 
 module _ (n set : ℕ) (sheet script : List ℤ) (w v : ℕ) (m : TablesAccepted n set sheet script w v) where
+  -- the sheet's limit, and that it is small
+  abbrev limit : ℕ
+  limit = boundLimit Sheet n set
+
+  limit-small : (limit + 1) * 2 ^ n < 2 ^ 62
+  limit-small = limit-doubled Sheet n set (m .sized .most)
+
+  script-within : WordsWithin (blockStart n) (pos limit) script
+  script-within = script-limit n set script (m .limits .script-within)
+
   -- sums fit in the sheet
   pub sheet-fitting : Fits n sheet
-  sheet-fitting = sheet-fits n sheet (m .sized .most) (m .sized .sheet-room) (wordsInLimit-within (blockStart n) (pos maxBound) sheet .1 (m .limits .sheet-within))
+  sheet-fitting = paper-fits Sheet n set sheet (m .sized .most) (m .sized .sheet-room) (m .limits .sheet-within)
 
   -- and in the script
   pub script-fitting : Fits n script
-  script-fitting =
-      sheet-fits n script (m .sized .most) (m .sized .script-room) (wordsInLimit-within (blockStart n) (pos maxBound) script .1 (m .limits .script-within))
+  script-fitting = paper-fits Script n set script (m .sized .most) (m .sized .script-room) (m .limits .script-within)
 
   -- the key itself is like a key,
-  key-like : KeyLike (hiddenIn set) n (keyOf (hiddenIn set) n sheet)
+  key-like : KeyLike (hiddenIn set) n limit (keyOf (hiddenIn set) n sheet)
   key-like = record {
-    within = key-within (hiddenIn set) n maxBound sheet (m .sized .sheet-room) (m .limits .sheet-within);
+    within = key-within (hiddenIn set) n limit sheet (m .sized .sheet-room) (m .limits .sheet-within);
     visible = key-visible (hiddenIn set) n sheet (m .sized .sheet-room);
   }
 
   -- and so is the script
-  script-like : KeyLike (hiddenIn set) n script
-  script-like = record { within = sheet-within (hiddenIn set) n script (m .limits .script-within); visible = m .visible }
+  script-like : KeyLike (hiddenIn set) n limit script
+  script-like = record { within = sheet-within (hiddenIn set) n limit script script-within; visible = m .visible }
 
   -- sums fit in the sheet with the opposite of a script rule put in,
   pub tight-opposed : (k : ℕ) → HoldsRule n script k → Fits n (putRule sheet (oppositeOf (ruleIn script k)))
   tight-opposed k p =
-      opposed-fits none n script k (m .sized .most) (sheet-like n script (m .limits .script-within)) p sheet (m .sized .sheet-room)
-      (sheet-like n sheet (m .limits .sheet-within))
+      opposed-fits none n limit script k limit-small (sheet-like n limit script script-within) p sheet (m .sized .most) (m .sized .sheet-room)
+      (sheet-like n limit sheet (m .limits .sheet-within))
 
   -- and in the script with the opposite of a key rule
   pub loose-opposed : (k : ℕ) → HoldsRule n (keyOf (hiddenIn set) n sheet) k
       → Fits n (putRule script (oppositeOf (ruleIn (keyOf (hiddenIn set) n sheet) k)))
-  loose-opposed k p = opposed-fits (hiddenIn set) n (keyOf (hiddenIn set) n sheet) k (m .sized .most) key-like p script (m .sized .script-room) script-like
+  loose-opposed k p =
+      opposed-fits (hiddenIn set) n limit (keyOf (hiddenIn set) n sheet) k limit-small key-like p script (m .sized .most) (m .sized .script-room) script-like
 
   -- the opposite of a script rule has a bound,
   pub tight-small : (k : ℕ) → HoldsRule n script k → hasRule (oppositeBound (wordAt script k)) ≡ true
-  tight-small k p = opposed-small none n script k (m .sized .most) (sheet-like n script (m .limits .script-within)) p
+  tight-small k p = opposed-small none n limit script k limit-small (sheet-like n limit script script-within) p
 
   -- and so has that of a key rule
   pub loose-small : (k : ℕ) → HoldsRule n (keyOf (hiddenIn set) n sheet) k → hasRule (oppositeBound (wordAt (keyOf (hiddenIn set) n sheet) k)) ≡ true
-  loose-small k p = opposed-small (hiddenIn set) n (keyOf (hiddenIn set) n sheet) k (m .sized .most) key-like p
+  loose-small k p = opposed-small (hiddenIn set) n limit (keyOf (hiddenIn set) n sheet) k limit-small key-like p
 
 -- ---- tables that hold the same words
 

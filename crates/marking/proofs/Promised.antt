@@ -2,7 +2,7 @@
 use mathlib.Core.Path.{_≡_, refl, sym, _∙_, ap}
 use mathlib.Core.Bool.{Bool, true, false}
 use mathlib.Core.List.{List, [], _∷_}
-use mathlib.Core.Logic.{inl, inr}
+use mathlib.Core.Logic.{_↔_, inl, inr}
 use Prim.Native.Nat.{ℕ, suc, _≤_}
 use native.Mathlib.Omega.{arith}
 use lib.IntN.{ℤ, pos}
@@ -16,36 +16,38 @@ use Rattle.rules.specs.declared.refusal.Refusal.{Refusal}
 use Rattle.rules.specs.declared.rule.Rule.{Rule}
 use Rattle.rules.specs.declared.rule.Rule.the-variants.{One, Two, Nothing}
 use Rattle.rules.specs.Hidden.{hiddenIn}
-use Rattle.rules.specs.Limits.{maxQuantities, maxBound}
-use Rattle.rules.specs.Refusal.{refusalNumber, refusalValues, integersOf}
+use Rattle.rules.specs.Limits.{maxQuantities}
+use Rattle.rules.specs.Refusal.{Returned, refusedAs}
+use Rattle.rules.specs.Refusing.{RefusedBy, AllMet}
+use Rattle.rules.proofs.Refusals.{same-refusal}
 use Rattle.rules.specs.Steps.{trivialRule}
 use Rattle.rules.proofs.rule.Rule.{the-type}
 use Rattle.rules.specs.Meaning.{hasTerm}
-use Rattle.rules.specs.RuleWords.{ruleValues}
 use Rattle.tables.specs.declared.reply.Reply.{Reply}
 use Rattle.tables.specs.declared.reply.Reply.the-variants.{Done}
 use Rattle.tables.specs.declared.reply.Reply.the-variants.{Refused as NotDone}
 use Rattle.tables.specs.Tables.{tableSize}
 use Rattle.tables.specs.Meaning.{Satisfies}
-use Rattle.tables.proofs.Sizes.{size-whole, long-serves}
-use Rattle.tables.proofs.Limits.{wordsInLimit-within}
+use Rattle.tables.proofs.Sizes.{size-whole}
+use Rattle.tables.proofs.Refusing.{Tied, refusal-in}
 use Rattle.tables.proofs.Meanings.{table-allows-visible, script-visible}
 use Rattle.tables.proofs.Tests.{refused-done, clash}
-use Rattle.keys.specs.Keys.{keyOf, refuted, assignmentChecks}
+use Rattle.keys.specs.Keys.{keyOf, refuted}
 use Rattle.keys.specs.Inner.{pairUpTo, fillDown, Decided}
 use Rattle.keys.proofs.Copying.{copied, holds-same, same-unnamed}
 use Rattle.keys.proofs.Deciding.{refuted-exactly}
-use Rattle.keys.proofs.Checking.{lent-done, values-passed}
-use Rattle.keys.proofs.Promised.{untouched, assignment-done}
+use Rattle.keys.proofs.Promised.{untouched, values-found}
 use Rattle.marking.specs.declared.verdict.Verdict.{Verdict}
 use Rattle.marking.specs.declared.verdict.Verdict.the-variants.{Equal, Loose, Tight}
 use Rattle.marking.specs.declared.verdict.Marking.the-variants.{Marked, Refused}
-use Rattle.marking.specs.Marking.{firstBroken, orElse, verdictOf, markChecks, markReply}
-use Rattle.marking.specs.Meaning.{LooseShown, TightShown, workspaceSize, TablesAccepted, TablesRefused}
-use Rattle.marking.specs.Promises.{VerdictGiven, TablesMarked, FrontBreakable, FrontBroken}
-use Rattle.marking.proofs.Checking.{done-accepted, accepted-done, refused-reason, reason-refused}
-use Rattle.marking.proofs.Carried.{verdict-refusal, refusal-same, loose-returned, tight-returned}
-use Rattle.marking.proofs.Carried.{first-alike, loose-alike, loose-shown-alike, tight-shown-alike}
+use Rattle.marking.specs.declared.verdict.Marking.{Marking}
+use Rattle.marking.specs.Verdicts.{verdictNumber, carriedRule, markingReturned, isMarked}
+use Rattle.marking.specs.Marking.{firstBroken, orElse, verdictOf, markChecks, markedAs, markReply}
+use Rattle.marking.specs.Meaning.{LooseShown, TightShown, VerdictMeans, workspaceSize, markNeeds}
+use Rattle.marking.specs.Promises.{TablesMarked}
+use Rattle.marking.specs.Inner.{TablesAccepted, VerdictGiven, FrontBreakable, FrontBroken}
+use Rattle.marking.proofs.Checking.{mark-tied, met-accepted}
+use Rattle.marking.proofs.Carried.{verdict-refusal}
 use Rattle.marking.proofs.Zeros.{unnamed-zero}
 use Rattle.marking.proofs.Opposed.{visible-unnamed, sheet-fitting, script-fitting, tight-opposed, loose-opposed, tight-small, loose-small}
 use Rattle.marking.proofs.Demand.{verdict-demand, verdict-loose, verdict-tight}
@@ -73,6 +75,17 @@ loose-inj r s e = cc
 -- so do two tight ones
 tight-inj : (r s : Rule) → Tight r ≡ Tight s → r ≡ s
 tight-inj r s e = cc
+
+-- the number tells loose and tight
+is-loose : (v : Verdict) → verdictNumber v ≡ 101 → v ≡ Loose (carriedRule v)
+is-loose Equal e = absurd (omega arith)
+is-loose (Loose r) e = refl
+is-loose (Tight r) e = absurd (omega arith)
+
+is-tight : (v : Verdict) → verdictNumber v ≡ 102 → v ≡ Tight (carriedRule v)
+is-tight Equal e = absurd (omega arith)
+is-tight (Loose r) e = absurd (omega arith)
+is-tight (Tight r) e = refl
 
 -- equal: nothing is written
 given-equal : (n set : ℕ) (sheet script w v w' v' : List ℤ) → Equal ≡ verdictOf (hiddenIn set) n sheet script → Lent (workspaceSize n) true w w' → v' ≡ v
@@ -115,14 +128,6 @@ given-tight n set sheet script w v r w' v' e l k s = record {
 pub one-table : (n set : ℕ) (sheet script : List ℤ) (w v : ℕ) → TablesAccepted n set sheet script w v → blockStart n ≤ w
 one-table n set sheet script w v m = omega (arith, m .workspace-room)
 
--- the checks of finding an assignment of the script pass
-assignment-passes : (n set : ℕ) (sheet script : List ℤ) (w v : ℕ) → TablesAccepted n set sheet script w v
-    → assignmentChecks n script w v ≡ Done
-assignment-passes n set sheet script w v m =
-    let served = long-serves n (length script) (m .sized .some) (m .sized .most) (m .sized .script-room) in
-    let lent = lent-done n (length script) w (blockStart n) served (sym (size-whole n (m .sized .most))) (one-table n set sheet script w v m) in
-    sym (values-passed n w v script (sym lent) (m .values-room) (wordsInLimit-within (blockStart n) (pos maxBound) script .1 (m .limits .script-within)))
-
 -- ---- a sheet that no integers satisfy
 
 -- equal where none satisfy the script either
@@ -138,16 +143,17 @@ pub without-loose : (n set : ℕ) (sheet script w v : List ℤ) (r : Rule) (w' v
     → refuted n sheet ≡ true → Decided n script w false w' → v' ≡ fillDown n w' n v → r ≡ trivialRule → VerdictGiven n set sheet script w v (Loose r) w' v'
 unfolding verdictOf
 without-loose n set sheet script w v r w' v' m e d k t =
-    let a = assignment-done n script w v w' v' (assignment-passes n set sheet script (length w) (length v) m) d k in
+    let a = values-found n script w v w' v' (script-fitting n set sheet script (length w) (length v) m) (m .sized .script-room)
+    (one-table n set sheet script (length w) (length v) m) (m .values-room) d k in
     let none = refuted-exactly n sheet (sheet-fitting n set sheet script (length w) (length v) m) .0 e in
     rw t (given-loose n set sheet script w v trivialRule w' v' (rw (e, ← d .reply))
     (decided-lent n script w false w' d) (a .written) (record {
-      allowed = a .meaning refl;
+      allowed = a .found .meaning;
       incomplete = λ s. none _ (s .complete);
       breaks = tt;
       zero = zero-words n (hiddenIn set) v' (λ j h g. rw (k, d .words refl) (zeros j h g));
       there = rw (a .written .size) (m .values-room);
-      range = a .range refl;
+      range = a .found .range;
     }))
   where
     u : List ℤ
@@ -283,40 +289,69 @@ equal-given n set sheet script w v y x u r w' v' e p f b h =
 
 -- ---- marking two tables
 
+-- what a verdict means
+verdict-told : (n set : ℕ) (sheet script : List ℤ) (w v : List ℤ) (r : Verdict) (w' v' : List ℤ)
+    → TablesAccepted n set sheet script (length w) (length v) → VerdictGiven n set sheet script w v r w' v'
+    → VerdictMeans n (hiddenIn set) (Satisfies n sheet) (Satisfies n script) sheet script (verdictNumber r) (carriedRule r) v'
+verdict-told n set sheet script w v r w' v' m g = record {
+  demand = rw (g .reply) (verdict-demand n set sheet script (length w) (length v) m);
+  visibles = record {
+    script-visible = λ σ τ. script-visible n (hiddenIn set) script σ τ (m .visible);
+    sheet-visible = table-allows-visible n (hiddenIn set) sheet;
+  };
+  loose = λ e. let p = is-loose r e in
+      (verdict-loose n set sheet script (length w) (length v) m (carriedRule r) (sym (g .reply) ∙ p), g .loose-shown (carriedRule r) p);
+  tight = λ e. let p = is-tight r e in
+      (verdict-tight n set sheet script (length w) (length v) m (carriedRule r) (sym (g .reply) ∙ p), g .tight-shown (carriedRule r) p);
+}
+
+-- a reply made of checks is refused as they are
+marked-refused : (a : Reply) (v : Verdict) (f : Refusal) → (markingReturned (markedAs a v) ≡ refusedAs f) ↔ (a ≡ NotDone f)
+marked-refused Done v f = (λ e. absurd (verdict-refusal v f (ap (λ (x : Returned). x .number) e)), λ e. absurd (refused-done (sym e)))
+marked-refused (NotDone g) v f = (λ e. ap NotDone (same-refusal g f e), λ e. rw (refusal-in e))
+
+-- and is a verdict where they are done
+marked-done : (a : Reply) (v : Verdict) → (isMarked (markedAs a v) ≡ true) ↔ (a ≡ Done)
+marked-done Done v = (λ e. refl, λ e. refl)
+marked-done (NotDone g) v = (λ e. clash e refl, λ e. absurd (refused-done e))
+
+module _ (n set : ℕ) (sheet script : List ℤ) (w v : ℕ) where
+  replied : Tied (markNeeds n set sheet script w v) (markChecks n set sheet script w v)
+  replied = mark-tied n set sheet script w v
+
+  reply-refused : (r : Marking) → r ≡ markReply n set sheet script w v → (f : Refusal)
+      → (markingReturned r ≡ refusedAs f) ↔ RefusedBy (markNeeds n set sheet script w v) f
+  unfolding markReply
+  reply-refused r e f =
+      let d = marked-refused (markChecks n set sheet script w v) (verdictOf (hiddenIn set) n sheet script) f in
+      (λ x. replied .refuses f .0 (d .0 (rw e at x)), λ x. rw e (d .1 (replied .refuses f .1 x)))
+
+  reply-accepted : (r : Marking) → r ≡ markReply n set sheet script w v → (isMarked r ≡ true) ↔ AllMet (markNeeds n set sheet script w v)
+  unfolding markReply
+  reply-accepted r e =
+      let d = marked-done (markChecks n set sheet script w v) (verdictOf (hiddenIn set) n sheet script) in
+      (λ x. replied .passes .0 (d .0 (rw e at x)), λ x. rw e (d .1 (replied .passes .1 x)))
+
 -- checks that are done leave what a verdict asks
 pub checked-accepted : (n set : ℕ) (sheet script : List ℤ) (w v : ℕ) (a : Reply) → a ≡ markChecks n set sheet script w v → a ≡ Done
     → TablesAccepted n set sheet script w v
-checked-accepted n set sheet script w v a e d = done-accepted n set sheet script w v (sym e ∙ d)
+checked-accepted n set sheet script w v a e d = met-accepted n set sheet script w v (mark-tied n set sheet script w v .passes .0 (sym e ∙ d))
 
 -- a refusal: no word is changed
 pub mark-refused : (n set : ℕ) (sheet script w v : List ℤ) (a : Reply) (f : Refusal) → a ≡ markChecks n set sheet script (length w) (length v) → a ≡ NotDone f
     → TablesMarked n set sheet script w v (Refused f) w v
 unfolding markReply
 mark-refused n set sheet script w v a f e d = record {
-  reply = rw (← e, d);
+  reply = reply;
   lent = untouched (workspaceSize n) false w;
   written = untouched n false v;
-  refused = λ g. (
-    λ c. rw (refusal-same f g (c .0) (c .1)) at why,
-    λ h. (ap refusalNumber (same g h), ap (λ (x : Refusal). integersOf (refusalValues x)) (same g h)),
-  );
-  accepted = (λ c. clash {b = false} c refl, λ t. absurd (not-accepted t));
-  demand = λ t. absurd (not-accepted t);
-  visibles = λ t. absurd (not-accepted t);
-  loose-rule = λ rule c. absurd (verdict-refusal (Loose rule) f (sym (c .0)));
-  tight-rule = λ rule c. absurd (verdict-refusal (Tight rule) f (sym (c .0)));
-  loose-shown = λ rule c. absurd (verdict-refusal (Loose rule) f (sym (c .0)));
-  tight-shown = λ rule c. absurd (verdict-refusal (Tight rule) f (sym (c .0)));
+  refused = reply-refused n set sheet script (length w) (length v) (Refused f) reply;
+  accepted = reply-accepted n set sheet script (length w) (length v) (Refused f) reply;
+  means = λ c. clash {b = false} c refl;
 }
   where
-    why : TablesRefused n set sheet script (length w) (length v) f
-    why = refused-reason n set sheet script (length w) (length v) f (sym e ∙ d)
-
-    same : (g : Refusal) → TablesRefused n set sheet script (length w) (length v) g → f ≡ g
-    same g h = let y : NotDone f ≡ NotDone g = sym d ∙ e ∙ reason-refused n set sheet script (length w) (length v) g h in cc
-
-    not-accepted : TablesAccepted n set sheet script (length w) (length v) → ⊥
-    not-accepted t = refused-done (sym d ∙ e ∙ accepted-done n set sheet script (length w) (length v) t)
+    reply : Refused f ≡ markReply n set sheet script (length w) (length v)
+    reply = rw (← e, d)
 
 -- a verdict
 pub mark-given : (n set : ℕ) (sheet script w v : List ℤ) (a : Reply) (r : Verdict) (w' v' : List ℤ)
@@ -324,30 +359,13 @@ pub mark-given : (n set : ℕ) (sheet script w v : List ℤ) (a : Reply) (r : Ve
     → TablesMarked n set sheet script w v (Marked r) w' v'
 unfolding markReply
 mark-given n set sheet script w v a r w' v' e d g = record {
-  reply = rw (← e, d, ← g .reply);
+  reply = reply;
   lent = g .lent;
   written = g .written;
-  refused = λ f. (
-    λ c. absurd (verdict-refusal r f (c .0)),
-    λ h. absurd (refused-done (sym (reason-refused n set sheet script (length w) (length v) f h) ∙ sym e ∙ d)),
-  );
-  accepted = (λ c. m, λ t. refl);
-  demand = λ t. rw (g .reply) (verdict-demand n set sheet script (length w) (length v) m);
-  visibles = λ t. record {
-    script-visible = λ σ τ. script-visible n (hiddenIn set) script σ τ (t .visible);
-    sheet-visible = table-allows-visible n (hiddenIn set) sheet;
-  };
-  loose-rule = λ rule c. let p = loose-returned r (ruleValues rule) (c .0) (c .1) in
-      loose-alike (p .0) rule (p .2) (hiddenIn set) n sheet (Satisfies n script)
-      (verdict-loose n set sheet script (length w) (length v) m (p .0) (sym (g .reply) ∙ p .1));
-  tight-rule = λ rule c. let p = tight-returned r (ruleValues rule) (c .0) (c .1) in
-      first-alike (p .0) rule (p .2) n script (Satisfies n sheet)
-      (verdict-tight n set sheet script (length w) (length v) m (p .0) (sym (g .reply) ∙ p .1));
-  loose-shown = λ rule c. let p = loose-returned r (ruleValues rule) (c .0) (c .1) in
-      loose-shown-alike (p .0) rule (p .2) n (hiddenIn set) (Satisfies n sheet) (Satisfies n script) v' (g .loose-shown (p .0) (p .1));
-  tight-shown = λ rule c. let p = tight-returned r (ruleValues rule) (c .0) (c .1) in
-      tight-shown-alike (p .0) rule (p .2) n (hiddenIn set) (Satisfies n sheet) (Satisfies n script) v' (g .tight-shown (p .0) (p .1));
+  refused = reply-refused n set sheet script (length w) (length v) (Marked r) reply;
+  accepted = reply-accepted n set sheet script (length w) (length v) (Marked r) reply;
+  means = λ c. verdict-told n set sheet script w v r w' v' (checked-accepted n set sheet script (length w) (length v) a e d) g;
 }
   where
-    m : TablesAccepted n set sheet script (length w) (length v)
-    m = checked-accepted n set sheet script (length w) (length v) a e d
+    reply : Marked r ≡ markReply n set sheet script (length w) (length v)
+    reply = rw (← e, d, ← g .reply)

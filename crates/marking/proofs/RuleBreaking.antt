@@ -36,10 +36,10 @@ use Rattle.keys.proofs.Deciding.{reduced-satisfies}
 use Rattle.keys.proofs.Filling.{fillDown-length, fillDown-rest, filled-range}
 use Rattle.keys.proofs.Layers.{reduced-layered}
 use Rattle.keys.proofs.Pairing.{pairUpTo-length, clash-unsatisfiable}
-use Rattle.marking.specs.Promises.{RuleBreakable, RuleBroken}
 use Rattle.marking.proofs.Breakable.{opposed-bound, opposed-satisfies}
 use Rattle.marking.proofs.Puts.{put-lowers, put-unnamed, opposite-hasPlace, opposite-names}
 use Rattle.marking.proofs.Zeros.{unnamed-zero}
+use Rattle.marking.specs.Inner.{RuleBreakable, RuleBroken}
 
 -- ---- a rule put into a table and into its copy
 

@@ -17,7 +17,7 @@ use Rattle.keys.proofs.Copying.{SameTable, holds-same}
 use Rattle.keys.proofs.Several.{key-exact, key-visible, refuted-false, cond-same}
 use Rattle.keys.proofs.Fitting.{hide-ample}
 use Rattle.marking.specs.Meaning.{FirstBroken, BreaksCarried, LooseShown, TightShown}
-use Rattle.marking.specs.Promises.{BreakShown}
+use Rattle.marking.specs.Inner.{BreakShown}
 use Rattle.marking.proofs.Opposed.{visible-unnamed}
 
 -- an assignment that does not meet a rule breaks it as one that is carried

@@ -1,17 +1,15 @@
 -- Marking two tables (document 01, 'Marking', 'Returned to the caller'): the verdict and the reply, which compute.
 use mathlib.Core.Bool.{Bool, false, cond, not, _&&_, _||_}
 use mathlib.Core.List.{List, [], _∷_}
-use Prim.Native.Nat.{ℕ, zero, suc, _+_}
+use Prim.Native.Nat.{ℕ, suc}
+use lib.Dec.{leb}
 use lib.IntN.{ℤ}
 use lib.ListN.{length, take}
-use lib.Signed.{ltZ}
-use Rattle.words.specs.Change.{wordAt}
-use Rattle.places.specs.declared.Place.{Place}
-use Rattle.places.specs.declared.Place.the-variants.{At, Nowhere}
 use Rattle.places.specs.Numbering.{blockStart}
 use Rattle.rules.specs.declared.rule.Rule.{Rule}
 use Rattle.rules.specs.declared.rule.Rule.the-variants.{One, Two, Nothing}
-use Rattle.rules.specs.declared.refusal.Refusal.the-variants.{Size, Mismatch}
+use Rattle.rules.specs.declared.paper.Paper.the-variants.{Sheet, Script}
+use Rattle.rules.specs.declared.refusal.Refusal.the-variants.{Size, OutOfLimit, TooShort, Mismatch}
 use Rattle.rules.specs.Hidden.{hiddenIn, setWithin}
 use Rattle.rules.specs.Literal.{quantityOf}
 use Rattle.rules.specs.Steps.{trivialRule, oppositeOf}
@@ -20,8 +18,8 @@ use Rattle.tables.specs.declared.reply.Reply.the-variants.{Done}
 use Rattle.tables.specs.declared.reply.Reply.the-variants.{Refused as NotDone}
 use Rattle.tables.specs.Places.{ruleAt}
 use Rattle.tables.specs.Tables.{hasRule, serves, putRule}
-use Rattle.tables.specs.Replies.{andThen, lengthReply, limitReply}
-use Rattle.keys.specs.Keys.{keyOf, refuted, inSheetLimit}
+use Rattle.tables.specs.Replies.{check}
+use Rattle.keys.specs.Keys.{keyOf, refuted, boundsInLimit}
 use Rattle.marking.specs.declared.verdict.Verdict.{Verdict}
 use Rattle.marking.specs.declared.verdict.Verdict.the-variants.{Equal, Loose, Tight}
 use Rattle.marking.specs.declared.verdict.Marking.{Marking}
@@ -74,19 +72,18 @@ anyNamesHidden hidden k (w ∷ ws) = (hasRule w && namesHidden hidden (ruleAt k 
 abbrev pub tableNamesHidden : (ℕ → Bool) → ℕ → List ℤ → Bool
 tableNamesHidden hidden n t = anyNamesHidden hidden 0 (take (blockStart n) t)
 
--- the reply to the script's rules: 7 where one names a hidden quantity
-unfoldable pub visibleReply : (ℕ → Bool) → ℕ → List ℤ → Reply
-visibleReply hidden n script = cond (tableNamesHidden hidden n script) (NotDone Mismatch) Done
+-- are the hidden set and the bounds of both tables in their limits?
+unfoldable pub numbersWithin : ℕ → ℕ → List ℤ → List ℤ → Bool
+numbersWithin n set sheet script = setWithin n set && (boundsInLimit Sheet n set sheet && boundsInLimit Script n set script)
 
 -- the checks of marking two tables: 1 for n and the tables, 6 for the workspace, 6 for the assignment, 3 for the hidden set and the tables' words, 7
 unfoldable pub markChecks : ℕ → ℕ → List ℤ → List ℤ → ℕ → ℕ → Reply
 markChecks n set sheet script workspace values =
-    cond (serves n (length sheet) && serves n (length script))
-    (andThen (lengthReply workspace (workspaceSize n))
-    (andThen (lengthReply values n)
-    (andThen (limitReply (setWithin n set && (inSheetLimit n sheet && inSheetLimit n script)))
-    (visibleReply (hiddenIn set) n script))))
-    (NotDone Size)
+    check (serves n (length sheet) && serves n (length script)) Size
+    (check (leb (workspaceSize n) workspace) (TooShort (workspaceSize n))
+    (check (leb n values) (TooShort n)
+    (check (numbersWithin n set sheet script) (OutOfLimit 0)
+    (check (not (tableNamesHidden (hiddenIn set) n script)) Mismatch Done))))
 
 -- a verdict where the checks are done, else their refusal
 abbrev pub markedAs : Reply → Verdict → Marking
@@ -97,15 +94,3 @@ markedAs (NotDone f) v = Refused f
 unfoldable pub markReply : ℕ → ℕ → List ℤ → List ℤ → ℕ → ℕ → Marking
 markReply n set sheet script workspace values =
     markedAs (markChecks n set sheet script workspace values) (verdictOf (hiddenIn set) n sheet script)
-
--- ---- how the program finds a rule that is broken
-
--- the first of count places from k on whose word of a list is a rule, and smaller than the word m places further on
-unfoldable pub firstBelowFrom : ℕ → ℕ → ℕ → List ℤ → Place
-firstBelowFrom zero k m ws = Nowhere
-firstBelowFrom (suc count) k m ws =
-    cond (hasRule (wordAt ws k) && ltZ (wordAt ws k) (wordAt ws (m + k))) (At k) (firstBelowFrom count (suc k) m ws)
-
--- of the first m places
-abbrev pub firstBelow : ℕ → List ℤ → Place
-firstBelow m ws = firstBelowFrom m 0 m ws

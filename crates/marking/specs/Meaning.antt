@@ -1,4 +1,4 @@
--- What a verdict means (demand 3), over unbounded integers. No algorithm is in it but the key's steps, which document 01 fixes and demand 2 gives a meaning (`Keyed`). Sheet and
+-- What a verdict means (demand 3), over unbounded integers. No algorithm is in it but the key's steps, which document 01 fixes and demand 2 gives a meaning (`KeyMade`). Sheet and
 -- script are papers: what satisfies the rules that a table holds, or those that a text writes, a doubled term taken as written.
 use mathlib.Core.Bool.{Bool, true, false}
 use mathlib.Core.Path.{_≡_}
@@ -12,14 +12,17 @@ use Rattle.words.specs.Change.{wordAt}
 use Rattle.places.specs.Numbering.{blockStart}
 use Rattle.rules.specs.declared.rule.Rule.{Rule}
 use Rattle.rules.specs.declared.rule.Rule.the-variants.{One, Two, Nothing}
-use Rattle.rules.specs.declared.refusal.Refusal.{Refusal}
+use Rattle.rules.specs.declared.paper.Paper.the-variants.{Sheet, Script}
 use Rattle.rules.specs.declared.refusal.Refusal.the-variants.{Size, OutOfLimit, TooShort, Mismatch}
 use Rattle.rules.specs.Hidden.{hiddenIn, setWithin}
-use Rattle.rules.specs.Limits.{maxQuantities, maxBound}
-use Rattle.rules.specs.Meaning.{Assignment, Meets, hasTerm}
-use Rattle.tables.specs.Meaning.{HoldsRule, ruleIn, Satisfiable, Unsatisfiable, Solutions, Completes, SheetAllows, ScriptAllows, ScriptForbids, Breaks, NamesVisible, SameVisible, WordsWithin, assignmentOf}
+use Rattle.rules.specs.Limits.{maxQuantities}
+use Rattle.rules.specs.Refusing.{Needs, passed, _or_then_}
+use Rattle.rules.specs.Steps.{trivialRule}
+use Rattle.rules.specs.Meaning.{Assignment, Meets}
+use Rattle.tables.specs.Meaning.{HoldsRule, ruleIn, Satisfiable, Unsatisfiable, Solutions, Completes, SheetAllows, ScriptAllows, ScriptForbids, Breaks, NamesVisible, SameVisible, assignmentOf}
 use Rattle.elimination.specs.Magnitude.{valueLimit}
 use Rattle.keys.specs.Keys.{keyOf}
+use Rattle.keys.specs.Meaning.{BoundsWithin}
 
 -- ---- demand 3
 
@@ -76,7 +79,7 @@ NoneBroken n rules paper = (k : ℕ) → HoldsRule n rules k → Breaks paper (r
 -- a loose verdict carries the first key rule by place that some assignment allowed by the script breaks, and none where the sheet itself allows nothing
 abbrev pub LooseRule : (ℕ → Bool) → ℕ → List ℤ → Solutions → Rule → Type 0
 LooseRule hidden n sheet script r =
-    (Unsatisfiable n sheet × (hasTerm r ≡ false)) ⊎ (Satisfiable n sheet × FirstBroken n (keyOf hidden n sheet) script r)
+    (Unsatisfiable n sheet × (r ≡ trivialRule)) ⊎ (Satisfiable n sheet × FirstBroken n (keyOf hidden n sheet) script r)
 
 -- a tight one the first script rule by place that some assignment of the sheet breaks
 abbrev pub TightRule : ℕ → Solutions → List ℤ → Rule → Type 0
@@ -111,7 +114,18 @@ pub record TightShown (n : ℕ) (hidden : ℕ → Bool) (sheet script : Solution
   pub there : n ≤ length values
   pub range : ValuesWithin n values
 
--- ---- when two tables are accepted, and when and why they are refused
+-- ---- what a verdict means
+
+-- demand 3 with the rule and the assignment, of two papers over n quantities and their tables: a verdict of this number, which carries this rule and comes with these
+-- words
+pub record VerdictMeans (n : ℕ) (hidden : ℕ → Bool) (sheet script : Solutions) (sheet-table script-table : List ℤ) (number : ℕ) (rule : Rule) (values : List ℤ)
+    : Type 0 where
+  pub demand : ByDemand hidden sheet script number
+  pub visibles : ByVisible n hidden sheet script
+  pub loose : number ≡ 101 → LooseRule hidden n sheet-table script rule × LooseShown n hidden sheet script rule values
+  pub tight : number ≡ 102 → TightRule n sheet script-table rule × TightShown n hidden sheet script rule values
+
+-- ---- what marking two tables needs
 
 -- the words of a workspace for marking over n quantities, 4n²
 abbrev pub workspaceSize : ℕ → ℕ
@@ -124,26 +138,18 @@ pub record Sized (n sheet script : ℕ) : Type 0 where
   pub sheet-room : blockStart n ≤ sheet
   pub script-room : blockStart n ≤ script
 
--- the hidden set names no quantity past n, and the bounds of both tables are in the sheet's limit
+-- the hidden set names no quantity past n, and the bounds of both tables are in the limits of their papers
 pub record InLimits (n set : ℕ) (sheet script : List ℤ) : Type 0 where
   pub set-within : setWithin n set ≡ true
-  pub sheet-within : WordsWithin (blockStart n) (pos maxBound) sheet
-  pub script-within : WordsWithin (blockStart n) (pos maxBound) script
+  pub sheet-within : BoundsWithin Sheet n set sheet
+  pub script-within : BoundsWithin Script n set script
 
--- accepted, with a workspace of w words and v words for an assignment
-pub record TablesAccepted (n set : ℕ) (sheet script : List ℤ) (w v : ℕ) : Type 0 where
-  pub sized : Sized n (length sheet) (length script)
-  pub workspace-room : workspaceSize n ≤ w
-  pub values-room : n ≤ v
-  pub limits : InLimits n set sheet script
-  pub visible : NamesVisible n (hiddenIn set) script
-
--- refused by the first check that fails: 1, 6 for the workspace, 6 for the assignment, 3, 7
-abbrev pub TablesRefused : ℕ → ℕ → List ℤ → List ℤ → ℕ → ℕ → Refusal → Type 0
-TablesRefused n set sheet script w v f =
-    ((Sized n (length sheet) (length script) → ⊥) × (f ≡ Size))
-    ⊎ ((Sized n (length sheet) (length script) × (w < workspaceSize n) × (f ≡ TooShort (workspaceSize n)))
-    ⊎ ((Sized n (length sheet) (length script) × (workspaceSize n ≤ w) × (v < n) × (f ≡ TooShort n))
-    ⊎ ((Sized n (length sheet) (length script) × (workspaceSize n ≤ w) × (n ≤ v) × (InLimits n set sheet script → ⊥) × (f ≡ OutOfLimit 0))
-    ⊎ (Sized n (length sheet) (length script) × (workspaceSize n ≤ w) × (n ≤ v) × InLimits n set sheet script
-    × (NamesVisible n (hiddenIn set) script → ⊥) × (f ≡ Mismatch)))))
+-- with a workspace of w words and v words for an assignment: 1, 6 for the workspace, 6 for the assignment, 3, 7
+abbrev pub markNeeds : ℕ → ℕ → List ℤ → List ℤ → ℕ → ℕ → Needs
+markNeeds n set sheet script w v =
+    Sized n (length sheet) (length script) or Size then
+    (workspaceSize n ≤ w) or TooShort (workspaceSize n) then
+    (n ≤ v) or TooShort n then
+    InLimits n set sheet script or OutOfLimit 0 then
+    NamesVisible n (hiddenIn set) script or Mismatch then
+    passed

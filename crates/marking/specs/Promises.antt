@@ -1,38 +1,21 @@
--- What the functions ask and promise: the reply and every lent word, for every input, and demand 3's meaning.
-use mathlib.Core.Bool.{Bool, true, false}
+-- What marking two tables promises: the reply and every lent word, for every input, and demand 3's meaning.
+use mathlib.Core.Bool.{true}
 use mathlib.Core.Path.{_≡_}
 use mathlib.Core.Logic.{_↔_}
 use mathlib.Core.List.{List}
-use Prim.Native.Nat.{ℕ, suc, _≤_, _<_}
-use lib.IntN.{ℤ, pos}
-use lib.ListN.{length, take}
-use lib.Signed.{_<ℤ_}
-use Rattle.integers.specs.Bound.{oppositeBound}
-use Rattle.words.specs.Change.{wordAt}
+use Prim.Native.Nat.{ℕ}
+use lib.IntN.{ℤ}
+use lib.ListN.{length}
 use Rattle.words.specs.Lent.{Lent}
-use Rattle.places.specs.declared.Place.{Place}
-use Rattle.places.specs.declared.Place.the-variants.{At, Nowhere}
-use Rattle.places.specs.Numbering.{blockStart}
-use Rattle.rules.specs.declared.rule.Rule.{Rule}
 use Rattle.rules.specs.declared.refusal.Refusal.{Refusal}
-use Rattle.rules.specs.Refusal.{refusalNumber, refusalValues, integersOf}
+use Rattle.rules.specs.Refusal.{refusedAs}
+use Rattle.rules.specs.Refusing.{RefusedBy, AllMet}
 use Rattle.rules.specs.Hidden.{hiddenIn}
-use Rattle.rules.specs.Meaning.{Meets, names, hasTerm}
-use Rattle.rules.specs.Steps.{oppositeOf}
-use Rattle.rules.specs.RuleWords.{ruleValues}
-use Rattle.tables.specs.Places.{ruleAt}
-use Rattle.tables.specs.Tables.{hasRule, putRule}
-use Rattle.tables.specs.Meaning.{HoldsRule, ruleIn, Satisfies, Unsatisfiable, Breaks, assignmentOf}
-use Rattle.elimination.specs.Magnitude.{Unnamed}
-use Rattle.keys.specs.Inner.{Fits}
-use Rattle.marking.specs.declared.verdict.Verdict.{Verdict}
-use Rattle.marking.specs.declared.verdict.Verdict.the-variants.{Loose, Tight}
+use Rattle.tables.specs.Meaning.{Satisfies}
 use Rattle.marking.specs.declared.verdict.Marking.{Marking}
-use Rattle.marking.specs.Verdicts.{markingNumber, Returned, isMarked, isMarkingShown, isShown}
-use Rattle.marking.specs.Meaning.{ByDemand, ByVisible, FirstAt, FirstBroken, NoneBroken, LooseRule, TightRule, LooseShown, TightShown, ValuesWithin, workspaceSize, TablesAccepted, TablesRefused}
-use Rattle.marking.specs.Marking.{firstBroken, verdictOf, markReply}
-
--- ---- marking two tables
+use Rattle.marking.specs.Verdicts.{markingReturned, markingNumber, markingRule, isMarked, isMarkingShown}
+use Rattle.marking.specs.Meaning.{VerdictMeans, workspaceSize, markNeeds}
+use Rattle.marking.specs.Marking.{markReply}
 
 -- marking two tables over n quantities with a hidden set; neither table is changed, and a refusal changes no word
 pub record TablesMarked (n set : ℕ) (sheet script workspace values : List ℤ) (r : Marking) (workspace' values' : List ℤ) : Type 0 where
@@ -40,88 +23,9 @@ pub record TablesMarked (n set : ℕ) (sheet script workspace values : List ℤ)
   -- the workspace is free after a verdict; the assignment is written for loose and tight alone
   pub lent : Lent (workspaceSize n) (isMarked r) workspace workspace'
   pub written : Lent n (isMarkingShown r) values values'
-  -- by document 01's numbers and values: refused exactly for these reasons, and a verdict exactly where the tables are accepted
-  pub refused : (f : Refusal) → Returned r (refusalNumber f) (integersOf (refusalValues f))
-      ↔ TablesRefused n set sheet script (length workspace) (length values) f
-  pub accepted : (isMarked r ≡ true) ↔ TablesAccepted n set sheet script (length workspace) (length values)
-  -- demand 3
-  pub demand : TablesAccepted n set sheet script (length workspace) (length values)
-      → ByDemand (hiddenIn set) (Satisfies n sheet) (Satisfies n script) (markingNumber r)
-  pub visibles : TablesAccepted n set sheet script (length workspace) (length values) → ByVisible n (hiddenIn set) (Satisfies n sheet) (Satisfies n script)
-  -- the rule that is carried
-  pub loose-rule : (rule : Rule) → Returned r 101 (ruleValues rule) → LooseRule (hiddenIn set) n sheet (Satisfies n script) rule
-  pub tight-rule : (rule : Rule) → Returned r 102 (ruleValues rule) → TightRule n (Satisfies n sheet) script rule
-  -- the assignment that shows it
-  pub loose-shown : (rule : Rule) → Returned r 101 (ruleValues rule) → LooseShown n (hiddenIn set) (Satisfies n sheet) (Satisfies n script) rule values'
-  pub tight-shown : (rule : Rule) → Returned r 102 (ruleValues rule) → TightShown n (hiddenIn set) (Satisfies n sheet) (Satisfies n script) rule values'
-
--- ---- the parts
-
--- the verdict of tables that are accepted
-pub record VerdictGiven (n set : ℕ) (sheet script workspace values : List ℤ) (r : Verdict) (workspace' values' : List ℤ) : Type 0 where
-  pub reply : r ≡ verdictOf (hiddenIn set) n sheet script
-  pub lent : Lent (workspaceSize n) true workspace workspace'
-  pub written : Lent n (isShown r) values values'
-  pub loose-shown : (rule : Rule) → r ≡ Loose rule → LooseShown n (hiddenIn set) (Satisfies n sheet) (Satisfies n script) rule values'
-  pub tight-shown : (rule : Rule) → r ≡ Tight rule → TightShown n (hiddenIn set) (Satisfies n sheet) (Satisfies n script) rule values'
-
--- the least bounds of a table's terms, and whether no integers satisfy it
-pub record LeastBounds (n : ℕ) (table before : List ℤ) (r : Bool) (after : List ℤ) : Type 0 where
-  pub none : (r ≡ true) ↔ Unsatisfiable n table
-  pub lent : Lent (blockStart n) true before after
-  pub least : r ≡ false → (k : ℕ) → k < blockStart n → (c : ℤ) → hasRule c ≡ true → (c <ℤ wordAt after k) ↔ Breaks (Satisfies n table) (ruleAt k c)
-
--- the first of the rules that the front of a workspace holds that some assignment of a table breaks; none where none does. The front stays
-abbrev pub Found : ℕ → List ℤ → List ℤ → Place → Type 0
-Found n table rules (At k) = FirstAt n rules (Satisfies n table) k
-Found n table rules Nowhere = NoneBroken n rules (Satisfies n table)
-
-pub record BrokenFound (n : ℕ) (table workspace : List ℤ) (r : Place) (workspace' : List ℤ) : Type 0 where
-  pub found : Found n table workspace r
-  pub front : take (blockStart n) workspace' ≡ take (blockStart n) workspace
-  pub lent : Lent (workspaceSize n) true workspace workspace'
-
--- an assignment of a table that breaks a rule. It is 0 at quantities that neither names
-pub record BreakShown (n : ℕ) (table : List ℤ) (r : Rule) (values : List ℤ) : Type 0 where
-  pub satisfies : Satisfies n table (assignmentOf values)
-  pub broken : Meets (assignmentOf values) r → ⊥
-  pub zero : (j : ℕ) → j < n → Unnamed n j table → names (suc j) r ≡ false → wordAt values j ≡ pos 0
-  pub range : ValuesWithin n values
-
--- a table, and the rule of a place that some assignment of the table breaks; sums fit also with the rule's opposite put in
-pub record RuleBreakable (n : ℕ) (table : List ℤ) (r : Rule) (workspace values : List ℤ) : Type 0 where
-  pub place : ℕ
-  pub inside : place < blockStart n
-  pub bound : ℤ
-  pub bounded : hasRule bound ≡ true
-  pub is : r ≡ ruleAt place bound
-  pub small : hasRule (oppositeBound bound) ≡ true
-  pub room : blockStart n ≤ length table
-  pub fits : Fits n (putRule table (oppositeOf r))
-  pub breaks : Breaks (Satisfies n table) r
-  pub workspace-room : blockStart n ≤ length workspace
-  pub values-room : n ≤ length values
-
--- the assignment written
-pub record RuleBroken (n : ℕ) (table : List ℤ) (r : Rule) (workspace values workspace' values' : List ℤ) : Type 0 where
-  pub lent : Lent (blockStart n) true workspace workspace'
-  pub written : Lent n true values values'
-  pub shown : BreakShown n table r values'
-
--- a table, and rules at the front of a workspace: sums fit, also with the opposite of any of these rules put in
-pub record FrontBreakable (n : ℕ) (table workspace values : List ℤ) : Type 0 where
-  pub fits : Fits n table
-  pub some : 1 ≤ n
-  pub opposed : (k : ℕ) → HoldsRule n workspace k → Fits n (putRule table (oppositeOf (ruleIn workspace k)))
-  pub small : (k : ℕ) → HoldsRule n workspace k → hasRule (oppositeBound (wordAt workspace k)) ≡ true
-  pub room : workspaceSize n ≤ length workspace
-  pub values-room : n ≤ length values
-
--- the first of the rules at the front that some assignment of the table breaks, with such an assignment; the trivial rule where there is none
-pub record FrontBroken (n : ℕ) (table workspace values : List ℤ) (r : Rule) (workspace' values' : List ℤ) : Type 0 where
-  pub reply : r ≡ firstBroken n workspace table
-  pub lent : Lent (workspaceSize n) true workspace workspace'
-  pub written : Lent n (hasTerm r) values values'
-  pub none : hasTerm r ≡ false → NoneBroken n workspace (Satisfies n table)
-  pub some : hasTerm r ≡ true → FirstBroken n workspace (Satisfies n table) r
-  pub shown : hasTerm r ≡ true → BreakShown n table r values'
+  -- refused by the first need that is not met, as it is returned, and a verdict exactly where all are
+  pub refused : (f : Refusal) → (markingReturned r ≡ refusedAs f) ↔ RefusedBy (markNeeds n set sheet script (length workspace) (length values)) f
+  pub accepted : (isMarked r ≡ true) ↔ AllMet (markNeeds n set sheet script (length workspace) (length values))
+  -- demand 3, with the rule and the assignment
+  pub means : isMarked r ≡ true
+      → VerdictMeans n (hiddenIn set) (Satisfies n sheet) (Satisfies n script) sheet script (markingNumber r) (markingRule r) values'

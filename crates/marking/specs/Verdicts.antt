@@ -1,11 +1,12 @@
--- Document 01's number and values of each verdict, and of each reply of marking two tables.
+-- Document 01's number and values of each verdict, and what is returned for each reply of marking two tables.
 use mathlib.Core.Bool.{Bool, true, false}
-use mathlib.Core.Path.{_≡_}
-use mathlib.Core.List.{List, []}
+use mathlib.Core.List.{List}
 use Prim.Native.Nat.{ℕ}
 use lib.IntN.{ℤ}
-use Rattle.rules.specs.Refusal.{refusalNumber, refusalValues, refusalValue, integersOf}
+use Rattle.rules.specs.declared.rule.Rule.{Rule}
+use Rattle.rules.specs.Refusal.{refusalValue, Returned, refusedAs}
 use Rattle.rules.specs.RuleWords.{ruleValues, ruleWords}
+use Rattle.rules.specs.Steps.{trivialRule}
 use Rattle.marking.specs.declared.verdict.Verdict.{Verdict}
 use Rattle.marking.specs.declared.verdict.Verdict.the-variants.{Equal, Loose, Tight}
 use Rattle.marking.specs.declared.verdict.Marking.{Marking}
@@ -17,11 +18,15 @@ verdictNumber Equal = 100
 verdictNumber (Loose r) = 101
 verdictNumber (Tight r) = 102
 
--- what a verdict carries
-abbrev pub verdictValues : Verdict → List ℤ
-verdictValues Equal = []
-verdictValues (Loose r) = ruleValues r
-verdictValues (Tight r) = ruleValues r
+-- the rule that it carries; the trivial rule, which has no values, where it carries none
+abbrev pub carriedRule : Verdict → Rule
+carriedRule Equal = trivialRule
+carriedRule (Loose r) = r
+carriedRule (Tight r) = r
+
+-- a verdict as it is returned
+abbrev pub verdictReturned : Verdict → Returned
+verdictReturned v = record { number = verdictNumber v; values = ruleValues (carriedRule v) }
 
 -- a host's three words after a verdict: with loose and tight those of its rule, 0, 0 and the no-rule word where there is none; with equal as they were
 abbrev pub carriedWords : List ℤ → Verdict → List ℤ
@@ -37,23 +42,23 @@ isShown (Tight r) = true
 
 -- ---- a reply: a verdict or a refusal
 
-abbrev pub markingNumber : Marking → ℕ
-markingNumber (Marked v) = verdictNumber v
-markingNumber (Refused f) = refusalNumber f
+-- as it is returned
+abbrev pub markingReturned : Marking → Returned
+markingReturned (Marked v) = verdictReturned v
+markingReturned (Refused f) = refusedAs f
 
--- what is returned beside it: the rule of a verdict; the line or the length of a refusal
-abbrev pub markingValues : Marking → List ℤ
-markingValues (Marked v) = verdictValues v
-markingValues (Refused f) = integersOf (refusalValues f)
+abbrev pub markingNumber : Marking → ℕ
+markingNumber r = markingReturned r .number
+
+-- the rule of a verdict
+abbrev pub markingRule : Marking → Rule
+markingRule (Marked v) = carriedRule v
+markingRule (Refused f) = trivialRule
 
 -- a refusal's line or length as one number, 0 where there is none
 abbrev pub markingValue : Marking → ℕ
 markingValue (Marked v) = 0
 markingValue (Refused f) = refusalValue f
-
--- the reply is returned by this number and these values
-abbrev pub Returned : Marking → ℕ → List ℤ → Type 0
-Returned r number values = (markingNumber r ≡ number) × (markingValues r ≡ values)
 
 -- is it a verdict?
 abbrev pub isMarked : Marking → Bool

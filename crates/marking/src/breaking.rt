@@ -13,9 +13,8 @@ ghost use Prim.Native.Nat.{_+_, _*_, _≤_};
 ghost use lib.ListN.{length};
 ghost use Rattle.places.specs.Numbering.{blockStart};
 ghost use Rattle.keys.specs.Inner.{Fits};
-ghost use Rattle.marking.specs.Marking.{firstBelow};
 ghost use Rattle.marking.specs.Meaning.{workspaceSize};
-ghost use Rattle.marking.specs.Promises.{LeastBounds, BrokenFound, RuleBreakable, RuleBroken, FrontBreakable, FrontBroken};
+ghost use Rattle.marking.specs.Inner.{firstBelow, LeastBounds, BrokenFound, RuleBreakable, RuleBroken, FrontBreakable, FrontBroken};
 
 // Writes the least bound of each term of the table to the front of `least`, and answers whether no integers satisfy the table.
 fn least_bounds(n: usize, table: &[i64], least: &mut [i64]) -> bool

@@ -1,6 +1,8 @@
 // The checks of marking two tables.
 use rules::hidden;
 use rules::literal;
+use rules::paper;
+use rules::paper::Paper;
 use rules::refusal::Refusal;
 use rules::rule::Rule;
 use rules::sheet::Sheet;
@@ -11,9 +13,10 @@ use tables::table;
 ghost use mathlib.Core.Path.{_≡_};
 ghost use Prim.Native.Nat.{_*_, _≤_};
 ghost use lib.ListN.{length, take};
+ghost use Rattle.places.specs.Numbering.{blockStart};
 ghost use Rattle.rules.specs.Hidden.{hiddenIn};
 ghost use Rattle.rules.specs.Limits.{maxQuantities};
-ghost use Rattle.marking.specs.Marking.{namesHidden, anyNamesHidden, markChecks};
+ghost use Rattle.marking.specs.Marking.{namesHidden, anyNamesHidden, numbersWithin, markChecks};
 
 // Whether a rule names a quantity of the set.
 fn names_hidden(set: u32, rule: Rule) -> bool
@@ -53,6 +56,22 @@ fn any_names_hidden(set: u32, script: &[i64], m: usize) -> bool
     false
 }
 
+// Whether the hidden set names no quantity past `n`, and the first `m` words of both tables are in the limits of their papers.
+fn numbers_within(n: usize, set: u32, sheet: &[i64], script: &[i64], m: usize) -> bool
+    requires { ⌜ m ≡ blockStart n ⌝ }
+    ensures { λ r. ⌜ r ≡ numbersWithin n set (now (sheet .entry)) (now (script .entry)) ⌝ }
+{
+    if !hidden::is_within(set, n) {
+        return false;
+    }
+    let sheet_most = paper::bound_limit(Paper::Sheet, n, set);
+    if !limit::is_table_in(sheet, m, sheet_most) {
+        return false;
+    }
+    let script_most = paper::bound_limit(Paper::Script, n, set);
+    limit::is_table_in(script, m, script_most)
+}
+
 // The first refusal of marking two tables with a workspace and an assignment of so many words, or done.
 pub(crate) fn check(
     n: usize,
@@ -77,13 +96,7 @@ pub(crate) fn check(
     if values < n {
         return Reply::Refused(Refusal::TooShort { needed: n });
     }
-    if !hidden::is_within(set, n) {
-        return Reply::Refused(Refusal::OutOfLimit { line: 0 });
-    }
-    if !limit::is_table_in(sheet, m, Sheet::MAX_BOUND) {
-        return Reply::Refused(Refusal::OutOfLimit { line: 0 });
-    }
-    if !limit::is_table_in(script, m, Sheet::MAX_BOUND) {
+    if !numbers_within(n, set, sheet, script, m) {
         return Reply::Refused(Refusal::OutOfLimit { line: 0 });
     }
     if any_names_hidden(set, script, m) {

@@ -5,9 +5,10 @@ use Prim.Native.Nat.{ℕ, _+_, _≤_, _<_}
 use native.Mathlib.Omega.{arith}
 use lib.ListN.{length, drop, length-append, length-drop}
 use borrow.Author.Tests.{lt-ltb, le-ltb}
+use Rattle.rules.specs.declared.paper.Paper.{Paper}
 use Rattle.rules.specs.declared.refusal.Refusal.{Refusal}
 use Rattle.rules.specs.declared.refusal.Refusal.the-variants.{Size}
-use Rattle.rules.specs.Limits.{maxQuantities, maxRules, maxBound, maxText}
+use Rattle.rules.specs.Limits.{maxQuantities, boundLimit, maxRules, maxText}
 use Rattle.lines.specs.Spelling.{Line, Written, quantities, hidden, rules, quantitiesKey, rulesKey, lineText, allWithin}
 use Rattle.lines.specs.Lines.{Judged, accepted, refused, never, between, countLine, hiddenLine, countJudged, hiddenJudged}
 use Rattle.rules.specs.Hidden.{setOf}
@@ -16,7 +17,8 @@ use Rattle.lines.proofs.Found.{by-accepted}
 use Rattle.reading.specs.declared.check.Checked.the-variants.{Passed}
 use Rattle.reading.specs.declared.check.Checked.the-variants.{Refused as Failed}
 use Rattle.reading.specs.Texts.{Contents, linesText, headerText}
-use Rattle.reading.specs.Reading.{onward, rulesFrom, linesFrom, checkText, checkedOf, checkedRules}
+use Rattle.reading.specs.Reading.{onward, rulesFrom, linesFrom, checkText, checkedOf}
+use Rattle.reading.specs.Inner.{checkedRules}
 use Rattle.reading.proofs.RuleLines.{rules-count}
 
 -- ---- where the rule lines begin
@@ -51,33 +53,33 @@ header-end c s u v w e d g =
 -- ---- each way of the check
 
 -- it is too long
-pub size-checked : (s : List ℕ) → maxText < length s → Failed Size ≡ checkedOf (checkText s)
+pub size-checked : (paper : Paper) (s : List ℕ) → maxText < length s → Failed Size ≡ checkedOf (checkText paper s)
 unfolding checkText checkedOf
-size-checked s h = rw (lt-ltb maxText (length s) h)
+size-checked paper s h = rw (lt-ltb maxText (length s) h)
 
-module _ (s : List ℕ) (h : length s ≤ maxText) where
+module _ (paper : Paper) (s : List ℕ) (h : length s ≤ maxText) where
   -- its first line is refused
-  pub first-checked : (f : Refusal) → countJudged quantitiesKey 1 maxQuantities 1 s ≡ refused f → Failed f ≡ checkedOf (checkText s)
+  pub first-checked : (f : Refusal) → countJudged quantitiesKey 1 maxQuantities 1 s ≡ refused f → Failed f ≡ checkedOf (checkText paper s)
   unfolding checkText checkedOf linesFrom onward
   first-checked f e = rw (le-ltb maxText (length s) h, e)
 
   module _ (n : ℕ) (u : List ℕ) (e : countJudged quantitiesKey 1 maxQuantities 1 s ≡ accepted n u) where
     -- its second line is
-    pub second-checked : (f : Refusal) → hiddenJudged n 2 u ≡ refused f → Failed f ≡ checkedOf (checkText s)
+    pub second-checked : (f : Refusal) → hiddenJudged n 2 u ≡ refused f → Failed f ≡ checkedOf (checkText paper s)
     unfolding checkText checkedOf linesFrom onward
     second-checked f d = rw (le-ltb maxText (length s) h, e, d)
 
     module _ (qs v : List ℕ) (d : hiddenJudged n 2 u ≡ accepted qs v) where
       -- its third line is
-      pub third-checked : (f : Refusal) → countJudged rulesKey 0 maxRules 3 v ≡ refused f → Failed f ≡ checkedOf (checkText s)
+      pub third-checked : (f : Refusal) → countJudged rulesKey 0 maxRules 3 v ≡ refused f → Failed f ≡ checkedOf (checkText paper s)
       unfolding checkText checkedOf linesFrom onward
       third-checked f g = rw (le-ltb maxText (length s) h, e, d, g)
 
       -- the lines of the rules decide
       pub rules-checked : (m body : ℕ) → body ≤ length s → countJudged rulesKey 0 maxRules 3 v ≡ accepted m (drop body s)
-          → checkedRules n (setOf qs) m body (rulesFrom n maxBound m 4 (drop body s)) ≡ checkedOf (checkText s)
+          → checkedRules n (setOf qs) m body (rulesFrom n (boundLimit paper n (setOf qs)) m 4 (drop body s)) ≡ checkedOf (checkText paper s)
       unfolding checkText linesFrom onward checkedOf checkedRules
-      rules-checked m body l g = rw (le-ltb maxText (length s) h, e, d, g) (go (rulesFrom n maxBound m 4 (drop body s)) refl)
+      rules-checked m body l g = rw (le-ltb maxText (length s) h, e, d, g) (go (rulesFrom n (boundLimit paper n (setOf qs)) m 4 (drop body s)) refl)
         where
           made : List Written → Contents
           made ws = record { count = n; hiddens = qs; written = ws }
@@ -85,8 +87,8 @@ module _ (s : List ℕ) (h : length s ≤ maxText) where
           begins : (ws : List Written) → length ws ≡ m → body ≡ length (headerText (made ws))
           begins ws k = omega (arith, header-end (made ws) s u v (drop body s) e d (rw k g), length-drop body s)
 
-          go : (j : Judged (List Written)) → rulesFrom n maxBound m 4 (drop body s) ≡ j
+          go : (j : Judged (List Written)) → rulesFrom n (boundLimit paper n (setOf qs)) m 4 (drop body s) ≡ j
               → checkedRules n (setOf qs) m body j ≡ checkedOf (onward j (λ rs. accepted (made rs)))
           go (accepted ws x) q =
-              let k : length ws ≡ m = rules-count n maxBound m 4 (drop body s) ws x q .0 in ap₂ (Passed n (setOf qs)) (sym k) (begins ws k)
+              let k : length ws ≡ m = rules-count n (boundLimit paper n (setOf qs)) m 4 (drop body s) ws x q .0 in ap₂ (Passed n (setOf qs)) (sym k) (begins ws k)
           go (refused f) q = refl

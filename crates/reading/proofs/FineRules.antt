@@ -10,8 +10,10 @@ use borrow.Author.Tests.{leb-true, eq-eqb, ne-eqb}
 use Rattle.integers.specs.Bound.{Within, half}
 use Rattle.integers.proofs.Parts.{linear, positivePart, negativePart, lt-ltZ}
 use Rattle.integers.proofs.Within.{within-to, within-of, within-half}
+use Rattle.numerals.specs.Decimal.{cap}
+use Rattle.rules.specs.declared.paper.Paper.{Paper}
 use Rattle.rules.specs.declared.rule.Rule.the-variants.{One, Two}
-use Rattle.rules.specs.Limits.{maxBound, noRule}
+use Rattle.rules.specs.Limits.{noRule}
 use Rattle.rules.specs.Literal.{negated, literalOf}
 use Rattle.rules.specs.Steps.{isNone, ruleOf, halvedOf}
 use Rattle.tables.specs.declared.reply.Reply.the-variants.{Done}
@@ -20,19 +22,20 @@ use Rattle.tables.proofs.Lists.{AllAccepted}
 use Rattle.tables.proofs.Tests.{clash, both-true}
 use Rattle.tables.proofs.Replies.{one-inside, two-inside}
 use Rattle.lines.specs.Spelling.{Term, Written, one, two, rule, quantityWithin, lineWithin, cancelling, signedQuantity, writtenRule, writtenRules}
-use Rattle.reading.specs.Texts.{ruleLines}
-use Rattle.reading.specs.Meaning.{Fine, AllFine}
+use Rattle.reading.specs.Texts.{Contents, ruleLines}
+use Rattle.reading.specs.Meaning.{Fine, AllFine, contentsLimit, FineLines}
+use Rattle.reading.proofs.Limits.{contents-told}
 
 -- ---- a bound within its limit is no no-rule word, nor is its half
 
-bound-within : (c : ℤ) → natAbs c ≤ maxBound → Within (pos maxBound) c
+bound-within : (limit : ℕ) (c : ℤ) → natAbs c ≤ limit → Within (pos limit) c
 unfolding positivePart negativePart
-bound-within (pos v) h = within-of (omega arith) (omega arith)
-bound-within (negsuc v) h = within-of (omega arith) (omega arith)
+bound-within limit (pos v) h = within-of (omega arith) (omega arith)
+bound-within limit (negsuc v) h = within-of (omega arith) (omega arith)
 
-within-rule : (c : ℤ) → Within (pos maxBound) c → hasRule c ≡ true
+within-rule : (limit : ℕ) (c : ℤ) → limit < cap → Within (pos limit) c → hasRule c ≡ true
 unfolding positivePart negativePart
-within-rule c w = lt-ltZ c noRule (omega (linear, within-to w))
+within-rule limit c below w = lt-ltZ c noRule (omega (linear, within-to w))
 
 -- ---- the literal of a term
 
@@ -87,33 +90,39 @@ opposite-cancels false false p q h g e f = omega arith
 -- ---- the rule
 
 -- a rule of two literals that are not opposite
-two-accepted : (n x y : ℕ) (c : ℤ) → x / 2 < n → y / 2 < n → (y ≡ negated x → ⊥) → Within (pos maxBound) c → ruleReply n (halvedOf (Two x y c)) ≡ Done
+two-accepted : (n limit x y : ℕ) (c : ℤ) → limit < cap → x / 2 < n → y / 2 < n → (y ≡ negated x → ⊥) → Within (pos limit) c
+    → ruleReply n (halvedOf (Two x y c)) ≡ Done
 unfolding halvedOf
-two-accepted n x y c h g d w = go (eqb x y)
+two-accepted n limit x y c below h g d w = go (eqb x y)
   where
     go : (b : Bool) → ruleReply n (cond b (One x (half c)) (Two x y c)) ≡ Done
-    go true = sym (one-inside n x (half c) true h (within-rule (half c) (within-half w)))
-    go false = sym (two-inside n x y c true false h g (within-rule c w) (ne-eqb y (negated x) d))
+    go true = sym (one-inside n x (half c) true h (within-rule limit (half c) below (within-half w)))
+    go false = sym (two-inside n x y c true false h g (within-rule limit c below w) (ne-eqb y (negated x) d))
 
 -- the rule that a fine line writes
-pub fine-accepted : (n : ℕ) (r : Written) → Fine n maxBound (rule r) → ruleReply n (halvedOf (writtenRule r)) ≡ Done
+pub fine-accepted : (n limit : ℕ) (r : Written) → limit < cap → Fine n limit (rule r) → ruleReply n (halvedOf (writtenRule r)) ≡ Done
 unfolding lineWithin cancelling writtenRule ruleOf halvedOf
-fine-accepted n (one x c) f =
-    let p = both-true (quantityWithin n (x .quantity)) (leb (natAbs c) maxBound) (f .within) in
+fine-accepted n limit (one x c) below f =
+    let p = both-true (quantityWithin n (x .quantity)) (leb (natAbs c) limit) (f .within) in
     let t = term-in n x (p .0) in
-    let w = bound-within c (leb-true (natAbs c) maxBound (p .1)) in
-    rw (t .some) (sym (one-inside n (literalOf (signedQuantity x)) c true (t .inside) (within-rule c w)))
-fine-accepted n (two x y c) f =
-    let p = both-true (_&&_ (quantityWithin n (x .quantity)) (quantityWithin n (y .quantity))) (leb (natAbs c) maxBound) (f .within) in
+    let w = bound-within limit c (leb-true (natAbs c) limit (p .1)) in
+    rw (t .some) (sym (one-inside n (literalOf (signedQuantity x)) c true (t .inside) (within-rule limit c below w)))
+fine-accepted n limit (two x y c) below f =
+    let p = both-true (_&&_ (quantityWithin n (x .quantity)) (quantityWithin n (y .quantity))) (leb (natAbs c) limit) (f .within) in
     let q = both-true (quantityWithin n (x .quantity)) (quantityWithin n (y .quantity)) (p .0) in
     let t = term-in n x (q .0) in
     let v = term-in n y (q .1) in
-    let w = bound-within c (leb-true (natAbs c) maxBound (p .1)) in
-    rw (t .some, v .some) (two-accepted n (literalOf (signedQuantity x)) (literalOf (signedQuantity y)) c (t .inside) (v .inside)
+    let w = bound-within limit c (leb-true (natAbs c) limit (p .1)) in
+    rw (t .some, v .some) (two-accepted n limit (literalOf (signedQuantity x)) (literalOf (signedQuantity y)) c below (t .inside) (v .inside)
     (λ e. opposite-cancels (x .negative) (y .negative) (x .quantity) (y .quantity) (t .least) (v .least) (f .uncancelled)
     (rw (t .code, v .code) at e)) w)
 
 -- so all of them are
-pub all-accepted : (n : ℕ) (rs : List Written) → AllFine n maxBound (ruleLines rs) → AllAccepted n (writtenRules rs)
-all-accepted n [] all = tt
-all-accepted n (r ∷ rs) all = (fine-accepted n r (all .0), all-accepted n rs (all .1))
+pub all-accepted : (n limit : ℕ) (rs : List Written) → limit < cap → AllFine n limit (ruleLines rs) → AllAccepted n (writtenRules rs)
+all-accepted n limit [] below all = tt
+all-accepted n limit (r ∷ rs) below all = (fine-accepted n limit r below (all .0), all-accepted n limit rs below (all .1))
+
+-- those of contents whose every line is fine
+pub contents-accepted : (paper : Paper) (c : Contents) → FineLines (contentsLimit paper c) c → AllAccepted (c .count) (writtenRules (c .written))
+contents-accepted paper c f =
+    all-accepted (c .count) (contentsLimit paper c) (c .written) (contents-told paper (contentsLimit paper c) c f) (f .1 .1 .1)

@@ -3,11 +3,11 @@
 use mathlib.Core.Path.{_≡_, refl, sym, _∙_, ap, subst}
 use mathlib.Core.Bool.{true, false}
 use mathlib.Core.List.{List, [], _∷_, _++_}
-use mathlib.Core.Logic.{inl}
+use mathlib.Core.Logic.{inl, inr}
 use Prim.Native.Nat.{ℕ, _≤_}
 use native.Mathlib.Omega.{arith}
 use lib.Dec.{lit≤}
-use lib.IntN.{ℤ, pos, negsuc}
+use lib.IntN.{ℤ, pos, negsuc, natAbs}
 use lib.ListN.{length, getD, drop, take, replicate}
 use lib.Signed.{ltZ}
 use borrow.Author.Tests.{eqb-false}
@@ -15,10 +15,13 @@ use Rattle.integers.specs.Bound.{half, smaller}
 use Rattle.integers.proofs.Parts.{linear}
 use Rattle.words.specs.Change.{wordAt, lowered}
 use Rattle.places.specs.Numbering.{blockStart, placeOfOne, placeOfPair, placeOfTwo, findTwo}
+use Rattle.rules.specs.declared.paper.Paper.{Paper}
+use Rattle.rules.specs.declared.paper.Paper.the-variants.{Sheet}
 use Rattle.rules.specs.declared.refusal.Refusal.{Refusal}
 use Rattle.rules.specs.declared.refusal.Refusal.the-variants.{Malformed, OutOfLimit, Cancelling, TooShort}
 use Rattle.rules.specs.Hidden.{setOf}
-use Rattle.rules.specs.Limits.{maxBound, noRule}
+use Rattle.rules.specs.Limits.{boundLimit, noRule}
+use Rattle.rules.specs.Refusal.{Returned}
 use Rattle.rules.specs.Steps.{ruleOf, halvedOf}
 use Rattle.tables.specs.Places.{findPlace}
 use Rattle.tables.specs.Tables.{hasRule, putAt, putHalved, putRule, putAll}
@@ -31,12 +34,13 @@ use Rattle.lines.specs.Lines.{ended, countLine, membersAfter, membersFrom, list
 use Rattle.reading.specs.declared.check.Checked.{Checked}
 use Rattle.reading.specs.declared.check.Checked.the-variants.{Passed}
 use Rattle.reading.specs.declared.check.Checked.the-variants.{Refused as Failed}
+use Rattle.reading.specs.declared.read.Reading.{Reading}
 use Rattle.reading.specs.declared.read.Reading.the-variants.{Accepted, Refused}
 use Rattle.reading.specs.Texts.{Contents, linesText, headerText, sheetText}
-use Rattle.reading.specs.Meaning.{Fine, Spells, MalformedAt, OutsideAt, CancelsAt, AcceptedAs}
+use Rattle.reading.specs.Meaning.{Fine, Reads, OutsideAt, CancelsAt, outside-at, cancels-at, FailsFor, AcceptedAs}
 use Rattle.reading.specs.Reading.{onward, rulesFrom, linesFrom, checkText, checkedOf, replyTo, readReply, filled, readTable, readingNumber, readingValue}
 use Rattle.reading.specs.Promises.{TextChecked, ReadInto}
-use Rattle.reading.proofs.Means.{text-means, spelled-check}
+use Rattle.reading.proofs.Means.{text-means, reads-check, reads-same}
 use Rattle.reading.proofs.Replies.{not-both, reply-short, reply-accepted, reading-refused, reading-accepted}
 use Rattle.reading.proofs.Passing.{check-promised}
 use Rattle.reading.proofs.Numbers.{zero-accepted}
@@ -57,7 +61,7 @@ putting = tt
 
 unfoldable pub reading : Unit {0}
 unfolding
-    andThen expect digitsFrom numeralOf cancelling setOf
+    andThen expect digitsFrom numeralOf cancelling setOf boundLimit
     ended countLine membersAfter membersFrom listOf hiddenLine termOf boundAt boundLine afterTerm ruleLine judged countJudged hiddenJudged ruleJudged
     onward rulesFrom linesFrom checkText replyTo readReply filled readTable
 reading = tt
@@ -87,39 +91,46 @@ tableA = replicate 4 noRule ++ (pos 5 ∷ pos 2 ∷ replicate 10 noRule) ++ (pos
 meets : {n limit : ℕ} {l : Line} → WellFormed l → lineWithin n limit l ≡ true → lineCancels l ≡ false → Fine n limit l
 meets f w u = record { formed = f; within = w; uncancelled = u }
 
--- it is spelled so, and every line is fine
-pub sheetA-spelled : Spells maxBound textA contentsA
-unfolding spelling lineWithin cancelling
-sheetA-spelled = record {
-  text = refl;
-  fine = (meets tt refl refl, (meets (lit≤ tt, tt) refl refl, (meets tt refl refl, (meets tt refl refl, (meets tt refl refl, (meets tt refl refl, tt))))));
+-- it is spelled so, and every line is fine, on either paper
+pub sheetA-reads : (paper : Paper) → Reads paper textA contentsA
+unfolding spelling lineWithin cancelling boundLimit
+sheetA-reads paper = record {
+  small = lit≤ tt;
+  spelled = record {
+    text = refl;
+    fine =
+        (meets tt refl refl, (meets (lit≤ tt, tt) refl refl, (meets tt refl refl, (meets tt refl refl, (meets tt refl refl, (meets tt refl refl, tt))))));
+  };
 }
 
 -- so it passes: 3 quantities, hidden 2, 3 rules whose lines begin at byte 30
-pub sheetA-passed : TextChecked textA (Passed 3 2 3 30)
+pub sheetA-passed : (paper : Paper) → TextChecked paper textA (Passed 3 2 3 30)
 unfolding checkedOf setOf spelling
-sheetA-passed = check-promised textA (Passed 3 2 3 30) (ap checkedOf (sym (spelled-check textA contentsA (lit≤ tt) sheetA-spelled)))
+sheetA-passed paper = check-promised paper textA (Passed 3 2 3 30) (ap checkedOf (sym (reads-check paper textA contentsA (sheetA-reads paper))))
 
 -- and is accepted where the table has its 18 words
 pub sheetA-reply : (t : List ℤ) → 18 ≤ length t → readReply textA (length t) ≡ Accepted 3 2
 unfolding blockStart setOf
-sheetA-reply t h = reply-accepted textA (length t) contentsA [] (spelled-check textA contentsA (lit≤ tt) sheetA-spelled) h
+sheetA-reply t h = reply-accepted textA (length t) contentsA (sheetA-reads Sheet) h
 
 pub sheetA-accepted : (t : List ℤ) → 18 ≤ length t → AcceptedAs textA (length t) 3 2
 sheetA-accepted t h = reading-accepted textA (length t) 3 2 .0 (sheetA-reply t h)
 
 -- and read into any such table: words past the first 18 stay
-pub sheetA-read : (t : List ℤ) → 18 ≤ length t → ReadInto textA t (Accepted 3 2) (tableA ++ drop 18 t)
+sheetA-filled : (t t' : List ℤ) (r : Reading) → 18 ≤ length t → ReadInto textA t r t' → t' ≡ tableA ++ drop 18 t
 unfolding putting
+sheetA-filled t t' r h p = p .read contentsA (sheetA-reads Sheet) h .filled
+
+pub sheetA-read : (t : List ℤ) → 18 ≤ length t → ReadInto textA t (Accepted 3 2) (tableA ++ drop 18 t)
 sheetA-read t h =
     let p = read-promised textA t (Accepted 3 2) (readTable textA t) (sym (sheetA-reply t h)) refl in
-    subst (ReadInto textA t (Accepted 3 2)) (p .filled refl contentsA sheetA-spelled) p
+    subst (ReadInto textA t (Accepted 3 2)) (sheetA-filled t (readTable textA t) (Accepted 3 2) h p) p
 
 -- into 17 words it is refused
 pub sheetA-short : (t : List ℤ) → length t ≡ 17 → ReadInto textA t (Refused (TooShort 18)) t
 unfolding blockStart
 sheetA-short t e =
-    let r = reply-short textA (length t) contentsA [] (spelled-check textA contentsA (lit≤ tt) sheetA-spelled) (omega arith) in
+    let r = reply-short textA (length t) contentsA (sheetA-reads Sheet) (omega arith) in
     read-promised textA t (Refused (TooShort 18)) t (sym r) (sym (reading-kept textA t (TooShort 18) r))
 
 -- ---- texts with two faults on one line
@@ -133,34 +144,34 @@ abbrev pub textThree : List ℕ
 textThree = bytes "quantities=1\nhidden=\nrules=1\nrule=+1-1:1000000001\n"
 
 -- by spellings, the first is malformed at line 4, and at no line outside a limit
-pub two-spelled : MalformedAt maxBound textTwo 4 × ((line : ℕ) → OutsideAt maxBound textTwo line → ⊥)
+pub two-spelled : FailsFor Sheet textTwo (Malformed 4) × ((line : ℕ) → OutsideAt Sheet textTwo line → ⊥)
 unfolding reading
 two-spelled = (
-  text-means textTwo (refused (Malformed 4)) .0 refl .1,
-  λ line o. eqb-false 2 3 refl (ap readingNumber (reading-refused textTwo 0 (OutOfLimit line) .1 (inl (lit≤ tt, o)))),
+  text-means Sheet textTwo (refused (Malformed 4)) .0 refl,
+  λ line o. eqb-false 2 3 refl (ap readingNumber (reading-refused textTwo 0 (OutOfLimit line) .1 (inl (inr (lit≤ tt, outside-at line o refl))))),
 )
 
 -- the second is outside a limit at line 4, and cancels at no line
-pub three-spelled : OutsideAt maxBound textThree 4 × ((line : ℕ) → CancelsAt maxBound textThree line → ⊥)
+pub three-spelled : FailsFor Sheet textThree (OutOfLimit 4) × ((line : ℕ) → CancelsAt Sheet textThree line → ⊥)
 unfolding reading
 three-spelled = (
-  text-means textThree (refused (OutOfLimit 4)) .0 refl .1,
-  λ line o. eqb-false 3 4 refl (ap readingNumber (reading-refused textThree 0 (Cancelling line) .1 (inl (lit≤ tt, o)))),
+  text-means Sheet textThree (refused (OutOfLimit 4)) .0 refl,
+  λ line o. eqb-false 3 4 refl (ap readingNumber (reading-refused textThree 0 (Cancelling line) .1 (inl (inr (lit≤ tt, cancels-at line o refl))))),
 )
 
 -- ---- frauds: the text by itself
 
 -- there is one answer
-one-answer : (r : Checked) → TextChecked textA r → r ≡ Passed 3 2 3 30
-one-answer r p = p .reply ∙ sym (sheetA-passed .reply)
+one-answer : (paper : Paper) (r : Checked) → TextChecked paper textA r → r ≡ Passed 3 2 3 30
+one-answer paper r p = p .reply ∙ sym (sheetA-passed paper .reply)
 
 -- a check that refuses everything
-pub check-refuses-all : (f : Refusal) → TextChecked textA (Failed f) → ⊥
-check-refuses-all f p = let e = one-answer (Failed f) p in let z : _≡_ {A = ℕ} 0 1 = cc in omega arith
+pub check-refuses-all : (paper : Paper) (f : Refusal) → TextChecked paper textA (Failed f) → ⊥
+check-refuses-all paper f p = let e = one-answer paper (Failed f) p in let z : _≡_ {A = ℕ} 0 1 = cc in omega arith
 
 -- the rules' lines taken to begin where the text does
-pub body-wrong : TextChecked textA (Passed 3 2 3 0) → ⊥
-body-wrong p = let e = one-answer (Passed 3 2 3 0) p in let z : _≡_ {A = ℕ} 0 30 = cc in omega arith
+pub body-wrong : (paper : Paper) → TextChecked paper textA (Passed 3 2 3 0) → ⊥
+body-wrong paper p = let e = one-answer paper (Passed 3 2 3 0) p in let z : _≡_ {A = ℕ} 0 30 = cc in omega arith
 
 -- ---- frauds: the reply
 
@@ -176,7 +187,7 @@ module _ (t t' : List ℤ) where
 
   -- a reader that loses the hidden list
   pub hidden-lost : 18 ≤ length t → ReadInto textA t (Accepted 3 0) t' → ⊥
-  hidden-lost h p = eqb-false 0 2 refl (ap (λ (vs : List ℕ). getD vs 1 0) (p .accepted 3 2 .1 (sheetA-accepted t h) .1))
+  hidden-lost h p = eqb-false 0 2 refl (ap (λ (x : Returned). natAbs (getD (x .values) 1 (pos 0))) (p .accepted 3 2 .1 (sheetA-accepted t h)))
 
   -- 3 given before 2 on one line
   pub three-before-two : (line : ℕ) → ReadInto textTwo t (Refused (OutOfLimit line)) t' → ⊥
@@ -242,10 +253,17 @@ changed-before =
     refusal-changed textLater (noRule ∷ noRule ∷ []) (OutOfLimit 5) (pos 5 ∷ noRule ∷ []) (differ (pos 5 ∷ noRule ∷ []) (noRule ∷ noRule ∷ []) 0 refl)
 
 module _ (t t' : List ℤ) (n set : ℕ) (p : ReadInto textA t (Accepted n set) t') where
+  -- it has words enough
+  enough : 18 ≤ length t
+  unfolding blockStart
+  enough =
+      let a = p .accepted n set .0 refl in
+      let e : n ≡ 3 = a .counts ∙ ap (λ (c : Contents). c .count) (reads-same Sheet textA (a .contents) contentsA (a .reads) (sheetA-reads Sheet)) in
+      subst (λ (k : ℕ). blockStart k ≤ length t) e (a .enough)
+
   -- the table where A is accepted
   held : t' ≡ tableA ++ drop 18 t
-  unfolding putting
-  held = p .filled refl contentsA sheetA-spelled
+  held = sheetA-filled t t' (Accepted n set) enough p
 
   -- a table that holds more than the rules of A: the +1:3 that they imply, or what stood at its place before
   pub more-held : hasRule (wordAt t' 0) ≡ true → ⊥

@@ -8,6 +8,7 @@ pub mod Telling
 pub mod Reaching
 pub mod Answering
 pub mod Means
+pub mod Limits
 pub mod FineRules
 pub mod Passing
 pub mod Replies
@@ -20,3 +21,4 @@ pub mod Filling
 pub mod Checking
 pub mod Replying
 pub mod Frauds
+pub mod Edges

@@ -3,8 +3,8 @@ use mathlib.Core.Path.{_≡_, refl, sym, _∙_, ap}
 use mathlib.Core.List.{List}
 use Prim.Native.Nat.{ℕ}
 use native.Mathlib.Omega.{arith}
+use Rattle.rules.specs.declared.paper.Paper.{Paper}
 use Rattle.rules.specs.declared.refusal.Refusal.{Refusal}
-use Rattle.rules.specs.Hidden.{setOf}
 use Rattle.lines.specs.Lines.{Judged, accepted, refused}
 use Rattle.reading.specs.declared.check.Checked.{Checked}
 use Rattle.reading.specs.declared.check.Checked.the-variants.{Passed}
@@ -13,58 +13,53 @@ use Rattle.reading.specs.Texts.{Contents}
 use Rattle.reading.specs.Meaning.{Passes}
 use Rattle.reading.specs.Reading.{checkText, checkedOf}
 use Rattle.reading.specs.Promises.{TextChecked}
-use Rattle.reading.proofs.Means.{text-means, spelled-check}
-use Rattle.reading.proofs.Numbers.{answers-failed, failed-answers, answers-passed, passed-answers}
+use Rattle.reading.proofs.Means.{text-means, reads-check}
+use Rattle.reading.proofs.Numbers.{returned-failed, returned-passed}
 
--- a text that passed, with the hidden set too
-pub record Sheeted (s : List ℕ) (n set m body : ℕ) : Type 0 where
-  pub text : Passes s n m body
-  pub hides : set ≡ setOf (text .contents .hiddens)
+-- what passed is no refusal
+not-failed {ℓ} : {X : Type ℓ} {n set m body : ℕ} {f : Refusal} → Passed n set m body ≡ Failed f → X
+not-failed e = let z : _≡_ {A = ℕ} 0 1 = cc in let y : ⊥ = omega arith in absurd y
 
--- a sheet is no refusal
-not-sheet {ℓ} : {X : Type ℓ} {n set m body : ℕ} {f : Refusal} → Passed n set m body ≡ Failed f → X
-not-sheet e = let z : _≡_ {A = ℕ} 0 1 = cc in let y : ⊥ = omega arith in absurd y
-
--- a sheet is a text that passed
-pub sheet-passed : (s : List ℕ) (r : Checked) (n set m body : ℕ) → r ≡ checkedOf (checkText s) → r ≡ Passed n set m body → Sheeted s n set m body
-unfolding checkedOf
-sheet-passed s r n set m body e q = go (checkText s) refl (sym q ∙ e)
-  where
-    go : (j : Judged Contents) → checkText s ≡ j → Passed n set m body ≡ checkedOf j → Sheeted s n set m body
-    go (accepted c u) d f = record {
-      text = record {
+module _ (paper : Paper) (s : List ℕ) (r : Checked) (e : r ≡ checkedOf (checkText paper s)) where
+  -- it is fine where it passed
+  pub checked-passes : (n set m body : ℕ) → r ≡ Passed n set m body → Passes paper s n set m body
+  unfolding checkedOf
+  checked-passes n set m body q = go (checkText paper s) refl (sym q ∙ e)
+    where
+      go : (j : Judged Contents) → checkText paper s ≡ j → Passed n set m body ≡ checkedOf j → Passes paper s n set m body
+      go (accepted c u) d f = record {
         contents = c;
-        small = text-means s (accepted c u) .0 d .0;
-        spelled = text-means s (accepted c u) .0 d .1;
+        reads = text-means paper s (accepted c u) .0 d .0;
         counts = cc;
+        hides = cc;
         rules = cc;
         begins = cc;
-      };
-      hides = cc;
-    }
-    go (refused g) d f = not-sheet f
+      }
+      go (refused g) d f = not-failed f
 
--- a refusal is that of the text
-pub failed-refused : (s : List ℕ) (r : Checked) (f : Refusal) → r ≡ checkedOf (checkText s) → r ≡ Failed f → checkText s ≡ refused f
-unfolding checkedOf
-failed-refused s r f e q = go (checkText s) (sym q ∙ e)
-  where
-    go : (j : Judged Contents) → Failed f ≡ checkedOf j → j ≡ refused f
-    go (accepted c u) d = not-sheet (sym d)
-    go (refused g) d = let z : g ≡ f = cc in ap refused z
+  passes-checked : (n set m body : ℕ) → Passes paper s n set m body → r ≡ Passed n set m body
+  unfolding checkedOf
+  passes-checked n set m body p = e ∙ ap checkedOf (reads-check paper s (p .contents) (p .reads)) ∙ rw (p .counts, p .hides, p .rules, p .begins)
 
--- all that checking a text promises
-pub check-promised : (s : List ℕ) (r : Checked) → r ≡ checkedOf (checkText s) → TextChecked s r
-unfolding checkedOf
-check-promised s r e = record {
-  reply = e;
-  refused = λ f. (
-    λ q. text-means s (refused f) .0 (failed-refused s r f e (answers-failed r f q)),
-    λ h. failed-answers r f (e ∙ ap checkedOf (text-means s (refused f) .1 h)),
-  );
-  passed = λ n set m body. (
-    λ q. let p = sheet-passed s r n set m body e (answers-passed r n set m body q) in (p .text, p .hides),
-    λ w. let p = w .0 in passed-answers r n set m body
-        (e ∙ ap checkedOf (spelled-check s (p .contents) (p .small) (p .spelled)) ∙ rw (p .counts, w .1, p .rules, p .begins)),
-  );
-}
+  -- a refusal is that of the text
+  pub failed-refused : (f : Refusal) → r ≡ Failed f → checkText paper s ≡ refused f
+  unfolding checkedOf
+  failed-refused f q = go (checkText paper s) (sym q ∙ e)
+    where
+      go : (j : Judged Contents) → Failed f ≡ checkedOf j → j ≡ refused f
+      go (accepted c u) d = not-failed (sym d)
+      go (refused g) d = let z : g ≡ f = cc in ap refused z
+
+  refused-failed : (f : Refusal) → checkText paper s ≡ refused f → r ≡ Failed f
+  unfolding checkedOf
+  refused-failed f q = e ∙ ap checkedOf q
+
+  -- all that checking a text promises
+  pub check-promised : TextChecked paper s r
+  check-promised = record {
+    reply = e;
+    refused = λ f. let w = returned-failed r f in let m = text-means paper s (refused f) in
+        (λ q. m .0 (failed-refused f (w .0 q)), λ h. w .1 (refused-failed f (m .1 h)));
+    passed = λ n set m body. let w = returned-passed r n set m body in
+        (λ q. checked-passes n set m body (w .0 q), λ p. w .1 (passes-checked n set m body p));
+  }

@@ -7,11 +7,12 @@ use mathlib.Core.Logic.{_⊎_, inl, inr}
 use Prim.Native.Nat.{ℕ}
 use native.Mathlib.Omega.{arith}
 use Rattle.numerals.specs.Parsing.{Parsed, parsed, malformed}
+use Rattle.rules.specs.declared.paper.Paper.{Paper}
 use Rattle.rules.specs.declared.refusal.Refusal.the-variants.{Malformed, OutOfLimit, Cancelling}
 use Rattle.lines.specs.Spelling.{Line, lineText, WellFormed, lineWithin, lineCancels}
 use Rattle.lines.specs.Lines.{accepted, refused, judged}
 use Rattle.reading.specs.Texts.{linesText}
-use Rattle.reading.specs.Meaning.{Opening, linesOf, countOf, lineKind, dueKind, Fine, Reaches}
+use Rattle.reading.specs.Meaning.{Opening, linesOf, countOf, limitAt, Kind, lineKind, dueKind, Fine, Reaches}
 use Rattle.reading.specs.Reading.{onward}
 use Rattle.reading.proofs.Readers.{Value, lineWith, reader, lineWith-kind, value-of, reader-sound, reader-complete}
 use Rattle.reading.proofs.Openings.{lineOf, goOn, Due}
@@ -34,16 +35,16 @@ abbrev pub Unspelled : Opening → List ℕ → Type 0
 Unspelled o u = (l : Line) → lineKind l ≡ dueKind o → WellFormed l → (v : List ℕ) → u ≡ lineText l ++ v → ⊥
 
 -- a line of kind k is
-pub record Spelled (k : ℕ) (u : List ℕ) : Type 0 where
+pub record Spelled (k : Kind) (u : List ℕ) : Type 0 where
   pub value : Value k
   pub rest : List ℕ
   pub text : u ≡ lineText (lineWith k value) ++ rest
   pub formed : WellFormed (lineWith k value)
 
-module _ {limit : ℕ} {o : Opening} {k : ℕ} {next : Value k → Opening} (d : Due limit o k next) where
+module _ {paper : Paper} {o : Opening} {k : Kind} {next : Value k → Opening} (d : Due paper o k next) where
   -- a fine line that is due reaches the next opening
-  pub reaches-next : {s : List ℕ} (a : Value k) (v : List ℕ) → Reaches limit s o (lineOf o) (lineText (lineWith k a) ++ v)
-      → Fine (countOf o) limit (lineWith k a) → Reaches limit s (next a) (lineOf (next a)) v
+  pub reaches-next : {s : List ℕ} (a : Value k) (v : List ℕ) → Reaches paper s o (lineOf o) (lineText (lineWith k a) ++ v)
+      → Fine (countOf o) (limitAt paper o) (lineWith k a) → Reaches paper s (next a) (lineOf (next a)) v
   reaches-next a v r f = record {
     text = r .text ∙ sym (linesText-append (linesOf o) (lineWith k a) v) ∙ ap (λ (ls : List Line). linesText ls ++ v) (sym (d .lines a));
     fine = d .fine a (r .fine) f;
@@ -63,27 +64,27 @@ module _ {limit : ℕ} {o : Opening} {k : ℕ} {next : Value k → Opening} (d :
 
   -- a line that is spelled is answered by its limits, then by whether it cancels; else reading goes on after it
   pub spelled : (a : Value k) (v : List ℕ) (b c : Bool) → WellFormed (lineWith k a)
-      → lineWithin (countOf o) limit (lineWith k a) ≡ b → lineCancels (lineWith k a) ≡ c
-      → goOn limit o (lineText (lineWith k a) ++ v)
-      ≡ cond b (cond c (refused (Cancelling (lineOf o))) (goOn limit (next a) v)) (refused (OutOfLimit (lineOf o)))
+      → lineWithin (countOf o) (limitAt paper o) (lineWith k a) ≡ b → lineCancels (lineWith k a) ≡ c
+      → goOn paper o (lineText (lineWith k a) ++ v)
+      ≡ cond b (cond c (refused (Cancelling (lineOf o))) (goOn paper (next a) v)) (refused (OutOfLimit (lineOf o)))
   unfolding judged onward
   spelled a v b c f e g = d .goes (lineText (lineWith k a) ++ v) ∙ rw (reader-complete k a v f, e, g) (go b c)
     where
       go : (b c : Bool)
           → onward (cond b (cond c (refused (Cancelling (lineOf o))) (accepted a v)) (refused (OutOfLimit (lineOf o))))
-          (λ x w. goOn limit (next x) w)
-          ≡ cond b (cond c (refused (Cancelling (lineOf o))) (goOn limit (next a) v)) (refused (OutOfLimit (lineOf o)))
+          (λ x w. goOn paper (next x) w)
+          ≡ cond b (cond c (refused (Cancelling (lineOf o))) (goOn paper (next a) v)) (refused (OutOfLimit (lineOf o)))
       go true true = refl
       go true false = refl
       go false true = refl
       go false false = refl
 
   -- where none is spelled, it is malformed
-  pub unspelled : (u : List ℕ) → Unspelled o u → goOn limit o u ≡ refused (Malformed (lineOf o))
+  pub unspelled : (u : List ℕ) → Unspelled o u → goOn paper o u ≡ refused (Malformed (lineOf o))
   unfolding judged onward
   unspelled u none = go (reader k u) refl
     where
-      go : (p : Parsed (Value k)) → reader k u ≡ p → goOn limit o u ≡ refused (Malformed (lineOf o))
+      go : (p : Parsed (Value k)) → reader k u ≡ p → goOn paper o u ≡ refused (Malformed (lineOf o))
       go malformed e = d .goes u ∙ rw e
       go (parsed a v) e =
           let p = reader-sound k u a v e in absurd (none (lineWith k a) (lineWith-kind k a ∙ sym (d .due)) (p .1) v (p .0))

@@ -1,4 +1,5 @@
--- When a text is accepted, and when and at which line it is refused, said by how lines are spelled; nothing is read here.
+-- When a text is accepted, and when and at which line it is refused, said by how lines are spelled; nothing is read here. A text is taken as a paper, sheet or
+-- script: the paper and the header give how large its bounds may be.
 use mathlib.Core.Path.{_≡_}
 use mathlib.Core.Bool.{true, false, cond}
 use mathlib.Core.Logic.{_⊎_}
@@ -7,13 +8,15 @@ use Prim.Native.Nat.{ℕ, suc, _≤_, _<_}
 use lib.Dec.{ltb}
 use lib.ListN.{length}
 use Rattle.places.specs.Numbering.{blockStart}
+use Rattle.rules.specs.declared.paper.Paper.{Paper}
+use Rattle.rules.specs.declared.paper.Paper.the-variants.{Sheet}
 use Rattle.rules.specs.declared.refusal.Refusal.{Refusal}
-use Rattle.rules.specs.declared.refusal.Refusal.the-variants.{Size, Malformed, OutOfLimit, Cancelling, NoAssignment, TooShort, Mismatch}
-use Rattle.rules.specs.Limits.{maxBound, maxText}
+use Rattle.rules.specs.declared.refusal.Refusal.the-variants.{Size, Malformed, OutOfLimit, Cancelling, TooShort}
+use Rattle.rules.specs.Hidden.{hiddenIn, setOf, isListed}
+use Rattle.rules.specs.Limits.{boundLimit, maxText}
+use Rattle.rules.specs.Refusing.{Needs, passed, _or_then_, RefusedBy}
 use Rattle.tables.specs.Meaning.{Solutions, MeetsAll}
 use Rattle.lines.specs.Spelling.{Written, Line, quantities, hidden, rules, rule, lineText, WellFormed, lineWithin, lineCancels, writtenRules}
-use Rattle.lines.specs.Lines.{Judged, accepted, refused}
-use Rattle.rules.specs.Hidden.{hiddenIn, setOf, isListed}
 use Rattle.reading.specs.Texts.{Contents, ruleLines, linesText, headerText, sheetText}
 
 -- ---- the first lines of a text
@@ -39,19 +42,37 @@ countOf (counted n) = n
 countOf (headed n qs) = n
 countOf (ruled n qs m rs) = n
 
--- the four kinds of line, by numbers
-abbrev pub lineKind : Line → ℕ
-lineKind (quantities n) = 0
-lineKind (hidden qs) = 1
-lineKind (rules m) = 2
-lineKind (rule r) = 3
+-- the hidden list, where it is known
+abbrev pub hiddensOf : Opening → List ℕ
+hiddensOf start = []
+hiddensOf (counted n) = []
+hiddensOf (headed n qs) = qs
+hiddensOf (ruled n qs m rs) = qs
 
--- which kind of line is due next; 4 is none, where all N rules are read
-abbrev pub dueKind : Opening → ℕ
-dueKind start = 0
-dueKind (counted n) = 1
-dueKind (headed n qs) = 2
-dueKind (ruled n qs m rs) = cond (ltb (length rs) m) 3 4
+-- how large a bound may be, by the header as far as it is read: rules come after all of it
+abbrev pub limitAt : Paper → Opening → ℕ
+limitAt paper o = boundLimit paper (countOf o) (setOf (hiddensOf o))
+
+-- the kinds of line, and none
+pub data Kind : Type 0 where
+  quantities-line : Kind
+  hidden-line : Kind
+  rules-line : Kind
+  rule-line : Kind
+  no-line : Kind
+
+abbrev pub lineKind : Line → Kind
+lineKind (quantities n) = quantities-line
+lineKind (hidden qs) = hidden-line
+lineKind (rules m) = rules-line
+lineKind (rule r) = rule-line
+
+-- which kind of line is due next; none, where all N rules are read
+abbrev pub dueKind : Opening → Kind
+dueKind start = quantities-line
+dueKind (counted n) = hidden-line
+dueKind (headed n qs) = rules-line
+dueKind (ruled n qs m rs) = cond (ltb (length rs) m) rule-line no-line
 
 -- a line that may stand in a text over n quantities: well formed, its numbers in their limits, and not cancelling
 pub record Fine (n limit : ℕ) (l : Line) : Type 0 where
@@ -71,13 +92,17 @@ AtMost (headed n qs) = Unit {0}
 AtMost (ruled n qs m rs) = length rs ≤ m
 
 -- the text s begins with the lines of an opening, all fine, and goes on with the bytes u, at the line of this number
-pub record Reaches (limit : ℕ) (s : List ℕ) (o : Opening) (line : ℕ) (u : List ℕ) : Type 0 where
+pub record Reaches (paper : Paper) (s : List ℕ) (o : Opening) (line : ℕ) (u : List ℕ) : Type 0 where
   pub text : s ≡ linesText (linesOf o) ++ u
-  pub fine : AllFine (countOf o) limit (linesOf o)
+  pub fine : AllFine (countOf o) (limitAt paper o) (linesOf o)
   pub most : AtMost o
   pub number : line ≡ suc (length (linesOf o))
 
--- ---- accepted
+-- ---- a text that is fine
+
+-- how large its bounds may be
+abbrev pub contentsLimit : Paper → Contents → ℕ
+contentsLimit paper c = boundLimit paper (c .count) (setOf (c .hiddens))
 
 -- every line of contents is fine
 abbrev pub FineLines : ℕ → Contents → Type 0
@@ -88,84 +113,84 @@ pub record Spells (limit : ℕ) (s : List ℕ) (c : Contents) : Type 0 where
   pub text : s ≡ sheetText c
   pub fine : FineLines limit c
 
--- the rules that contents write, as a paper: a doubled term is taken as written
+-- the text s is fine by itself, and these are its contents
+pub record Reads (paper : Paper) (s : List ℕ) (c : Contents) : Type 0 where
+  pub small : length s ≤ maxText
+  pub spelled : Spells (contentsLimit paper c) s c
+
+-- it is fine
+pub record Readable (paper : Paper) (s : List ℕ) : Type 0 where
+  pub contents : Contents
+  pub reads : Reads paper s contents
+
+-- what meets the rules that contents write: a doubled term is taken as written
 abbrev pub rulesOf : Contents → Solutions
 rulesOf c σ = MeetsAll σ (writtenRules (c .written))
 
--- ---- refused
-
--- 2: no line of the kind due is spelled here, with numbers of any size; or all rules are read and bytes follow
-pub record MalformedAt (limit : ℕ) (s : List ℕ) (line : ℕ) : Type 0 where
-  pub opening : Opening
-  pub rest : List ℕ
-  pub reached : Reaches limit s opening line rest
-  pub none : (l : Line) → lineKind l ≡ dueKind opening → WellFormed l → (u : List ℕ) → rest ≡ lineText l ++ u → ⊥
-  pub follows : dueKind opening ≡ 4 → rest ≡ [] → ⊥
-
--- 3: the line due is spelled here, with a number outside its limit
-pub record OutsideAt (limit : ℕ) (s : List ℕ) (line : ℕ) : Type 0 where
-  pub opening : Opening
-  pub found : Line
-  pub rest : List ℕ
-  pub reached : Reaches limit s opening line (lineText found ++ rest)
-  pub due : lineKind found ≡ dueKind opening
-  pub formed : WellFormed found
-  pub outside : lineWithin (countOf opening) limit found ≡ false
-
--- 4: the line due is spelled here, its numbers in their limits, and it is a rule +q-q or -q+q
-pub record CancelsAt (limit : ℕ) (s : List ℕ) (line : ℕ) : Type 0 where
-  pub opening : Opening
-  pub found : Line
-  pub rest : List ℕ
-  pub reached : Reaches limit s opening line (lineText found ++ rest)
-  pub due : lineKind found ≡ dueKind opening
-  pub formed : WellFormed found
-  pub within : lineWithin (countOf opening) limit found ≡ true
-  pub cancels : lineCancels found ≡ true
-
--- the text s is refused by itself, for this reason
-abbrev pub FailsFor : List ℕ → Refusal → Type 0
-FailsFor s Size = maxText < length s
-FailsFor s (Malformed line) = (length s ≤ maxText) × MalformedAt maxBound s line
-FailsFor s (OutOfLimit line) = (length s ≤ maxText) × OutsideAt maxBound s line
-FailsFor s (Cancelling line) = (length s ≤ maxText) × CancelsAt maxBound s line
-FailsFor s NoAssignment = ⊥
-FailsFor s (TooShort needed) = ⊥
-FailsFor s Mismatch = ⊥
-
--- what checking a text has to answer: what it writes, with nothing after it, or the refusal
-abbrev pub Means : List ℕ → Judged Contents → Type 0
-Means s (accepted c u) = (length s ≤ maxText) × Spells maxBound s c × (u ≡ [])
-Means s (refused f) = FailsFor s f
-
--- the text passes by itself, with n, the number of its rules, and the cursor at which their lines begin
-pub record Passes (s : List ℕ) (n m body : ℕ) : Type 0 where
+-- it is fine, with n, its hidden set, the number of its rules, and the cursor at which their lines begin
+pub record Passes (paper : Paper) (s : List ℕ) (n set m body : ℕ) : Type 0 where
   pub contents : Contents
-  pub small : length s ≤ maxText
-  pub spelled : Spells maxBound s contents
+  pub reads : Reads paper s contents
   pub counts : n ≡ contents .count
+  pub hides : set ≡ setOf (contents .hiddens)
   pub rules : m ≡ length (contents .written)
   pub begins : body ≡ length (headerText contents)
 
--- ---- into a table of so many words
+-- ---- a text that is refused
 
--- the text is fine, and the table too short for it
-pub record ShortFor (s : List ℕ) (words : ℕ) (f : Refusal) : Type 0 where
-  pub contents : Contents
-  pub small : length s ≤ maxText
-  pub spelled : Spells maxBound s contents
-  pub short : words < blockStart (contents .count)
-  pub reason : f ≡ TooShort (blockStart (contents .count))
+-- 2: no line of the kind due is spelled here, with numbers of any size; or all rules are read and bytes follow
+pub record MalformedAt (paper : Paper) (s : List ℕ) (line : ℕ) : Type 0 where
+  pub opening : Opening
+  pub rest : List ℕ
+  pub reached : Reaches paper s opening line rest
+  pub none : (l : Line) → lineKind l ≡ dueKind opening → WellFormed l → (u : List ℕ) → rest ≡ lineText l ++ u → ⊥
+  pub follows : dueKind opening ≡ no-line → rest ≡ [] → ⊥
 
--- reading is refused for the text or for the table
+-- 3: the line due is spelled here, with a number outside its limit
+pub record OutsideAt (paper : Paper) (s : List ℕ) (line : ℕ) : Type 0 where
+  pub opening : Opening
+  pub found : Line
+  pub rest : List ℕ
+  pub reached : Reaches paper s opening line (lineText found ++ rest)
+  pub due : lineKind found ≡ dueKind opening
+  pub formed : WellFormed found
+  pub outside : lineWithin (countOf opening) (limitAt paper opening) found ≡ false
+
+-- 4: the line due is spelled here, its numbers in their limits, and it is a rule +q-q or -q+q
+pub record CancelsAt (paper : Paper) (s : List ℕ) (line : ℕ) : Type 0 where
+  pub opening : Opening
+  pub found : Line
+  pub rest : List ℕ
+  pub reached : Reaches paper s opening line (lineText found ++ rest)
+  pub due : lineKind found ≡ dueKind opening
+  pub formed : WellFormed found
+  pub within : lineWithin (countOf opening) (limitAt paper opening) found ≡ true
+  pub cancels : lineCancels found ≡ true
+
+-- f is the refusal of the first line of the text s that is not fine
+pub data LineFails (paper : Paper) (s : List ℕ) (f : Refusal) : Type 0 where
+  malformed-at : (line : ℕ) → MalformedAt paper s line → f ≡ Malformed line → LineFails paper s f
+  outside-at : (line : ℕ) → OutsideAt paper s line → f ≡ OutOfLimit line → LineFails paper s f
+  cancels-at : (line : ℕ) → CancelsAt paper s line → f ≡ Cancelling line → LineFails paper s f
+
+-- the text s is refused by itself with f: its size comes before its lines
+abbrev pub FailsFor : Paper → List ℕ → Refusal → Type 0
+FailsFor paper s f = ((maxText < length s) × (f ≡ Size)) ⊎ ((length s ≤ maxText) × LineFails paper s f)
+
+-- ---- a sheet read into a table of so many words
+
+-- what contents need of it
+abbrev pub roomFor : Contents → ℕ → Needs
+roomFor c words = (blockStart (c .count) ≤ words) or TooShort (blockStart (c .count)) then passed
+
+-- reading is refused for the text, or the text is fine and the table too short for it
 abbrev pub RefusedFor : List ℕ → ℕ → Refusal → Type 0
-RefusedFor s words f = FailsFor s f ⊎ ShortFor s words f
+RefusedFor s words f = FailsFor Sheet s f ⊎ ((t : Readable Sheet s) × RefusedBy (roomFor (t .contents) words) f)
 
 -- it is accepted, with n and a hidden set: the text is the spelling of an n, a hidden list and rules within their limits, and the table is long enough
 pub record AcceptedAs (s : List ℕ) (words n set : ℕ) : Type 0 where
   pub contents : Contents
-  pub small : length s ≤ maxText
-  pub spelled : Spells maxBound s contents
+  pub reads : Reads Sheet s contents
   pub counts : n ≡ contents .count
   pub hides : set ≡ setOf (contents .hiddens)
   pub members : (q : ℕ) → hiddenIn set q ≡ isListed q (contents .hiddens)

@@ -4,16 +4,18 @@ use mathlib.Core.Bool.{Bool, true, false, cond}
 use mathlib.Core.List.{List, [], _∷_, _++_}
 use Prim.Native.Nat.{ℕ, zero, suc}
 use lib.Dec.{ltb}
-use lib.IntN.{ℤ}
+use lib.IntN.{ℤ, pos}
 use lib.ListN.{length, drop}
 use Rattle.places.specs.Numbering.{blockStart}
+use Rattle.rules.specs.declared.paper.Paper.{Paper}
+use Rattle.rules.specs.declared.paper.Paper.the-variants.{Sheet}
 use Rattle.rules.specs.declared.refusal.Refusal.the-variants.{Size, Malformed, TooShort}
-use Rattle.rules.specs.Limits.{maxQuantities, maxBound, maxRules, maxText}
-use Rattle.rules.specs.Refusal.{refusalNumber, refusalValues, refusalValue}
+use Rattle.rules.specs.Hidden.{setOf}
+use Rattle.rules.specs.Limits.{maxQuantities, boundLimit, maxRules, maxText}
+use Rattle.rules.specs.Refusal.{Returned, refusedAs, refusalValue}
 use Rattle.tables.specs.Tables.{tableOf}
 use Rattle.lines.specs.Spelling.{Written, quantitiesKey, rulesKey, writtenRules}
 use Rattle.lines.specs.Lines.{Judged, accepted, refused, countJudged, hiddenJudged, ruleJudged}
-use Rattle.rules.specs.Hidden.{setOf}
 use Rattle.reading.specs.declared.check.Checked.{Checked}
 use Rattle.reading.specs.declared.check.Checked.the-variants.{Passed}
 use Rattle.reading.specs.declared.check.Checked.the-variants.{Refused as Failed}
@@ -33,17 +35,17 @@ rulesFrom n limit zero line (b ∷ u) = refused (Malformed line)
 rulesFrom n limit (suc k) line u =
     onward (ruleJudged n limit line u) (λ r v. onward (rulesFrom n limit k (suc line) v) (λ rs. accepted (r ∷ rs)))
 
--- the lines of a text
-unfoldable pub linesFrom : ℕ → List ℕ → Judged Contents
-linesFrom limit s =
+-- the lines of a text, taken as a paper: its header gives the limit of its bounds
+unfoldable pub linesFrom : Paper → List ℕ → Judged Contents
+linesFrom paper s =
     onward (countJudged quantitiesKey 1 maxQuantities 1 s) (λ n u.
     onward (hiddenJudged n 2 u) (λ qs v.
     onward (countJudged rulesKey 0 maxRules 3 v) (λ m w.
-    onward (rulesFrom n limit m 4 w) (λ rs. accepted (record { count = n; hiddens = qs; written = rs })))))
+    onward (rulesFrom n (boundLimit paper n (setOf qs)) m 4 w) (λ rs. accepted (record { count = n; hiddens = qs; written = rs })))))
 
 -- what a text writes, or its refusal: 1 for its size, else that of the first line that fails
-unfoldable pub checkText : List ℕ → Judged Contents
-checkText s = cond (ltb maxText (length s)) (refused Size) (linesFrom maxBound s)
+unfoldable pub checkText : Paper → List ℕ → Judged Contents
+checkText paper s = cond (ltb maxText (length s)) (refused Size) (linesFrom paper s)
 
 -- ---- what the program has of it
 
@@ -52,12 +54,7 @@ unfoldable pub checkedOf : Judged Contents → Checked
 checkedOf (accepted c u) = Passed (c .count) (setOf (c .hiddens)) (length (c .written)) (length (headerText c))
 checkedOf (refused r) = Failed r
 
--- the same from the rule lines, where the header is read
-unfoldable pub checkedRules : ℕ → ℕ → ℕ → ℕ → Judged (List Written) → Checked
-checkedRules n set m body (accepted rs u) = Passed n set m body
-checkedRules n set m body (refused r) = Failed r
-
--- ---- into a table
+-- ---- a sheet into a table
 
 -- the reply of reading into a table of so many words: the last check is its length
 unfoldable pub replyTo : ℕ → Judged Contents → Reading
@@ -66,7 +63,7 @@ replyTo words (accepted c u) =
 replyTo words (refused r) = Refused r
 
 unfoldable pub readReply : List ℕ → ℕ → Reading
-readReply s words = replyTo words (checkText s)
+readReply s words = replyTo words (checkText Sheet s)
 
 -- the table of a text's rules, put in one after the other; words past it stay
 unfoldable pub filled : Judged Contents → List ℤ → List ℤ
@@ -80,34 +77,24 @@ isAccepted (Refused r) = false
 
 -- the table afterwards
 unfoldable pub readTable : List ℕ → List ℤ → List ℤ
-readTable s t = cond (isAccepted (readReply s (length t))) (filled (checkText s) t) t
+readTable s t = cond (isAccepted (readReply s (length t))) (filled (checkText Sheet s) t) t
 
--- document 01's number of a reply, 0 where the text is accepted, and what is returned beside it
+-- ---- as it is returned (document 01, 'Returned to the caller')
+
+-- 0 where the text is accepted, with n and the hidden set
+abbrev pub readingReturned : Reading → Returned
+readingReturned (Accepted n set) = record { number = 0; values = pos n ∷ pos set ∷ [] }
+readingReturned (Refused f) = refusedAs f
+
 abbrev pub readingNumber : Reading → ℕ
-readingNumber (Accepted n set) = 0
-readingNumber (Refused r) = refusalNumber r
-
-abbrev pub readingValues : Reading → List ℕ
-readingValues (Accepted n set) = n ∷ set ∷ []
-readingValues (Refused r) = refusalValues r
+readingNumber r = readingReturned r .number
 
 -- a refusal's line or length as one number, 0 where there is none
 abbrev pub readingValue : Reading → ℕ
 readingValue (Accepted n set) = 0
-readingValue (Refused r) = refusalValue r
+readingValue (Refused f) = refusalValue f
 
--- the same of a text that is checked; beside 0 stand n, the hidden set, the number of rules and the cursor at which their lines begin
-abbrev pub checkedNumber : Checked → ℕ
-checkedNumber (Passed n set m body) = 0
-checkedNumber (Failed r) = refusalNumber r
-
-abbrev pub checkedValues : Checked → List ℕ
-checkedValues (Passed n set m body) = n ∷ set ∷ m ∷ body ∷ []
-checkedValues (Failed r) = refusalValues r
-
-abbrev pub Answers : Checked → ℕ → List ℕ → Type 0
-Answers r number values = (checkedNumber r ≡ number) × (checkedValues r ≡ values)
-
--- the reply is returned by this number and these values
-abbrev pub Returns : Reading → ℕ → List ℕ → Type 0
-Returns r number values = (readingNumber r ≡ number) × (readingValues r ≡ values)
+-- of a text that is checked: beside 0 stand n, the hidden set, the number of rules and the cursor at which their lines begin
+abbrev pub checkedReturned : Checked → Returned
+checkedReturned (Passed n set m body) = record { number = 0; values = pos n ∷ pos set ∷ pos m ∷ pos body ∷ [] }
+checkedReturned (Failed f) = refusedAs f

@@ -4,6 +4,8 @@ use lines::answer::Answer;
 use lines::count;
 use lines::hidden;
 use lines::rule;
+use rules::paper;
+use rules::paper::Paper;
 use rules::refusal::Refusal;
 use rules::sheet::Sheet;
 ghost use mathlib.Core.Path.{_≡_};
@@ -13,8 +15,9 @@ ghost use Rattle.numerals.specs.Decimal.{cap};
 ghost use Rattle.rules.specs.Limits.{maxQuantities, maxRules};
 ghost use Rattle.lines.specs.Answers.{refusalOf};
 ghost use Rattle.reading.specs.declared.check.Checked.the-variants.{Refused as Failed};
-ghost use Rattle.reading.specs.Reading.{rulesFrom, checkedRules};
+ghost use Rattle.reading.specs.Reading.{rulesFrom};
 ghost use Rattle.reading.specs.Promises.{TextChecked};
+ghost use Rattle.reading.specs.Inner.{checkedRules};
 
 pub enum Checked {
     // n, the hidden set, the number of rules, and the cursor at which their lines begin
@@ -66,9 +69,9 @@ fn check_rules(s: &[u8], n: usize, hidden: u32, limit: u64, count: usize, body: 
     }
 }
 
-// Checks a text, a sheet or a script: its size, the three lines of its header, then its rules.
-pub fn check(s: &[u8]) -> Checked
-    ensures { λ r. ⌜ TextChecked (now (s .entry)) r ⌝ }
+// Checks a text, taken as a sheet or a script: its size, the three lines of its header, then its rules, whose bounds the header limits.
+pub fn check(s: &[u8], paper: Paper) -> Checked
+    ensures { λ r. ⌜ TextChecked paper (now (s .entry)) r ⌝ }
 {
     if Sheet::MAX_TEXT < s.len() {
         return Checked::Refused {
@@ -91,6 +94,7 @@ pub fn check(s: &[u8]) -> Checked
     else {
         return refused(second);
     };
+    let limit = paper::bound_limit(paper, n, set) as u64;
     let third = count::count_line(s, third_at, b"rules=", 0, Sheet::MAX_RULES, 3);
     let Answer::Count {
         value: count,
@@ -99,5 +103,5 @@ pub fn check(s: &[u8]) -> Checked
     else {
         return refused(third);
     };
-    check_rules(s, n, set, Sheet::MAX_BOUND as u64, count, body)
+    check_rules(s, n, set, limit, count, body)
 }

@@ -1,7 +1,8 @@
 // A table filled from a text that passed its check.
 use lines::answer::Answer;
 use lines::rule;
-use rules::sheet::Sheet;
+use rules::paper;
+use rules::paper::Paper;
 use tables::table;
 ghost use mathlib.Core.Path.{_≡_};
 ghost use Prim.Native.Nat.{_≤_};
@@ -10,16 +11,25 @@ ghost use Rattle.places.specs.Numbering.{blockStart};
 ghost use Rattle.reading.specs.Reading.{checkText, filled};
 ghost use Rattle.reading.specs.Meaning.{Passes};
 
-// Fills the first 2n² words of the table with the rules of a text over `n` quantities, whose `count` rule lines begin at the cursor `body`.
-pub fn fill(s: &[u8], n: usize, count: usize, body: usize, table: &mut [i64])
-    requires { ⌜ Passes (now s) n count body × (blockStart n ≤ length (now table)) ⌝ }
-    ensures { λ _. ⌜ now (table .exit) ≡ filled (checkText (now (s .entry))) (now (table .entry)) ⌝ }
+// Fills the first 2n² words of the table with the rules of a text over `n` quantities with a hidden set, whose `count` rule lines begin at the cursor `body`.
+pub fn fill(
+    s: &[u8],
+    paper: Paper,
+    n: usize,
+    hidden: u32,
+    count: usize,
+    body: usize,
+    table: &mut [i64],
+)
+    requires { ⌜ Passes paper (now s) n hidden count body × (blockStart n ≤ length (now table)) ⌝ }
+    ensures { λ _. ⌜ now (table .exit) ≡ filled (checkText paper (now (s .entry))) (now (table .entry)) ⌝ }
 {
+    let limit = paper::bound_limit(paper, n, hidden) as u64;
     table::empty(n, table);
     let mut at = body;
     let mut i = 0;
     while i < count {
-        let got = rule::rule_line(s, at, n, Sheet::MAX_BOUND as u64, i + 4);
+        let got = rule::rule_line(s, at, n, limit, i + 4);
         let Answer::Rule { rule, next } = got else {
             return;
         };

@@ -1,7 +1,8 @@
-// A text read into a lent table.
+// A sheet's text read into a lent table.
 use crate::check;
 use crate::check::Checked;
 use crate::fill;
+use rules::paper::Paper;
 use rules::refusal;
 use rules::refusal::Refusal;
 ghost use mathlib.Core.Path.{_≡_};
@@ -42,11 +43,11 @@ impl Reading {
     }
 }
 
-// Reads a text into the first 2n² words of a table: the text is checked first, and last that the table is long enough.
+// Reads a sheet's text into the first 2n² words of a table: the text is checked first, and last that the table is long enough.
 pub fn read(s: &[u8], table: &mut [i64]) -> Reading
     ensures { λ r. ⌜ ReadInto (now (s .entry)) (now (table .entry)) r (now (table .exit)) ⌝ }
 {
-    match check::check(s) {
+    match check::check(s, Paper::Sheet) {
         Checked::Refused { refusal } => Reading::Refused { refusal },
         Checked::Passed {
             quantities,
@@ -60,7 +61,7 @@ pub fn read(s: &[u8], table: &mut [i64]) -> Reading
                     refusal: Refusal::TooShort { needed },
                 };
             }
-            fill::fill(s, quantities, rules, body, table);
+            fill::fill(s, Paper::Sheet, quantities, hidden, rules, body, table);
             Reading::Accepted { quantities, hidden }
         }
     }

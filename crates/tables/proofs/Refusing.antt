@@ -16,7 +16,7 @@ pub record Tied (needs : Needs) (r : Reply) : Type 0 where
   pub refuses : (f : Refusal) → (r ≡ Refused f) ↔ RefusedBy needs f
   pub passes : (r ≡ Done) ↔ AllMet needs
 
-refusal-in : {f g : Refusal} → Refused f ≡ Refused g → g ≡ f
+pub refusal-in : {f g : Refusal} → Refused f ≡ Refused g → g ≡ f
 refusal-in e = cc
 
 pub tied-done : Tied passed Done

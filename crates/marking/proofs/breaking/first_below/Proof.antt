@@ -10,10 +10,10 @@ use mir.Val.{toZ, ofZ}
 use denote.Ref.{now}
 use Rattle.integers.proofs.Parts.{held-value}
 use Rattle.words.specs.Change.{wordAt}
-use Rattle.marking.specs.Marking.{firstBelowFrom}
 use Rattle.marking.proofs.Finding.{below-here, below-on, below-end}
 use Rattle.marking.proofs.breaking.first_below.Statement.{statement}
 use Rattle.marking.proofs.breaking.first_below.Tie as tie
+use Rattle.marking.specs.Inner.{firstBelowFrom}
 
 abbrev Inv-loop : tie.InvT-loop
 Inv-loop m words k₀ k = firstBelowFrom (m - k) k m words ≡ firstBelowFrom m 0 m words

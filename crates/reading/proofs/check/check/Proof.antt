@@ -1,25 +1,30 @@
 -- `check::check` meets its contract: a line that is refused ends it with its refusal, and after three lines those of the rules decide. Assumes
 -- nothing.
-use mathlib.Core.Path.{sym, _∙_}
+use mathlib.Core.Path.{_≡_, sym, _∙_}
 use mathlib.Core.List.{List}
 use Prim.Native.Nat.{ℕ, _≤_}
 use native.Mathlib.Omega.{arith}
 use lib.ListN.{length, drop}
 use denote.Ref.{now}
 use borrow.Author.Needs.{needs}
-use Rattle.rules.specs.Limits.{maxQuantities, maxRules, maxText}
+use Rattle.rules.specs.declared.paper.Paper.{Paper}
+use Rattle.rules.specs.Limits.{maxQuantities, boundLimit, maxRules, maxText}
 use Rattle.lines.specs.Spelling.{quantitiesKey, rulesKey}
 use Rattle.lines.specs.Lines.{countJudged, hiddenJudged}
 use Rattle.lines.specs.Answers.{refusalOf}
 use Rattle.lines.proofs.Found.{CountFound, HiddenFound, count-found, hidden-found, count-refused, hidden-refused}
+use Rattle.reading.proofs.Limits.{limit-told, unsigned, cap-casts, cap-value}
 use Rattle.reading.proofs.Passing.{check-promised}
 use Rattle.reading.proofs.Checking.{size-checked, first-checked, second-checked, third-checked, rules-checked}
 use Rattle.reading.proofs.check.check.Statement.{statement}
 use Rattle.reading.proofs.check.check.Tie as tie
 
--- the text, n and the cursor of the second line, where the first is found
+-- the text, the paper, n and the cursor of the second line, where the first is found
 abbrev textOf : tie.After-known-told → List ℕ
 textOf c = now (c .before .before .before .before .before .before .before .args .s)
+
+abbrev paperOf : tie.After-known-told → Paper
+paperOf c = c .before .before .before .before .before .before .before .args .paper
 
 abbrev countOf : tie.After-known-told → ℕ
 countOf c = c .before .first .given .0 .0
@@ -46,6 +51,12 @@ second : (c : tie.After-known-told2) → let f = c .before .before .before .befo
 second c = let l = c .before .before .before in let f = l .before in
     hidden-found (textOf f) (countOf f) 2 (secondAt f) (setAt c) (thirdAt c) (sym (l .hidden-line .ensures) ∙ c .before .second .given .1)
 
+-- the limit of bounds, by these two lines
+limit-is : (c : tie.After-bound-limit) → let f = c .before .before .before .before .before in
+    unsigned (c .bound-limit .result) ≡ boundLimit (paperOf f) (countOf f) (setAt (c .before))
+limit-is c = let f = c .before .before .before .before .before in
+    cap-value _ _ (c .bound-limit .ensures) (limit-told (paperOf f) (countOf f) (setAt (c .before)) (first f .high))
+
 -- the number of rules and the cursor of their lines, where the third is found
 abbrev rulesOf : tie.After-known-told3 → ℕ
 rulesOf c = c .before .third .given .0 .0
@@ -53,13 +64,13 @@ rulesOf c = c .before .third .given .0 .0
 abbrev bodyAt : tie.After-known-told3 → ℕ
 bodyAt c = c .before .third .given .0 .1 .0
 
-third : (c : tie.After-known-told3) → let k = c .before .before .before .before .before in let f = k .before .before .before .before in
+third : (c : tie.After-known-told3) → let k = c .before .before .before .before .before .before in let f = k .before .before .before .before in
     CountFound (textOf f) rulesKey 0 maxRules 3 (thirdAt k) (rulesOf c) (bodyAt c)
-third c = let l = c .before .before .before in let k = l .before .before in let f = k .before .before .before .before in
+third c = let l = c .before .before .before in let k = l .before .before .before in let f = k .before .before .before .before in
     count-found (textOf f) rulesKey 0 maxRules 3 (thirdAt k) (rulesOf c) (bodyAt c) (sym (l .count-line2 .ensures) ∙ c .before .third .given .1)
 
 returns : tie.Need-returns
-returns c = check-promised _ _ (size-checked _ (c .if1 .taken))
+returns c = let a = c .before .before .args in check-promised (a .paper) (now (a .s)) _ (size-checked (a .paper) (now (a .s)) (c .if1 .taken))
 
 slice-aggregate-count-line : tie.Need-slice-aggregate-count-line
 slice-aggregate-count-line c = search needs
@@ -74,9 +85,9 @@ refused-requires : tie.Need-refused-requires
 refused-requires c κs = search needs
 
 returns-2 : tie.Need-returns-2
-returns-2 c = let l = c .before .before in let s = now (l .before .before .before .before .args .s) in let a = l .count-line .result in
-    let f = count-refused s (countJudged quantitiesKey 1 maxQuantities 1 s) a (l .count-line .ensures) (c .before .match .keys2) in
-    check-promised _ _ (c .refused .ensures ∙ first-checked s (l .before .before .if1 .left) (refusalOf a) (f .is))
+returns-2 c = let l = c .before .before in let a = l .before .before .before .before .args in let s = now (a .s) in let g = l .count-line .result in
+    let f = count-refused s (countJudged quantitiesKey 1 maxQuantities 1 s) g (l .count-line .ensures) (c .before .match .keys2) in
+    check-promised (a .paper) s _ (c .refused .ensures ∙ first-checked (a .paper) s (l .before .before .if1 .left) (refusalOf g) (f .is))
 
 hidden-line-requires : tie.Need-hidden-line-requires
 hidden-line-requires c κs = first c .high
@@ -90,7 +101,15 @@ refused-requires-2 c κs = search needs
 returns-3 : tie.Need-returns-3
 returns-3 c = let l = c .before .before in let f = l .before in let a = l .hidden-line .result in let u = drop (secondAt f) (textOf f) in
     let r = hidden-refused (textOf f) (hiddenJudged (countOf f) 2 u) a (l .hidden-line .ensures) (c .before .match2 .keys2) in
-    check-promised _ _ (c .refused2 .ensures ∙ second-checked (textOf f) (small f) (countOf f) u (first f .is) (refusalOf a) (r .is))
+    check-promised (paperOf f) (textOf f) _
+    (c .refused2 .ensures ∙ second-checked (paperOf f) (textOf f) (small f) (countOf f) u (first f .is) (refusalOf a) (r .is))
+
+bound-limit-requires : tie.Need-bound-limit-requires
+bound-limit-requires c κs = search needs
+
+cast-limit : tie.Need-cast-limit
+cast-limit c = let f = c .before .before .before .before .before in
+    cap-casts _ _ (c .bound-limit .ensures) (limit-told (paperOf f) (countOf f) (setAt (c .before)) (first f .high))
 
 slice-aggregate-count-line-2 : tie.Need-slice-aggregate-count-line-2
 slice-aggregate-count-line-2 c = search needs
@@ -105,23 +124,21 @@ refused-requires-3 : tie.Need-refused-requires-3
 refused-requires-3 c κs = search needs
 
 returns-4 : tie.Need-returns-4
-returns-4 c = let l = c .before .before in let k = l .before .before in let f = k .before .before .before .before in let a = l .count-line2 .result in
-    let v = drop (thirdAt k) (textOf f) in
+returns-4 c = let l = c .before .before in let k = l .before .before .before in let f = k .before .before .before .before in
+    let a = l .count-line2 .result in let v = drop (thirdAt k) (textOf f) in
     let r = count-refused (textOf f) (countJudged rulesKey 0 maxRules 3 v) a (l .count-line2 .ensures) (c .before .match3 .keys2) in
-    check-promised _ _ (c .refused3 .ensures ∙ third-checked (textOf f) (small f) (countOf f) (drop (secondAt f) (textOf f)) (first f .is)
-    (second k .members) v (second k .is) (refusalOf a) (r .is))
-
-cast-check-rules : tie.Need-cast-check-rules
-cast-check-rules c = search needs
+    check-promised (paperOf f) (textOf f) _ (c .refused3 .ensures ∙ third-checked (paperOf f) (textOf f) (small f) (countOf f)
+    (drop (secondAt f) (textOf f)) (first f .is) (second k .members) v (second k .is) (refusalOf a) (r .is))
 
 check-rules-requires : tie.Need-check-rules-requires
-check-rules-requires c κs = (first (c .before .before .before .before .before .before .before .before .before) .high, omega arith, third c .high)
+check-rules-requires c κs = let b = c .before .before .before .before .before in let k = b .before in let f = k .before .before .before .before in
+    (first f .high, rw (limit-is b) (limit-told (paperOf f) (countOf f) (setAt k) (first f .high)), third c .high)
 
 returns-5 : tie.Need-returns-5
-returns-5 c = let t = c .before in let k = t .before .before .before .before .before in let f = k .before .before .before .before in
-    check-promised _ _ (c .check-rules .ensures ∙ rw (second k .told)
-    (rules-checked (textOf f) (small f) (countOf f) (drop (secondAt f) (textOf f)) (first f .is) (second k .members) (drop (thirdAt k) (textOf f))
-    (second k .is) (rulesOf t) (bodyAt t) (third t .inside) (third t .is)))
+returns-5 c = let t = c .before in let b = t .before .before .before .before .before in let k = b .before in let f = k .before .before .before .before in
+    check-promised (paperOf f) (textOf f) _ (c .check-rules .ensures ∙ rw (limit-is b, second k .told)
+    (rules-checked (paperOf f) (textOf f) (small f) (countOf f) (drop (secondAt f) (textOf f)) (first f .is) (second k .members)
+    (drop (thirdAt k) (textOf f)) (second k .is) (rulesOf t) (bodyAt t) (third t .inside) (third t .is)))
 
 pub check-spec : {M : Type 1} → statement M
 check-spec =
@@ -137,11 +154,12 @@ check-spec =
     enum-known-second
     refused-requires-2
     returns-3
+    bound-limit-requires
+    cast-limit
     slice-aggregate-count-line-2
     count-line-requires-2
     enum-known-third
     refused-requires-3
     returns-4
-    cast-check-rules
     check-rules-requires
     returns-5)

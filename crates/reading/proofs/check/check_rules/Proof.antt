@@ -10,7 +10,8 @@ use borrow.Author.Needs.{needs}
 use Rattle.lines.specs.Answers.{refusalOf}
 use Rattle.lines.specs.Lines.{ruleJudged}
 use Rattle.lines.proofs.Found.{rule-found, rule-refused}
-use Rattle.reading.specs.Reading.{rulesFrom, checkedRules}
+use Rattle.reading.specs.Reading.{rulesFrom}
+use Rattle.reading.specs.Inner.{checkedRules}
 use Rattle.reading.proofs.RuleLines.{checked-ends, checked-goes, checked-over, checked-done}
 use Rattle.reading.proofs.check.check_rules.Statement.{statement}
 use Rattle.reading.proofs.check.check_rules.Tie as tie

@@ -1,0 +1,46 @@
+-- The limit of a paper's bounds: the reader tells every number up to it, and none is the no-rule word. Assumes nothing.
+use mathlib.Core.Path.{_≡_}
+use Prim.Native.Nat.{ℕ, _<_, _≤_}
+use native.Mathlib.Omega.{arith}
+use lib.Dec.{T, leb}
+use lib.IntN.{ℤ, pos, natAbs}
+use lib.Signed.{nonNeg}
+use mir.Syntax.{w64}
+use mir.Val.{toZ, ofZ, Fits}
+use borrow.Author.Tests.{leb-true}
+use Rattle.integers.proofs.Parts.{word-value}
+use Rattle.numerals.specs.Decimal.{cap}
+use Rattle.rules.specs.declared.paper.Paper.{Paper}
+use Rattle.rules.specs.Limits.{maxQuantities, boundLimit}
+use Rattle.tables.proofs.Tests.{both-true}
+use Rattle.lines.specs.Spelling.{lineWithin}
+use Rattle.lines.proofs.Told.{cap-word}
+use Rattle.reading.specs.Texts.{Contents}
+use Rattle.reading.specs.Meaning.{contentsLimit, FineLines}
+
+-- with n in its range it is below what numerals are told to
+pub limit-told : (paper : Paper) (n set : ℕ) → n ≤ maxQuantities → boundLimit paper n set < cap
+unfolding boundLimit
+limit-told paper n set h = omega arith
+
+-- as it is in contents that are fine
+pub fine-count : (limit : ℕ) (c : Contents) → FineLines limit c → (1 ≤ c .count) × (c .count ≤ maxQuantities)
+unfolding lineWithin
+fine-count limit c f =
+    let q = both-true (leb 1 (c .count)) (leb (c .count) maxQuantities) (f .0 .within) in
+    (leb-true 1 (c .count) (q .0), leb-true (c .count) maxQuantities (q .1))
+
+pub contents-told : (paper : Paper) (limit : ℕ) (c : Contents) → FineLines limit c → contentsLimit paper c < cap
+contents-told paper limit c f = limit-told paper (c .count) _ (fine-count limit c f .1)
+
+-- ---- as the program has it
+
+-- a number below the cap as a signed word, and the same word as an unsigned one
+abbrev pub unsigned : ℤ → ℕ
+unsigned z = natAbs (toZ w64 (ofZ w64 z))
+
+pub cap-casts : (v : ℕ) (z : ℤ) → z ≡ pos v → v < cap → T (nonNeg (toZ w64 (ofZ w64 z))) × Fits w64 (unsigned z)
+cap-casts v z e h = rw (e, word-value (cap-word v (omega arith))) (tt, omega arith)
+
+pub cap-value : (v : ℕ) (z : ℤ) → z ≡ pos v → v < cap → unsigned z ≡ v
+cap-value v z e h = rw (e, word-value (cap-word v (omega arith)))

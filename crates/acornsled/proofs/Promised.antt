@@ -26,8 +26,7 @@ use Rattle.scripts.specs.declared.reply.TextMarking.{TextMarking}
 use Rattle.scripts.specs.declared.reply.TextMarking.the-variants.{Marked}
 use Rattle.scripts.specs.declared.reply.TextMarking.the-variants.{Refused as NotMarked}
 use Rattle.scripts.specs.Replies.{textNumber, textValue, paperNumber, textPaper, TextReturned}
-use Rattle.scripts.specs.Meaning.{AcceptedPair, RefusedPair}
-use Rattle.scripts.specs.Marking.{ownLengths}
+use Rattle.scripts.specs.Meaning.{AcceptedPair, RefusedPair, ownLengths}
 use Rattle.scripts.specs.Promises.{TextsJudged, TextsShown, MarkedInOwnRoom}
 use Rattle.scripts.proofs.Judging.{returned-same}
 use Rattle.reading.specs.declared.read.Reading.{Reading}

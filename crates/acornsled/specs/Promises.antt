@@ -30,8 +30,8 @@ use Rattle.scripts.specs.declared.reply.TextMarking.{TextMarking}
 use Rattle.scripts.specs.declared.reply.TextMarking.the-variants.{Marked}
 use Rattle.scripts.specs.declared.reply.TextMarking.the-variants.{Refused as NotMarked}
 use Rattle.scripts.specs.Replies.{textNumber, textValue, textPaper, paperNumber, isTextShown}
-use Rattle.scripts.specs.Meaning.{setIn, tableIn, Reads, Readable, AcceptedPair, RefusedPair}
-use Rattle.scripts.specs.Marking.{textsReply, countIn, ownLengths}
+use Rattle.scripts.specs.Meaning.{setIn, tableIn, Reads, Readable, AcceptedPair, RefusedPair, ownLengths}
+use Rattle.scripts.specs.Marking.{textsReply, countIn}
 use Rattle.scripts.specs.Promises.{TextsJudged}
 
 -- n or the hidden set after reading: that of the text where it is accepted, else as it was

@@ -22,7 +22,7 @@ use Rattle.tables.specs.declared.reply.Reply.{Reply}
 use Rattle.tables.specs.declared.reply.Reply.the-variants.{Done, Refused}
 use Rattle.tables.specs.Tables.{cleared}
 use Rattle.tables.proofs.Tests.{clash}
-use Rattle.tables.specs.Meaning.{TableSized, Unsatisfiable, assignmentOf}
+use Rattle.tables.specs.Meaning.{TableSized, Satisfiable, Unsatisfiable, assignmentOf}
 use Rattle.tables.proofs.Sizes.{serves-sized}
 use Rattle.tables.proofs.Refusing.{tied-returned, tied-number}
 use Rattle.keys.specs.Meaning.{BoundsWithin, NumbersWithin}
@@ -30,7 +30,7 @@ use Rattle.tables.specs.Replies.{replyNumber, check}
 use Rattle.elimination.specs.Hiding.{paired, eliminated}
 use Rattle.keys.specs.Keys.{every, hideUpTo, keyOf, refuted, keyReply, assignmentReply, freesWorkspace}
 use Rattle.keys.specs.Inner.{pairUpTo, fillDown, Fits, Layered, Decided}
-use Rattle.keys.specs.Promises.{Keyed, AssignmentFound, Assigned}
+use Rattle.keys.specs.Promises.{KeyMade, Keyed, AssignmentFound, Assigned}
 use Rattle.keys.proofs.Several.{key-exact, key-visible, refuted-false}
 use Rattle.keys.proofs.Fitting.{hide-ample, key-within}
 use Rattle.keys.proofs.Copying.{SameTable, copied, same-back, same-satisfies, same-fits}
@@ -111,6 +111,16 @@ pub key-five : (n set : ℕ) (t w w' : List ℤ) → TableSized n (length t) × 
     → Keyed n set t w (Refused NoAssignment) t w'
 key-five n set t w w' p d = key-refused n set t w w' (Refused NoAssignment) NoAssignment (key-decided n set t w w' true p d) refl (d .lent)
 
+-- what the key of a table that some integers satisfy is
+pub key-made : (n set : ℕ) (t : List ℤ) → Fits n t → BoundsWithin Sheet n set t → Satisfiable n t → KeyMade n set t (keyOf (hiddenIn set) n t)
+key-made n set t f b s = record {
+  meaning = λ σ. key-exact (hiddenIn set) n t (s .assignment) (hide-ample (hiddenIn set) n t f) (s .satisfies) σ;
+  some = s;
+  steps = key-turns (hiddenIn set) n t (f .grows .room);
+  visible = key-visible (hiddenIn set) n t (f .grows .room);
+  growth = key-within (hiddenIn set) n (boundLimit Sheet n set) t (f .grows .room) b;
+}
+
 pub key-done : (n set : ℕ) (t w t' w' : List ℤ) → TableSized n (length t) × (blockStart n ≤ length w) × NumbersWithin n set t → Decided n t w false w'
     → t' ≡ keyOf (hiddenIn set) n t → Keyed n set t w Done t' w'
 key-done n set t w t' w' p d k =
@@ -125,13 +135,7 @@ key-done n set t w t' w' p d k =
       words = k;
       rest = rw k (rest-key (hiddenIn set) n t);
       lent = d .lent;
-      made = λ c. rw k (record {
-        meaning = λ σ. key-exact (hiddenIn set) n t (s .assignment) (hide-ample (hiddenIn set) n t f) (s .satisfies) σ;
-        some = s;
-        steps = key-turns (hiddenIn set) n t (f .grows .room);
-        visible = key-visible (hiddenIn set) n t (f .grows .room);
-        growth = key-within (hiddenIn set) n (boundLimit Sheet n set) t (f .grows .room) (p .2 .1);
-      });
+      made = λ c. rw k (key-made n set t f (p .2 .1) s);
     }
 
 -- ---- the assignment call

@@ -39,7 +39,9 @@ use Rattle.scripts.specs.declared.reply.Subject.the-variants.{Script, Both}
 use Rattle.scripts.specs.declared.reply.TextMarking.{TextMarking}
 use Rattle.scripts.specs.declared.reply.TextMarking.the-variants.{Marked, Refused}
 use Rattle.scripts.specs.Promises.{TextsShown}
-use Rattle.scripts.specs.Marking.{roomChecks, headersReply, firstChecks, pairChecks, pairReply, textsReply, ownLengths}
+use Rattle.scripts.specs.Marking.{roomChecks, headersReply, pairChecks, pairReply, textsReply}
+use Rattle.scripts.specs.Inner.{firstChecks}
+use Rattle.scripts.specs.Meaning.{ownLengths}
 use Rattle.reports.specs.Refusals.{refusalText}
 use Rattle.reports.specs.Reports.{tableReport, reportOf, keyReport}
 use Rattle.reports.specs.Marks.{wordText, valuesText, shownText, verdictText, refusedMarkText, markText}

@@ -33,8 +33,7 @@ use Rattle.scripts.specs.declared.reply.Subject.the-variants.{Sheet as OfSheet,
 use Rattle.scripts.specs.declared.reply.TextMarking.{TextMarking}
 use Rattle.scripts.specs.declared.reply.TextMarking.the-variants.{Marked, Refused}
 use Rattle.scripts.specs.Replies.{textNumber, textValues, textSubjects, TextReturned, isTextMarked, textCounts}
-use Rattle.scripts.specs.Meaning.{setIn, tableIn, AcceptedPair, ShortIn, RefusedPair}
-use Rattle.scripts.specs.Marking.{ownLengths}
+use Rattle.scripts.specs.Meaning.{setIn, tableIn, AcceptedPair, ShortIn, RefusedPair, ownLengths}
 use Rattle.scripts.specs.Promises.{MarkedInOwnRoom}
 use Rattle.scripts.proofs.Sheets.{Sheet, fine-sheet, key-bounds}
 use Rattle.reports.specs.Refusals.{lineOf}

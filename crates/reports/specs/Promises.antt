@@ -15,8 +15,8 @@ use Rattle.lines.specs.Spelling.{writtenRules}
 use Rattle.reading.specs.Texts.{Contents}
 use Rattle.reading.specs.Meaning.{FineLines, Spells, rulesOf, FailsFor}
 use Rattle.scripts.specs.declared.reply.TextMarking.{TextMarking}
-use Rattle.scripts.specs.Marking.{ownLengths}
 use Rattle.scripts.specs.Promises.{TextsJudged, TextsShown}
+use Rattle.scripts.specs.Meaning.{ownLengths}
 use Rattle.reports.specs.Refusals.{refusalText}
 use Rattle.reports.specs.Marks.{markText}
 use Rattle.reports.specs.Reports.{keyReport}

@@ -26,8 +26,8 @@ use Rattle.scripts.specs.declared.reply.Subject.the-variants.{Sheet, Scr
 use Rattle.scripts.specs.declared.reply.TextMarking.{TextMarking}
 use Rattle.scripts.specs.declared.reply.TextMarking.the-variants.{Marked, Refused}
 use Rattle.scripts.specs.Replies.{textNumber, textValue}
-use Rattle.scripts.specs.Meaning.{Readable, Matches, Room, ShortIn, RefusedPair}
-use Rattle.scripts.specs.Marking.{countIn, ownLengths}
+use Rattle.scripts.specs.Meaning.{Readable, Matches, Room, ShortIn, RefusedPair, ownLengths}
+use Rattle.scripts.specs.Marking.{countIn}
 use Rattle.scripts.specs.Promises.{TextsJudged, TextsMarked, MarkedInOwnRoom}
 use Rattle.scripts.proofs.Sheets.{fine-sheet}
 use Rattle.scripts.proofs.Judging.{reads-count}

@@ -43,10 +43,10 @@ use Rattle.scripts.specs.declared.room.Lengths.{Lengths}
 use Rattle.scripts.specs.declared.reply.Subject.{Subject}
 use Rattle.scripts.specs.declared.reply.Subject.the-variants.{Both}
 use Rattle.scripts.specs.declared.reply.TextMarking.the-variants.{Marked}
-use Rattle.scripts.specs.Replies.{markedTexts}
 use Rattle.scripts.specs.Meaning.{lengthsOf, setIn, tableIn, Reads, Room, AcceptedPair, RefusedPair}
-use Rattle.scripts.specs.Marking.{firstChecks, pairChecks, markedOr, pairReply, textsReply, countIn}
+use Rattle.scripts.specs.Marking.{pairChecks, markedOr, pairReply, textsReply, countIn}
 use Rattle.scripts.specs.Promises.{TextsJudged, TextsShown, TextsMarked}
+use Rattle.scripts.specs.Inner.{markedTexts, firstChecks}
 use Rattle.scripts.proofs.Sheets.{Sheet, fine-sheet}
 use Rattle.scripts.proofs.Matching.{matches-visible, visible-matches}
 use Rattle.scripts.proofs.Rooms.{FirstTell, first-tell}

@@ -35,10 +35,10 @@ use Rattle.scripts.specs.declared.pair.PairChecked.the-variants.{Refused
 use Rattle.scripts.specs.declared.reply.Subject.{Subject}
 use Rattle.scripts.specs.declared.reply.TextMarking.{TextMarking}
 use Rattle.scripts.specs.declared.reply.TextMarking.the-variants.{Refused}
-use Rattle.scripts.specs.Replies.{markedTexts}
 use Rattle.scripts.specs.Meaning.{lengthsOf, setIn, tableIn, Reads, Matches, Room, ShortIn, RefusedPair}
-use Rattle.scripts.specs.Marking.{firstChecks, passedOr, checkedPair, pairChecks, pairReply, textsReply}
+use Rattle.scripts.specs.Marking.{pairChecks, pairReply, textsReply}
 use Rattle.scripts.specs.Promises.{TextsMarked}
+use Rattle.scripts.specs.Inner.{markedTexts, firstChecks, passedOr, checkedPair}
 use Rattle.scripts.proofs.Sheets.{fine-sheet}
 use Rattle.scripts.proofs.Matching.{matches-set}
 use Rattle.scripts.proofs.Rooms.{FirstTell, first-tell}

@@ -10,7 +10,7 @@ ghost use mathlib.Core.Path.{_≡_};
 ghost use Prim.Native.Nat.{_≤_};
 ghost use Rattle.rules.specs.Limits.{maxQuantities};
 ghost use Rattle.reading.specs.Reading.{checkText, checkedOf};
-ghost use Rattle.scripts.specs.Marking.{firstChecks, checkedPair};
+ghost use Rattle.scripts.specs.Inner.{firstChecks, checkedPair};
 
 pub enum PairChecked {
     // n and the hidden set of both, and of each the number of its rules and the cursor at which their lines begin

@@ -3,7 +3,8 @@ use mathlib.Core.Path.{_≡_, sym, _∙_}
 use borrow.Author.Needs.{needs}
 use Rattle.tables.specs.declared.reply.Reply.the-variants.{Done}
 use Rattle.tables.specs.Replies.{andThen}
-use Rattle.scripts.specs.Marking.{roomChecks, firstChecks}
+use Rattle.scripts.specs.Marking.{roomChecks}
+use Rattle.scripts.specs.Inner.{firstChecks}
 use Rattle.scripts.proofs.Rooms.{same-headers, other-set, other-count}
 use Rattle.scripts.proofs.pair.check_fit.Statement.{statement}
 use Rattle.scripts.proofs.pair.check_fit.Tie as tie

@@ -4,10 +4,10 @@ use denote.Ref.{now}
 use borrow.Author.Needs.{needs}
 use Rattle.reading.specs.declared.check.Checked.the-variants.{Passed}
 use Rattle.reading.specs.Reading.{checkText, checkedOf}
-use Rattle.scripts.specs.Marking.{checkedPair}
 use Rattle.scripts.proofs.Promised.{passed-range}
 use Rattle.scripts.proofs.pair.check_pair.Statement.{statement}
 use Rattle.scripts.proofs.pair.check_pair.Tie as tie
+use Rattle.scripts.specs.Inner.{checkedPair}
 
 -- the sheet's text passed
 sheet-passed : (c : tie.After-quantities)

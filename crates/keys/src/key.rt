@@ -12,7 +12,7 @@ ghost use mathlib.Core.Bool.{cond};
 ghost use Prim.Native.Nat.{suc};
 ghost use Rattle.rules.specs.Hidden.{hiddenIn};
 ghost use Rattle.elimination.specs.Hiding.{eliminated};
-ghost use Rattle.elimination.specs.Promises.{Ready};
+ghost use Rattle.elimination.specs.Inner.{Ready};
 ghost use Rattle.keys.specs.Keys.{keyOf};
 ghost use Rattle.keys.specs.Inner.{Fits, KeyChecked};
 ghost use Rattle.keys.specs.Promises.{Keyed};

@@ -24,13 +24,13 @@ use Rattle.rules.specs.Literal.{quantityOf}
 use Rattle.rules.specs.Meaning.{boundOf, names}
 use Rattle.rules.specs.Steps.{halvedOf}
 use Rattle.tables.specs.declared.reply.Reply.the-variants.{Done}
-use Rattle.tables.specs.Places.{ruleAt, placeOf, findPlace, HasPlace}
-use Rattle.tables.specs.Tables.{hasRule, emptyTable, ruleReply, putAt, putHalved, putRule, putAll, AllAccepted, tableOf}
+use Rattle.tables.specs.Places.{ruleAt, findPlace, HasPlace}
+use Rattle.tables.specs.Tables.{hasRule, emptyTable, ruleReply, putAt, putHalved, putRule, putAll, tableOf}
 use Rattle.tables.specs.Meaning.{HoldsRule, NoneNames, NamesVisible}
 use Rattle.tables.proofs.Tests.{clash, both-true}
-use Rattle.tables.proofs.Places.{hasPlace-below, found-two, names-bound, place-names}
+use Rattle.tables.proofs.Places.{placeOf, hasPlace-below, found-two, names-bound, place-names}
 use Rattle.tables.proofs.Putting.{different-quantities, one-accepted, two-accepted}
-use Rattle.tables.proofs.Lists.{put-length}
+use Rattle.tables.proofs.Lists.{AllAccepted, put-length}
 use Rattle.lines.specs.Spelling.{writtenRules}
 use Rattle.reading.specs.Texts.{Contents}
 use Rattle.reading.specs.Meaning.{FineLines, contentsLimit}

@@ -20,7 +20,7 @@ use Rattle.lines.specs.Spelling.{lineWithin}
 use Rattle.lines.proofs.SetMembers.{list-members}
 use Rattle.reading.specs.declared.read.Reading.the-variants.{Accepted, Refused}
 use Rattle.reading.specs.Texts.{Contents}
-use Rattle.reading.specs.Meaning.{Reads, Readable, FailsFor, roomFor, RefusedFor, AcceptedAs}
+use Rattle.reading.specs.Meaning.{Reads, FailsFor, roomFor, RefusedFor, AcceptedAs}
 use Rattle.reading.specs.Reading.{checkText, replyTo, readReply}
 use Rattle.reading.proofs.Means.{text-means, reads-check}
 

@@ -61,7 +61,8 @@ module _ (paper : Paper) where
     outside-answer =
         let g = going paper o l due in
         let p = value-of (g .kind) l (due ∙ g .line .due) in
-        subst (λ (x : Line). WellFormed x → lineWithin (countOf o) (limitAt paper o) x ≡ false → goOn paper o (lineText x ++ v) ≡ refused (OutOfLimit (lineOf o)))
+        subst (λ (x : Line). WellFormed x → lineWithin (countOf o) (limitAt paper o) x ≡ false
+        → goOn paper o (lineText x ++ v) ≡ refused (OutOfLimit (lineOf o)))
         (p .1) (λ f e. spelled (g .line) (p .0) v false _ f e refl)
 
     cancels-answer : WellFormed l → lineWithin (countOf o) (limitAt paper o) l ≡ true → lineCancels l ≡ true

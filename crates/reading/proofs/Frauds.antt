@@ -258,8 +258,8 @@ module _ (t t' : List ℤ) (n set : ℕ) (p : ReadInto textA t (Accepted n set) 
   unfolding blockStart
   enough =
       let a = p .accepted n set .0 refl in
-      let e : n ≡ 3 = a .counts ∙ ap (λ (c : Contents). c .count) (reads-same Sheet textA (a .contents) contentsA (a .reads) (sheetA-reads Sheet)) in
-      subst (λ (k : ℕ). blockStart k ≤ length t) e (a .enough)
+      let e = reads-same Sheet textA (a .contents) contentsA (a .reads) (sheetA-reads Sheet) in
+      subst (λ (c : Contents). blockStart (c .count) ≤ length t) e (a .enough)
 
   -- the table where A is accepted
   held : t' ≡ tableA ++ drop 18 t

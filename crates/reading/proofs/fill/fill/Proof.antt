@@ -24,9 +24,9 @@ abbrev μ-loop : tie.MeasureT-loop
 μ-loop s n hidden count body table₀ limit at₀ i₀ table at i = count - i
 
 -- what the text has, since it passed
-opened : (c : tie.Start Inv-loop μ-loop)
-    → Opened (boundLimit (c .args .paper) (c .args .n) (c .args .hidden)) (now (c .args .s)) (c .args .n) (c .args .count) (c .args .body) (c .pre .0 .contents .written)
-opened c = passed-opened (c .args .paper) (now (c .args .s)) (c .args .n) (c .args .hidden) (c .args .count) (c .args .body) (c .pre .0)
+opened : (c : tie.Start Inv-loop μ-loop) → let a = c .args in
+    Opened (boundLimit (a .paper) (a .n) (a .hidden)) (now (a .s)) (a .n) (a .count) (a .body) (c .pre .0 .contents .written)
+opened c = let a = c .args in passed-opened (a .paper) (now (a .s)) (a .n) (a .hidden) (a .count) (a .body) (c .pre .0)
 
 -- the limit that the loop has
 limit-is : (c : tie.After-bound-limit Inv-loop μ-loop) → let a = c .before .before .args in

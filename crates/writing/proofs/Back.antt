@@ -2,11 +2,11 @@
 -- words. Assumes nothing.
 use mathlib.Core.Path.{_≡_, refl}
 use mathlib.Core.Bool.{Bool, true, false, cond}
-use mathlib.Core.List.{List, [], _∷_, _++_}
+use mathlib.Core.List.{List, [], _∷_}
 use Prim.Native.Nat.{ℕ, suc, _+_, _*_, _^_, _≤_, _<_}
 use native.Mathlib.Omega.{arith}
 use lib.IntN.{ℤ, pos, negsuc, natAbs}
-use lib.ListN.{length, take, drop, length-take}
+use lib.ListN.{length, take, length-take}
 use lib.Signed.{mag}
 use borrow.Author.Tests.{le-leb, le-ltb, ne-eqb}
 use Rattle.integers.specs.Bound.{Within}
@@ -17,14 +17,14 @@ use Rattle.places.specs.Numbering.{blockStart}
 use Rattle.rules.specs.declared.rule.Rule.{Rule}
 use Rattle.rules.specs.declared.rule.Rule.the-variants.{One, Two, Nothing}
 use Rattle.rules.specs.Hidden.{setWithin}
-use Rattle.rules.specs.Limits.{maxQuantities, maxBound, maxRules}
+use Rattle.rules.specs.declared.paper.Paper.the-variants.{Sheet}
+use Rattle.rules.specs.Limits.{boundLimit, maxQuantities, maxBound, maxRules}
 use Rattle.rules.specs.Literal.{quantityOf}
 use Rattle.rules.specs.Meaning.{boundOf}
 use Rattle.tables.specs.Places.{ruleAt, HasPlace}
 use Rattle.tables.specs.Tables.{hasRule}
 use Rattle.tables.specs.Meaning.{WordsWithin}
 use Rattle.tables.proofs.Places.{ruleAt-bound, ruleAt-hasPlace}
-use Rattle.tables.proofs.Sizes.{small-start}
 use Rattle.lines.specs.Spelling.{Written, rule, quantityWithin, lineWithin, cancelling}
 use Rattle.lines.specs.Lines.{accepted}
 use Rattle.reading.specs.declared.read.Reading.the-variants.{Accepted}
@@ -33,9 +33,10 @@ use Rattle.reading.specs.Meaning.{ruled, linesOf, Fine, AllFine, Spells, Means}
 use Rattle.reading.proofs.Means.{text-means}
 use Rattle.reading.specs.Reading.{checkText, replyTo, readReply, filled, readTable}
 use Rattle.writing.specs.Writing.{writtenOf, rulesAt, tableRules, hiddenList, contentsOf, writtenText}
+use Rattle.writing.specs.Promises.{ReadBack}
 use Rattle.writing.proofs.Meanings.{front-word, Clean, table-back, AreWords}
 use Rattle.writing.proofs.Members.{hidden-increasing, hidden-within, hidden-back}
-use Rattle.writing.proofs.Lengths.{rules-count, longest-sheet}
+use Rattle.writing.proofs.Lengths.{rules-most, longest-sheet}
 
 -- ---- rules
 
@@ -78,6 +79,11 @@ unfolding positivePart negativePart
 bound-magnitude limit (pos v) h = omega (arith, within-to h)
 bound-magnitude limit (negsuc v) h = omega (arith, within-to h)
 
+-- the reader's limit is the sheet's, whatever n and the hidden set
+pub sheet-limit : (n set : ℕ) → boundLimit Sheet n set ≡ maxBound
+unfolding boundLimit
+sheet-limit n set = refl
+
 -- a word of 64 bits is at most 2 ^ 63
 word-magnitude : (c : ℤ) → mag c < 2 ^ 63 → natAbs c ≤ 2 ^ 63
 word-magnitude (pos v) h = omega arith
@@ -100,7 +106,7 @@ module _ (n set : ℕ) (t : List ℤ) (some : 1 ≤ n) (most : n ≤ maxQuantiti
   )
     where
       few : length (tableRules n t) ≤ maxRules
-      few = omega (arith, rules-count 0 (take (blockStart n) t), length-take (blockStart n) t, small-start n most)
+      few = rules-most n t most
 
   -- every line is fine, in a limit that the words that hold a rule are in
   written-spells : (limit : ℕ) → BoundsWithin (blockStart n) limit t → Spells limit (writtenText n set t) (contentsOf n set t)
@@ -124,21 +130,15 @@ module _ (n set : ℕ) (t : List ℤ) (some : 1 ≤ n) (most : n ≤ maxQuantiti
   pub spells-within : (limit : ℕ) → WordsWithin (blockStart n) (pos limit) t → Spells limit (writtenText n set t) (contentsOf n set t)
   spells-within limit words = written-spells limit (λ k b c e. bound-magnitude limit (wordAt t k) (words .each k b c e))
 
-  -- of words in the sheet's
-  pub spells-sheet : WordsWithin (blockStart n) (pos maxBound) t → Spells maxBound (writtenText n set t) (contentsOf n set t)
-  spells-sheet words = spells-within maxBound words
-
-  -- such a text means its contents
-  pub written-means : WordsWithin (blockStart n) (pos maxBound) t → Means (writtenText n set t) (accepted (contentsOf n set t) [])
-  written-means words = (omega (arith, longest-sheet n set t most words), spells-sheet words, refl)
+  -- of words in the sheet's limit; such a text means its contents
+  pub written-means : WordsWithin (blockStart n) (pos (boundLimit Sheet n set)) t → Means (writtenText n set t) (accepted (contentsOf n set t) [])
+  written-means words = let w = rw (sheet-limit n set) at words in (longest-sheet n set t most w, spells-within maxBound w, refl)
 
   -- read into any table that is long enough, it gives n, the hidden set and the table's words back
-  pub written-back : WordsWithin (blockStart n) (pos maxBound) t → setWithin n set ≡ true → blockStart n ≤ length t → Clean (blockStart n) t
-      → (u : List ℤ) → blockStart n ≤ length u
-      → (readReply (writtenText n set t) (length u) ≡ Accepted n set)
-      × (readTable (writtenText n set t) u ≡ take (blockStart n) t ++ drop (blockStart n) u)
+  pub written-back : WordsWithin (blockStart n) (pos (boundLimit Sheet n set)) t → setWithin n set ≡ true → blockStart n ≤ length t
+      → Clean (blockStart n) t → (u : List ℤ) → blockStart n ≤ length u → ReadBack n set t (writtenText n set t) u
   unfolding readReply replyTo readTable filled
-  written-back words within room clean u enough = (reply, rw (reply, checked, table-back n t room clean))
+  written-back words within room clean u enough = record { reply = reply; words = rw (reply, checked, table-back n t room clean) }
     where
       checked : checkText (writtenText n set t) ≡ accepted (contentsOf n set t) []
       checked = text-means (writtenText n set t) (accepted (contentsOf n set t) []) .1 (written-means words)

@@ -8,7 +8,8 @@ ghost use lib.ListN.{length};
 ghost use Rattle.numerals.specs.Writing.{Spliced};
 ghost use Rattle.rules.specs.Limits.{maxQuantities, maxRules};
 ghost use Rattle.lines.specs.Spelling.{listText};
-ghost use Rattle.writing.specs.Writing.{hiddenList, memberText, headText};
+ghost use Rattle.writing.specs.Writing.{hiddenList};
+ghost use Rattle.writing.specs.Inner.{memberText, headText};
 
 // How many bytes quantity `j + 1` takes in the list, where the list of the quantities before it takes so many.
 fn member_width(set: u32, j: usize, before: usize) -> usize

@@ -13,8 +13,9 @@ ghost use lib.ListN.{length, take};
 ghost use Rattle.places.specs.Numbering.{blockStart};
 ghost use Rattle.numerals.specs.Writing.{Spliced};
 ghost use Rattle.rules.specs.Limits.{maxQuantities};
-ghost use Rattle.writing.specs.Writing.{placeText, rulesText, Measured, MeasuredMore, writingNumber, writingValue};
-ghost use Rattle.writing.specs.Promises.{TextWritten};
+ghost use Rattle.writing.specs.Writing.{writingNumber, writingValue};
+ghost use Rattle.writing.specs.Promises.{maxLine, TextWritten};
+ghost use Rattle.writing.specs.Inner.{placeText, rulesText, Measured, MeasuredMore};
 
 pub enum Writing {
     // how many bytes were written
@@ -51,9 +52,9 @@ struct Measure {
 }
 
 impl Measure {
-    // With the word of one place more; the line of a place's rule has at most 33 bytes.
+    // With the word of one place more; the line of a place's rule has at most `maxLine` bytes.
     fn with(self, k: u32, w: i64) -> Measure
-        requires { ⌜ (k < blockStart maxQuantities) × (self .rules ≤ k) × (self .bytes ≤ 33 * k) ⌝ }
+        requires { ⌜ (k < blockStart maxQuantities) × (self .rules ≤ k) × (self .bytes ≤ maxLine * k) ⌝ }
         ensures { λ r. ⌜ MeasuredMore k w self r ⌝ }
     {
         if w < Sheet::NO_RULE {

@@ -1,9 +1,10 @@
 -- Frauds of writers: for a named table each breaks what writing promises, by its reply and its bytes alone. `keyA-text` and `smallest-written` are texts
--- written. Assumes nothing.
+-- written, and `keyA-back` is what reading one again gives. Assumes nothing.
 use mathlib.Core.Path.{_≡_, refl, sym, _∙_, ap}
 use mathlib.Core.Bool.{false}
+use mathlib.Core.Logic.{inl, inr}
 use mathlib.Core.List.{List, [], _∷_, _++_, append-nil}
-use Prim.Native.Nat.{ℕ, _≤_}
+use Prim.Native.Nat.{ℕ, _≤_, _<_}
 use native.Mathlib.Omega.{arith}
 use lib.Dec.{eqb}
 use lib.IntN.{ℤ, pos, negsuc}
@@ -12,9 +13,12 @@ use lib.Seq.{drop-length}
 use borrow.Author.Tests.{eqb-false}
 use Rattle.places.specs.Numbering.{blockStart, blockUpTo, blockOf, offsetOf, isOne, higherAt, lowerAt}
 use Rattle.rules.specs.declared.refusal.Refusal.{Refusal}
+use Rattle.rules.specs.declared.refusal.Refusal.the-variants.{TooShort}
+use Rattle.rules.specs.Refusal.{refusedAs}
 use Rattle.rules.specs.Limits.{boundLimit, maxBound, noRule}
 use Rattle.tables.specs.Places.{ruleAt}
 use Rattle.tables.specs.Tables.{tableSize, serves, inLimit, wordsInLimit}
+use Rattle.tables.specs.Meaning.{TableSized}
 use Rattle.tables.proofs.Limits.{wordsInLimit-within}
 use Rattle.numerals.specs.Bytes.{bytes}
 use Rattle.numerals.specs.Decimal.{decimalUpTo, signedDecimal}
@@ -24,8 +28,9 @@ use Rattle.reading.specs.declared.read.Reading.the-variants.{Accepted}
 use Rattle.reading.specs.Reading.{readReply, readTable}
 use Rattle.reading.specs.Texts.{Contents, linesText, headerText, sheetText}
 use Rattle.reading.proofs.Frauds.{spelling}
+use Rattle.writing.specs.declared.write.Writing.{Writing}
 use Rattle.writing.specs.declared.write.Writing.the-variants.{Text, Refused}
-use Rattle.writing.specs.Writing.{writtenOf, rulesAt, hiddenFrom, writtenText, writingNumber}
+use Rattle.writing.specs.Writing.{writtenOf, rulesAt, hiddenFrom, writtenText, writingReturned, writingNumber}
 use Rattle.writing.specs.Promises.{TextWritten}
 use Rattle.writing.proofs.Promised.{reply-text, refused-text, number-output, text-tells, refused-kept}
 
@@ -129,6 +134,14 @@ module _ (out : List ℕ) (m : ℕ) (out' : List ℕ) (w : TextWritten 3 2 keyA 
 pub refuses-all : (out : List ℕ) (f : Refusal) (out' : List ℕ) → 52 ≤ length out → TextWritten 3 2 keyA out (Refused f) out' → ⊥
 unfolding writing spelling
 refuses-all out f out' h w = refused-text (w .reply ∙ sym (reply-text 3 2 keyA (length out) 52 refl refl refl h))
+
+-- another refusal where the output is too short
+pub short-told : (out : List ℕ) (r : Writing) (out' : List ℕ) → length out < 52 → TextWritten 3 2 keyA out r out'
+    → writingReturned r ≡ refusedAs (TooShort 52)
+unfolding writing spelling
+short-told out r out' h w =
+    let sized : TableSized 3 18 = record { some = omega arith; most = omega arith; room = omega arith } in
+    w .refused (TooShort 52) .1 (inr (sized, inr (refl, inl (λ l. omega arith, refl))))
 
 -- a refusal that has already changed the output, whatever the table
 pub refusal-changed : (n set : ℕ) (t : List ℤ) (out : List ℕ) (f : Refusal) (out' : List ℕ) → (out' ≡ out → ⊥)

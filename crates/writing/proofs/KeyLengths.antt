@@ -2,7 +2,7 @@
 use mathlib.Core.Path.{_≡_, refl}
 use mathlib.Core.Bool.{Bool, true, false}
 use mathlib.Core.List.{List}
-use Prim.Native.Nat.{ℕ, suc, _*_, _^_, _≤_, _<_}
+use Prim.Native.Nat.{ℕ, _*_, _^_, _≤_, _<_}
 use native.Mathlib.Nat.{mul-le-mul-left}
 use native.Mathlib.Omega.{arith}
 use lib.Dec.{eqb}
@@ -63,8 +63,8 @@ key-rules n set t h room key some =
     )
 
 -- so its text may be read
-pub key-length : (n set : ℕ) (t : List ℤ) → n ≤ maxQuantities → blockStart n ≤ length t → KeyLike n set t → length (writtenText n set t) ≤ maxText
-key-length n set t h room key = go (eqb (hiddenCount (hiddenIn set) n) 0) refl
+pub key-short : (n set : ℕ) (t : List ℤ) → n ≤ maxQuantities → blockStart n ≤ length t → KeyLike n set t → length (writtenText n set t) ≤ maxText
+key-short n set t h room key = go (eqb (hiddenCount (hiddenIn set) n) 0) refl
   where
     go : (b : Bool) → eqb (hiddenCount (hiddenIn set) n) 0 ≡ b → length (writtenText n set t) ≤ maxText
     go true e = longest-sheet n set t h (rw (eqb-true (hiddenCount (hiddenIn set) n) 0 e, sheet-limit n set) at (key .growth))

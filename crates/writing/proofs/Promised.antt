@@ -1,10 +1,9 @@
 -- The reply of writing by its tests, and what is promised from it. Assumes nothing.
 use mathlib.Core.Path.{_≡_, refl, sym, _∙_, ap}
-use mathlib.Core.Bool.{Bool, true, false, cond}
+use mathlib.Core.Bool.{Bool, true, cond}
 use mathlib.Core.Logic.{_↔_, ⊎-elim}
 use mathlib.Core.List.{List, _++_}
 use Prim.Native.Nat.{ℕ, _≤_, _<_}
-use native.Mathlib.Omega.{arith}
 use lib.Dec.{leb}
 use lib.IntN.{ℤ}
 use lib.ListN.{length, take, drop}
@@ -34,7 +33,7 @@ use Rattle.writing.specs.Writing.{writtenText, writeChecks, textOr, writ
 use Rattle.writing.specs.Promises.{writeNeeds, KeyLike, TextMade, TextWritten}
 use Rattle.writing.proofs.Meanings.{AreWords, words-clean, table-meaning}
 use Rattle.writing.proofs.Lengths.{longest-any}
-use Rattle.writing.proofs.KeyLengths.{key-length}
+use Rattle.writing.proofs.KeyLengths.{key-short}
 use Rattle.writing.proofs.Back.{spells-words, written-back}
 use Rattle.writing.proofs.Past.{written-past}
 use Rattle.writing.proofs.Numbers.{text-number, text-returned}
@@ -144,7 +143,7 @@ text-made n set t s w words = record {
 }
   where
     short : KeyLike n set t → length (writtenText n set t) ≤ maxText
-    short = key-length n set t (s .most) (s .room)
+    short = key-short n set t (s .most) (s .room)
 
 -- ---- what is promised
 

@@ -1,5 +1,5 @@
 -- The text of a table and a hidden set (document 01, 'Text'): the lower quantity first, rules in place order, absent places skipped, N being their count.
-use mathlib.Core.Bool.{Bool, true, false, cond}
+use mathlib.Core.Bool.{Bool, false, cond}
 use mathlib.Core.List.{List, [], _∷_, _++_}
 use Prim.Native.Nat.{ℕ, zero, suc, _%_}
 use lib.Dec.{leb, eqb}

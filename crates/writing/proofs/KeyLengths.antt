@@ -24,9 +24,8 @@ use Rattle.numerals.specs.Decimal.{signedDecimal}
 use Rattle.numerals.proofs.Decimals.{signed-width}
 use Rattle.writing.specs.Writing.{tableRules, writtenText}
 use Rattle.writing.specs.Promises.{KeyLike}
-use Rattle.writing.proofs.Back.{sheet-limit}
 use Rattle.writing.proofs.Counts.{count-most, visibleCount, rules-visible}
-use Rattle.writing.proofs.Lengths.{NumeralsWithin, longest-counted, longest-sheet}
+use Rattle.writing.proofs.Lengths.{NumeralsWithin, longest-counted, sheet-limit, longest-sheet}
 use Rattle.writing.proofs.Lines.{wordWidth}
 
 -- the largest bound that all quantities hidden would leave is still short

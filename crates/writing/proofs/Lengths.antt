@@ -13,7 +13,8 @@ use Rattle.integers.proofs.Parts.{positivePart, negativePart}
 use Rattle.words.specs.Change.{wordAt}
 use Rattle.places.specs.Numbering.{blockStart}
 use Rattle.rules.specs.Hidden.{hiddenIn}
-use Rattle.rules.specs.Limits.{maxQuantities, maxBound, maxRules, maxText}
+use Rattle.rules.specs.declared.paper.Paper.the-variants.{Sheet}
+use Rattle.rules.specs.Limits.{boundLimit, maxQuantities, maxBound, maxRules, maxText}
 use Rattle.tables.specs.Places.{ruleAt}
 use Rattle.tables.specs.Tables.{hasRule}
 use Rattle.tables.specs.Meaning.{WordsWithin}
@@ -159,7 +160,12 @@ longest n set t k h f = longest-counted n set t k maxRules h f (rules-most n t h
 pub longest-any : (n set : ℕ) (t : List ℤ) → n ≤ maxQuantities → AreWords (blockStart n) t → length (writtenText n set t) ≤ maxWritten
 longest-any n set t h f = longest n set t wordWidth h (λ j b c e. word-short (wordAt t j) (record { sfits = f j b }))
 
--- a bound of a sheet has at most 11 bytes
+-- the limit of a sheet's bounds is one number, whatever n and the hidden set
+pub sheet-limit : (n set : ℕ) → boundLimit Sheet n set ≡ maxBound
+unfolding boundLimit
+sheet-limit n set = refl
+
+-- a bound in it has at most 11 bytes
 bound-length : (w : ℤ) → Within (pos maxBound) w → length (signedDecimal w) ≤ 11
 unfolding positivePart negativePart
 bound-length (pos v) h = signed-width 9 (pos v) (omega (arith, within-to h))

@@ -20,6 +20,7 @@ use Rattle.rules.specs.declared.rule.Rule.{Rule}
 use Rattle.rules.specs.declared.rule.Rule.the-variants.{One, Two, Nothing}
 use Rattle.rules.specs.declared.refusal.Refusal.the-variants.{OutOfLimit}
 use Rattle.rules.specs.declared.paper.Paper.the-variants.{Sheet}
+use Rattle.rules.specs.Hidden.{setWithin}
 use Rattle.rules.specs.Limits.{boundLimit, maxQuantities, maxText}
 use Rattle.rules.specs.Meaning.{boundOf}
 use Rattle.tables.specs.Places.{ruleAt, HasPlace}
@@ -32,7 +33,7 @@ use Rattle.lines.specs.Spelling.{Written, rule, lineWithin}
 use Rattle.lines.specs.Lines.{refused}
 use Rattle.reading.specs.declared.read.Reading.the-variants.{Refused}
 use Rattle.reading.specs.Texts.{ruleLines, linesText}
-use Rattle.reading.specs.Meaning.{Opening, ruled, linesOf, OutsideAt}
+use Rattle.reading.specs.Meaning.{Opening, ruled, linesOf, OutsideAt, outside-at}
 use Rattle.reading.specs.Reading.{readReply, readingReturned}
 use Rattle.reading.proofs.Ending.{sheet-lines}
 use Rattle.reading.proofs.Means.{text-means}
@@ -41,7 +42,8 @@ use Rattle.reading.proofs.Promised.{reading-kept}
 use Rattle.writing.specs.Writing.{writtenOf, rulesAt, tableRules, hiddenList, contentsOf, writtenText}
 use Rattle.writing.specs.Promises.{PastLimit, FirstPast, lineAt, RefusedPast}
 use Rattle.writing.proofs.Meanings.{front-word}
-use Rattle.writing.proofs.Back.{literal-within, rules-fine, BoundsWithin, bound-magnitude, sheet-limit, opening-fine}
+use Rattle.writing.proofs.Back.{literal-within, rules-fine, BoundsWithin, bound-magnitude, opening-fine}
+use Rattle.writing.proofs.Members.{hidden-back}
 use Rattle.writing.proofs.Texts.{rules-append, lines-append}
 
 -- ---- a bound outside a limit
@@ -132,8 +134,8 @@ lines-count : (rs : List Written) → length (ruleLines rs) ≡ length rs
 lines-count [] = refl
 lines-count (r ∷ rs) = ap suc (lines-count rs)
 
--- n in its range, a set, and a table whose first place past the sheet's limit is k
-module _ (n set : ℕ) (t : List ℤ) (some : 1 ≤ n) (most : n ≤ maxQuantities) (k : ℕ) (f : FirstPast n set t k) where
+-- n and a set in their ranges, and a table whose first place past the sheet's limit is k
+module _ (n set : ℕ) (t : List ℤ) (some : 1 ≤ n) (most : n ≤ maxQuantities) (within : setWithin n set ≡ true) (k : ℕ) (f : FirstPast n set t k) where
   abbrev limit : ℕ
   limit = boundLimit Sheet n set
 
@@ -165,7 +167,7 @@ module _ (n set : ℕ) (t : List ℤ) (some : 1 ≤ n) (most : n ≤ maxQuantiti
   opening = ruled n (hiddenList n set) (length (tableRules n t)) before
 
   -- its line is where the reader stops
-  written-outside : OutsideAt limit (writtenText n set t) (lineAt t k)
+  written-outside : OutsideAt Sheet (writtenText n set t) (lineAt t k)
   unfolding writtenText linesText
   written-outside = record {
     opening = opening;
@@ -175,13 +177,14 @@ module _ (n set : ℕ) (t : List ℤ) (some : 1 ≤ n) (most : n ≤ maxQuantiti
       text = sheet-lines (contentsOf n set t)
           ∙ ap (λ (rs : List Written). linesText (linesOf (ruled n (hiddenList n set) (length (tableRules n t)) rs))) table-apart
           ∙ lines-more n (hiddenList n set) (length (tableRules n t)) before (here ∷ after);
-      fine = opening-fine n set t some most limit before (rules-fine n limit 0 (take k t) short inside);
+      fine = rw (hidden-back n set within) (opening-fine n set t some most limit before (rules-fine n limit 0 (take k t) short inside));
       most = omega (arith, count);
       number = omega (arith, lines-count before);
     };
     due = rw (lt-ltb (length before) (length (tableRules n t)) (omega (arith, count)));
     formed = tt;
-    outside = rule-outside n limit (ruleAt k (wordAt t k)) (ruleAt-hasPlace n k (wordAt t k) (f .past .holds .inside)) large;
+    outside = rw (hidden-back n set within)
+        (rule-outside n limit (ruleAt k (wordAt t k)) (ruleAt-hasPlace n k (wordAt t k) (f .past .holds .inside)) large);
   }
     where
       short : 0 + length (take k t) ≤ blockStart n
@@ -209,9 +212,10 @@ module _ (n set : ℕ) (t : List ℤ) (some : 1 ≤ n) (most : n ≤ maxQuantiti
     where
       reply : readReply (writtenText n set t) (length u) ≡ Refused (OutOfLimit (lineAt t k))
       reply = reply-refused (writtenText n set t) (length u) (OutOfLimit (lineAt t k))
-          (text-means (writtenText n set t) (refused (OutOfLimit (lineAt t k))) .1 (small, rw (sheet-limit n set) at written-outside))
+          (text-means Sheet (writtenText n set t) (refused (OutOfLimit (lineAt t k))) .1 (inr (small, outside-at (lineAt t k) written-outside refl)))
 
 -- a text with a bound outside the sheet's limit is refused with 3, at the line of the first
-pub written-past : (n set : ℕ) (t : List ℤ) → 1 ≤ n → n ≤ maxQuantities → length (writtenText n set t) ≤ maxText
+pub written-past : (n set : ℕ) (t : List ℤ) → 1 ≤ n → n ≤ maxQuantities → setWithin n set ≡ true → length (writtenText n set t) ≤ maxText
     → (k : ℕ) → PastLimit n set t k → (u : List ℤ) → RefusedPast n set t (writtenText n set t) u
-written-past n set t some most small k p = let f = first-past n set t k p in refused-past n set t some most (f .0) (f .1) small
+written-past n set t some most within small k p =
+    let f = first-past n set t k p in refused-past n set t some most within (f .0) (f .1) small

@@ -138,8 +138,8 @@ text-made n set t s w words = record {
   meaning = table-meaning n t (s .room);
   longest = longest-any n set t (s .most) words;
   key-short = short;
-  back = λ b. written-back n set t (s .some) (s .most) b w (s .room) (words-clean (blockStart n) t words);
-  past = λ l. written-past n set t (s .some) (s .most) (⊎-elim (λ m. m) short l);
+  back = λ b. written-back n set t (s .some) (s .most) w b (s .room) (words-clean (blockStart n) t words);
+  past = λ l. written-past n set t (s .some) (s .most) w (⊎-elim (λ m. m) short l);
 }
   where
     short : KeyLike n set t → length (writtenText n set t) ≤ maxText

@@ -5,7 +5,7 @@ use mathlib.Core.Bool.{Bool, true, false, not, _&&_, and-false}
 use mathlib.Core.Logic.{_↔_}
 use mathlib.Core.List.{List}
 use Prim.Native.Nat.{ℕ, _≤_, _<_}
-use lib.Dec.{eqb}
+use lib.Dec.{leb, eqb}
 use borrow.Author.Tests.{le-leb, lt-leb, eqb-true, eq-eqb, ne-eqb}
 use Rattle.places.specs.Numbering.{blockStart}
 use Rattle.rules.specs.declared.paper.Paper.the-variants.{Sheet, Script}
@@ -54,9 +54,23 @@ module _ (n : ℕ) (lent : Lengths) where
       tied-more _ _ _ _ _ (length-test (workspaceSize n) (lent .workspace)) (λ c.
       tied-more _ _ _ _ _ (length-test n (lent .values)) (λ d. t))))
 
+  -- the last of the checks, the last two and the last three
+  abbrev valuesCheck : Reply → Reply
+  valuesCheck next = check (leb n (lent .values)) (TooShort n) next
+
+  abbrev workspaceCheck : Reply → Reply
+  workspaceCheck next = check (leb (workspaceSize n) (lent .workspace)) (TooShort (workspaceSize n)) (valuesCheck next)
+
+  abbrev scriptCheck : Reply → Reply
+  scriptCheck next = check (leb (blockStart n) (lent .script)) (TooShort (blockStart n)) (workspaceCheck next)
+
   room-before : Before (roomChecks n lent)
   unfolding roomChecks
-  room-before = before-more _ _ _ (before-more _ _ _ (before-more _ _ _ (before-more _ _ _ before-none)))
+  room-before =
+      before-more (leb (blockStart n) (lent .sheet)) (TooShort (blockStart n)) scriptCheck
+      (before-more (leb (blockStart n) (lent .script)) (TooShort (blockStart n)) workspaceCheck
+      (before-more (leb (workspaceSize n) (lent .workspace)) (TooShort (workspaceSize n)) valuesCheck
+      (before-more (leb n (lent .values)) (TooShort n) (λ next. next) before-none)))
 
   -- ---- each answer of the program
 
@@ -85,9 +99,9 @@ module _ (n : ℕ) (lent : Lengths) where
         lt-leb n (lent .values) h,
       )
 
-  pub room-done : Room n lent → (next : Reply) → roomChecks n lent next ≡ next
+  pub room-roomy : Room n lent → Done ≡ roomChecks n lent Done
   unfolding roomChecks
-  room-done r next =
+  room-roomy r =
       rw (
         le-leb (blockStart n) (lent .sheet) (r .sheet-room),
         le-leb (blockStart n) (lent .script) (r .script-room),

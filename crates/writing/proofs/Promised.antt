@@ -82,13 +82,13 @@ pub reply-refused : (n set : ℕ) (t : List ℤ) (room : ℕ) (f : Refusal)
 unfolding writeReply
 reply-refused n set t room f =
     let text = text-returned (writeChecks n set t room) (length (writtenText n set t)) f in
-    let tied = tied-returned _ _ (checks-tied n set t room) f in
+    let tied = tied-returned _ _ _ refl (checks-tied n set t room) f in
     (λ e. tied .0 (text .0 e), λ z. text .1 (tied .1 z))
 
 pub reply-accepted : (n set : ℕ) (t : List ℤ) (room : ℕ) → (writingNumber (writeReply n set t room) ≡ 0) ↔ AllMet (writeNeeds n set t room)
 unfolding writeReply
 reply-accepted n set t room =
-    rw (text-number (writeChecks n set t room) (length (writtenText n set t))) (tied-number _ _ (checks-tied n set t room))
+    rw (text-number (writeChecks n set t room) (length (writtenText n set t))) (tied-number _ _ _ refl (checks-tied n set t room))
 
 -- ---- a reply that is no refusal
 

@@ -1,9 +1,7 @@
--- Two of document 01's sheets as tables, against which frauds are held, with their replies and keys, computed by the definitions that the contracts cite.
--- (All starred cases are computed in the crate `reports`, as texts.)
--- Assumes nothing.
-use mathlib.Core.Path.{_≡_, refl}
+-- Two of document 01's sheets as tables, against which frauds are held, with their keys and replies by the definitions that the contracts cite.
+-- (All starred cases are computed in the crate `reports`, as texts.) Assumes nothing.
 use mathlib.Core.List.{List, [], _∷_}
-use Prim.Native.Nat.{ℕ, zero, suc}
+use Prim.Native.Nat.{ℕ}
 use lib.IntN.{ℤ, pos, negsuc}
 use Rattle.integers.specs.Bound.{half, smaller}
 use Rattle.words.specs.Change.{changeFrom, change, lowered}
@@ -19,14 +17,11 @@ use Rattle.tables.specs.Replies.{replyNumber}
 use Rattle.elimination.specs.Hiding.{withSum, withHalf, bareBelow, pairWord, onOne, onTwo, lowestAt, pairing, anyBare, paired, contradicts, eliminated}
 use Rattle.keys.specs.Keys.{hideUpTo, keyOf, refutedUpTo, refuted, keyReply}
 
--- a sheet of n quantities with its hidden set, bit q - 1 for quantity q, and its rules as written; document 01's number of the reply, 0 where the
--- key is made; and the key's rules as written, none where the call is refused
+-- a sheet of n quantities with its hidden set, bit q - 1 for quantity q, and its rules as written
 pub record Case : Type 0 where
   pub n : ℕ
   pub set : ℕ
   pub rules : List Rule
-  pub reply : ℕ
-  pub key : List Rule
 
 -- the sheet's table, and its key
 abbrev pub sheetTable : Case → List ℤ
@@ -39,23 +34,12 @@ keyTable c = keyOf (hiddenIn (c .set)) (c .n) (sheetTable c)
 abbrev pub replyTo : Case → ℕ
 replyTo c = replyNumber (keyReply (c .n) (c .set) (sheetTable c) (blockStart (c .n)))
 
--- asked only where the reply is 0
-abbrev pub WhereDone : ℕ → Type 0 → Type 0
-WhereDone zero X = X
-WhereDone (suc r) X = Unit {0}
-
--- the reply has its number, and where that is 0 the key is the table of the key's rules
-abbrev pub Passes : Case → Type 0
-Passes c = (replyTo c ≡ c .reply) × WhereDone (c .reply) (keyTable c ≡ tableOf (c .n) (c .key))
-
 -- sheet A: hidden 2, +1+2:5, +1-2:2, +3-2:0 give +1:3, +1+3:5
 abbrev pub sheetA : Case
 sheetA = record {
   n = 3;
   set = 2;
   rules = ruleOf (pos 1) (pos 2) (pos 5) ∷ ruleOf (pos 1) (negsuc 1) (pos 2) ∷ ruleOf (pos 3) (negsuc 1) (pos 0) ∷ [];
-  reply = 0;
-  key = ruleOf (pos 1) (pos 0) (pos 3) ∷ ruleOf (pos 1) (pos 3) (pos 5) ∷ [];
 }
 
 -- hidden 1, +1+2:1, -1-2:-1, +1-2:0, -1+2:0 are refused by 5, seen only after both quantities go
@@ -66,8 +50,6 @@ seenLate = record {
   rules =
       ruleOf (pos 1) (pos 2) (pos 1) ∷ ruleOf (negsuc 0) (negsuc 1) (negsuc 0) ∷ ruleOf (pos 1) (negsuc 1) (pos 0)
       ∷ ruleOf (negsuc 0) (pos 2) (pos 0) ∷ [];
-  reply = 5;
-  key = [];
 }
 
 -- `unfolding steps` lets every definition compute that a case uses
@@ -79,12 +61,3 @@ unfolding
     withSum withHalf bareBelow pairWord onOne onTwo lowestAt pairing anyBare paired contradicts eliminated
     boundLimit hideUpTo keyOf refutedUpTo refuted keyReply
 steps = tt
-
--- both pass, by computing
-pub sheetA-passes : Passes sheetA
-unfolding steps
-sheetA-passes = (refl, refl)
-
-pub seenLate-passes : Passes seenLate
-unfolding steps
-seenLate-passes = (refl, tt)

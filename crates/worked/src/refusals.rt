@@ -19,7 +19,8 @@ pub(crate) fn run() {
     past_limit(1_000_000_001);
     past_limit(-1_000_000_001);
     hidden_named();
-    earlier_first();
+    limits_last();
+    names_last();
 }
 
 // Marks and prints the reply.
@@ -49,10 +50,28 @@ fn sizes() {
     let table = [Sheet::NO_RULE; TABLE];
     let short = [Sheet::NO_RULE; TABLE - 1];
     mark_after(b"tables marked: n 0", 0, 0, &table, &table);
-    mark_after(b"n 33", 33, 0, &table, &table);
+    one_too_many();
     mark_after(b"n 3, a sheet of 17 words", 3, 0, &short, &table);
     mark_after(b"n 3, a script of 17 words", 3, 0, &table, &short);
     mark_after(b"n 3, two tables of 18 words", 3, 0, &table, &table);
+    let paper = [3, Sheet::NO_RULE, 1_000_000_001];
+    let script = [3, Sheet::NO_RULE, -5_000_000_001, -5_000_000_001];
+    mark_after(
+        b"n 1, tables with words past their own, which nobody looks at",
+        1,
+        0,
+        &paper,
+        &script,
+    );
+}
+
+// 1: n 33, though all is lent that it would need.
+fn one_too_many() {
+    let table = [Sheet::NO_RULE; 2178];
+    let mut workspace = [0; 4356];
+    let mut values = [7; 33];
+    sheet::head(b"n 33");
+    mark(33, 0, &table, &table, &mut workspace, &mut values);
 }
 
 // 6: the workspace, then the assignment.
@@ -91,7 +110,7 @@ fn past_limit(bound: i64) {
     mark_after(b"in the script", 3, 0, &table, &past);
 }
 
-// 7: a script rule that names a hidden quantity, alone or second. The sheet's rules may, so one table serves as both.
+// 7: a script rule that names a hidden quantity, alone, second or first. The sheet's rules may, so one table serves as both.
 fn hidden_named() {
     let mut table = [0; TABLE];
     sheet::begin(b"a sheet and script that name 2", 3, &mut table);
@@ -101,19 +120,34 @@ fn hidden_named() {
     sheet::begin(b"a sheet and script that name 1 and 2", 3, &mut table);
     sheet::put(3, &mut table, 1, -2, 0);
     mark_after(b"2 hidden", 3, 0b10, &table, &table);
+    mark_after(b"1 hidden", 3, 0b1, &table, &table);
 }
 
-// Where several apply: 1 before 6 before 3 before 7.
-fn earlier_first() {
+// Where several apply: 1 before 6 before 3.
+fn limits_last() {
     let table = [Sheet::NO_RULE; TABLE];
+    let short = [Sheet::NO_RULE; TABLE - 1];
     let mut workspace = [0; WORKSPACE];
+    let mut small = [0; WORKSPACE - 1];
+    let mut values = [7; 3];
     let mut few = [7; 2];
-    sheet::head(b"n 33 and an assignment of 2 words");
-    mark(33, 0, &table, &table, &mut workspace, &mut few);
-    sheet::head(b"an assignment of 2 words and quantity 4 hidden");
+    sheet::head(b"quantity 4 hidden, a script of 17 words, a workspace of 35, an assignment of 2");
+    mark(3, 0b1000, &table, &short, &mut small, &mut few);
+    sheet::head(b"quantity 4 hidden and a workspace of 35 words");
+    mark(3, 0b1000, &table, &table, &mut small, &mut values);
+    sheet::head(b"quantity 4 hidden and an assignment of 2 words");
     mark(3, 0b1000, &table, &table, &mut workspace, &mut few);
+}
+
+// 3 before 7, in the script and in the sheet.
+fn names_last() {
+    let table = [Sheet::NO_RULE; TABLE];
+    let mut past = [0; TABLE];
+    sheet::begin(b"a bound past the limit that names 2", 3, &mut past);
+    sheet::put(3, &mut past, 2, 0, 1_000_000_001);
+    mark_after(b"2 hidden", 3, 0b10, &table, &past);
     let mut script = [0; TABLE];
-    sheet::begin(b"a bound past the limit that names 2", 3, &mut script);
-    sheet::put(3, &mut script, 2, 0, 1_000_000_001);
-    mark_after(b"2 hidden", 3, 0b10, &table, &script);
+    sheet::begin(b"in the sheet, and a script that names 2", 3, &mut script);
+    sheet::put(3, &mut script, 2, 0, 1);
+    mark_after(b"2 hidden", 3, 0b10, &past, &script);
 }

@@ -10,7 +10,7 @@ pub(crate) fn run() {
     lent();
     several_short();
     other_papers();
-    lent_before_papers();
+    read_before_lent();
 }
 
 // Marks a script against sheet A with what is lent, and prints the reply.
@@ -62,13 +62,22 @@ fn lent() {
     mark_lent(b"an assignment of 2 words", equal, 18, 18, 36, 2);
 }
 
-// 6: the sheet's table before the script's, the workspace, the assignment.
+// 6: the sheet's table before the script's, the workspace, the assignment, and all of them before 7, for the script has another n.
 fn several_short() {
-    let equal = b"quantities=3\nhidden=2\nrules=2\nrule=+1+1:7\nrule=+1+3:5\n";
-    mark_lent(b"17, 17, 35 and 2 words", equal, 17, 17, 35, 2);
-    mark_lent(b"17, 18, 35 and 2 words", equal, 17, 18, 35, 2);
-    mark_lent(b"18, 17, 35 and 2 words", equal, 18, 17, 35, 2);
-    mark_lent(b"18, 18, 35 and 2 words", equal, 18, 18, 35, 2);
+    let other = b"quantities=2\nhidden=2\nrules=0\n";
+    mark_lent(
+        b"a script of 2 quantities and 0, 0, 0 and 0 words",
+        other,
+        0,
+        0,
+        0,
+        0,
+    );
+    mark_lent(b"17, 18, 36 and 3 words", other, 17, 18, 36, 3);
+    mark_lent(b"18, 17, 35 and 2 words", other, 18, 17, 35, 2);
+    mark_lent(b"18, 18, 35 and 2 words", other, 18, 18, 35, 2);
+    mark_lent(b"18, 18, 36 and 2 words", other, 18, 18, 36, 2);
+    mark_lent(b"18, 18, 36 and 3 words", other, 18, 18, 36, 3);
 }
 
 // Marks a script with enough lent.
@@ -76,15 +85,11 @@ fn mark_script(heading: &[u8], script: &[u8]) {
     mark_lent(heading, script, 18, 18, 36, 3);
 }
 
-// 7: another n, another hidden list, a rule that names a hidden quantity. Lengths go by the sheet's n, so that a script of 4 quantities is not refused with 6.
+// 7: a larger n, another hidden list, a rule that names a hidden quantity. Lengths go by the sheet's n, so that a script of 4 quantities is not refused with 6.
 fn other_papers() {
     mark_script(
-        b"a script of 2 quantities",
-        b"quantities=2\nhidden=2\nrules=0\n",
-    );
-    mark_script(
         b"a script of 4 quantities",
-        b"quantities=4\nhidden=2\nrules=0\n",
+        b"quantities=4\nhidden=2\nrules=1\nrule=+3+4:5\n",
     );
     mark_script(
         b"a script that hides 3",
@@ -100,14 +105,7 @@ fn other_papers() {
     );
 }
 
-// 6 before 7.
-fn lent_before_papers() {
-    mark_lent(
-        b"a script of 2 quantities and an assignment of 2 words",
-        b"quantities=2\nhidden=2\nrules=0\n",
-        18,
-        18,
-        36,
-        2,
-    );
+// A refusal of the script's text before 6.
+fn read_before_lent() {
+    mark_lent(b"an empty script and 0, 0, 0 and 0 words", b"", 0, 0, 0, 0);
 }

@@ -29,7 +29,7 @@ use Rattle.writing.specs.Promises.{maxWritten, TextWritten}
 use Rattle.writing.proofs.Promised.{reply-text, refused-text, text-same}
 use Rattle.reports.specs.Refusals.{refusalText}
 use Rattle.reports.specs.Reports.{tableReport}
-use Rattle.reports.specs.Promises.{SheetTable}
+use Rattle.reports.specs.Inner.{SheetTable}
 use Rattle.scripts.proofs.Sheets.{fine-sheet, key-checks, key-length}
 use Rattle.reports.proofs.Reports.{table-length}
 

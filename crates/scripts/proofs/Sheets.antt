@@ -18,14 +18,14 @@ use Rattle.places.specs.Numbering.{blockStart}
 use Rattle.rules.specs.declared.paper.Paper.{Paper}
 use Rattle.rules.specs.declared.paper.Paper.the-variants.{Sheet}
 use Rattle.rules.specs.Hidden.{hiddenIn, setWithin, isListed, hiddenCount}
-use Rattle.rules.specs.Limits.{maxQuantities}
+use Rattle.rules.specs.Limits.{maxQuantities, maxText}
 use Rattle.rules.specs.Meaning.{Assignment}
 use Rattle.tables.specs.Meaning.{TableSized, Satisfies, SheetAllows, joined, WordsWithin}
 use Rattle.tables.proofs.Lists.{tableOf-length}
 use Rattle.keys.specs.Keys.{keyOf, refuted}
 use Rattle.keys.specs.Meaning.{BoundsWithin}
 use Rattle.keys.specs.Inner.{Fits}
-use Rattle.keys.proofs.Several.{hideUpTo-length, key-exact}
+use Rattle.keys.proofs.Several.{hideUpTo-length, key-exact, key-visible}
 use Rattle.keys.proofs.Fitting.{limit-doubled, paper-fits, hide-ample, key-within}
 use Rattle.keys.proofs.Deciding.{refuted-exactly}
 use Rattle.numerals.specs.Decimal.{signedDecimal}
@@ -39,6 +39,7 @@ use Rattle.reading.specs.Promises.{TableRead}
 use Rattle.writing.specs.Writing.{hiddenList, writtenText}
 use Rattle.writing.specs.Promises.{maxWritten}
 use Rattle.writing.proofs.Lengths.{longest}
+use Rattle.writing.proofs.KeyLengths.{key-short}
 use Rattle.scripts.specs.Meaning.{setIn, tableIn}
 use Rattle.scripts.proofs.Rules.{rules-held, read-within}
 use Rattle.scripts.proofs.Hiddens.{set-range, list-back, list-count, count-most}
@@ -156,3 +157,10 @@ pub key-text-length : (c : Contents) → FineSheet c → length (writtenText (c 
 key-text-length c s =
     longest (c .count) (setIn c) (keyIn c) 20 (s .most)
     (λ k h l e. bound-width (contentsLimit Sheet c * 2 ^ length (c .hiddens)) (wordAt (keyIn c) k) (limit-most c s) (key-bounds c s .each k h l e))
+
+-- and is never too long for the reader
+pub key-text-short : (c : Contents) → FineSheet c → length (writtenText (c .count) (setIn c) (keyIn c)) ≤ maxText
+key-text-short c s = key-short (c .count) (setIn c) (keyIn c) (s .most) (record {
+  visible = key-visible (hiddenIn (setIn c)) (c .count) (tableIn c) (omega (arith, s .size));
+  growth = key-within (hiddenIn (setIn c)) (c .count) (contentsLimit Sheet c) (tableIn c) (omega (arith, s .size)) (s .bounds);
+})

@@ -1,4 +1,5 @@
--- What the program has of a line: what it writes as numbers, with the cursor of the bytes that follow, or its refusal; and document 01's number and values of that.
+-- What the program has of a line: what it writes as numbers, with the cursor of the bytes that follow, or its refusal; and document 01's number and values of
+-- each answer.
 use mathlib.Core.Path.{_≡_}
 use mathlib.Core.Logic.{_↔_}
 use mathlib.Core.List.{List, [], _∷_, _++_}

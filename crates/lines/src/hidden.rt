@@ -13,8 +13,8 @@ ghost use lib.ListN.{drop};
 ghost use Rattle.rules.specs.Limits.{maxQuantities};
 ghost use Rattle.lines.specs.Spelling.{quantityWithin};
 ghost use Rattle.lines.specs.Lines.{hiddenJudged};
-ghost use Rattle.lines.specs.Answers.{hiddenAnswer};
-ghost use Rattle.lines.specs.Listed.{memberBit, Ending, listAnswer};
+ghost use Rattle.lines.specs.Answers.{hiddenAnswer, LineAnswered};
+ghost use Rattle.lines.specs.Inner.{memberBit, Ending, listAnswer};
 
 // The quantities read so far, and whether each number read was one of 1 to n.
 struct Members {
@@ -100,7 +100,7 @@ fn listed(s: &[u8], at: usize, n: usize, line: usize) -> Answer
 // The line at the cursor, in a text over `n` quantities. A list that does not increase is malformed, also where its numbers are outside their limits.
 pub fn hidden_line(s: &[u8], at: usize, n: usize, line: usize) -> Answer
     requires { ⌜ n ≤ maxQuantities ⌝ }
-    ensures { λ r. ⌜ r ≡ hiddenAnswer (now (s .entry)) (hiddenJudged n line (drop at (now (s .entry)))) ⌝ }
+    ensures { λ r. ⌜ LineAnswered (hiddenAnswer (now (s .entry))) (hiddenJudged n line (drop at (now (s .entry)))) r ⌝ }
 {
     let key = b"hidden=";
     if !byte::has_key(s, at, key) {

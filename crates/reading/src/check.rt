@@ -13,8 +13,6 @@ ghost use Prim.Native.Nat.{_≤_, _<_};
 ghost use lib.ListN.{drop};
 ghost use Rattle.numerals.specs.Decimal.{cap};
 ghost use Rattle.rules.specs.Limits.{maxQuantities, maxRules};
-ghost use Rattle.lines.specs.Answers.{refusalOf};
-ghost use Rattle.reading.specs.declared.check.Checked.the-variants.{Refused as Failed};
 ghost use Rattle.reading.specs.Reading.{rulesFrom};
 ghost use Rattle.reading.specs.Promises.{TextChecked};
 ghost use Rattle.reading.specs.Inner.{checkedRules};
@@ -32,15 +30,6 @@ pub enum Checked {
     },
 }
 
-// A text's refusal, from the answer of a line that is refused.
-fn refused(answer: Answer) -> Checked
-    ensures { λ r. ⌜ r ≡ Failed (refusalOf answer) ⌝ }
-{
-    Checked::Refused {
-        refusal: answer::refusal(answer),
-    }
-}
-
 // Checks the lines of `count` rules from the cursor `body` on, the first being line 4, and that nothing follows them; `n` and `hidden` go into the answer.
 fn check_rules(s: &[u8], n: usize, hidden: u32, limit: u64, count: usize, body: usize) -> Checked
     requires { ⌜ (n ≤ maxQuantities) × (limit < cap) × (count ≤ maxRules) ⌝ }
@@ -51,7 +40,9 @@ fn check_rules(s: &[u8], n: usize, hidden: u32, limit: u64, count: usize, body: 
     while i < count {
         let got = rule::rule_line(s, at, n, limit, i + 4);
         let Answer::Rule { rule: _, next } = got else {
-            return refused(got);
+            return Checked::Refused {
+                refusal: answer::refusal(got),
+            };
         };
         at = next;
         i = i + 1;
@@ -84,7 +75,9 @@ pub fn check(s: &[u8], paper: Paper) -> Checked
         next: second_at,
     } = first
     else {
-        return refused(first);
+        return Checked::Refused {
+            refusal: answer::refusal(first),
+        };
     };
     let second = hidden::hidden_line(s, second_at, n, 2);
     let Answer::Hidden {
@@ -92,7 +85,9 @@ pub fn check(s: &[u8], paper: Paper) -> Checked
         next: third_at,
     } = second
     else {
-        return refused(second);
+        return Checked::Refused {
+            refusal: answer::refusal(second),
+        };
     };
     let limit = paper::bound_limit(paper, n, set) as u64;
     let third = count::count_line(s, third_at, b"rules=", 0, Sheet::MAX_RULES, 3);
@@ -101,7 +96,9 @@ pub fn check(s: &[u8], paper: Paper) -> Checked
         next: body,
     } = third
     else {
-        return refused(third);
+        return Checked::Refused {
+            refusal: answer::refusal(third),
+        };
     };
     check_rules(s, n, set, limit, count, body)
 }

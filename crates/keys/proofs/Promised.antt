@@ -79,7 +79,7 @@ five-none n t r e d = (go (refuted n t) refl, λ u. rw (e, d .1 u))
 -- ---- the key call
 
 -- its reply past the checks before 5
-key-late : (n set : ℕ) (t : List ℤ) (w : ℕ) → TableSized n (length t) → blockStart n ≤ w → NumbersWithin n set t
+pub key-late : (n set : ℕ) (t : List ℤ) (w : ℕ) → TableSized n (length t) → blockStart n ≤ w → NumbersWithin n set t
     → keyReply n set t w ≡ check (not (refuted n t)) NoAssignment Done
 unfolding keyReply
 key-late n set t w s l m = rw (serves-sized n (length t) .1 s, le-leb (blockStart n) w l, m .0, bounds Sheet n set t .1 (m .1))

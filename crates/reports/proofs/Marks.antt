@@ -16,17 +16,20 @@ use Rattle.numerals.specs.Bytes.{newline, comma}
 use Rattle.numerals.specs.Decimal.{signedDecimal}
 use Rattle.rules.specs.declared.rule.Rule.{Rule}
 use Rattle.rules.specs.declared.refusal.Refusal.{Refusal}
-use Rattle.rules.specs.Limits.{maxQuantities, maxBound}
+use Rattle.rules.specs.declared.paper.Paper.the-variants.{Sheet}
+use Rattle.rules.specs.Limits.{maxQuantities}
+use Rattle.rules.specs.Refusal.{refusalLine}
 use Rattle.tables.specs.Meaning.{ruleIn, Solutions, WordsWithin}
 use Rattle.tables.proofs.Places.{ruleAt-bound, ruleAt-hasPlace}
 use Rattle.marking.specs.declared.verdict.Verdict.{Verdict}
 use Rattle.marking.specs.Meaning.{FirstBroken, ValuesWithin}
 use Rattle.reading.specs.Texts.{Contents}
+use Rattle.reading.specs.Meaning.{contentsLimit}
 use Rattle.writing.specs.Writing.{ruleLineText}
 use Rattle.writing.proofs.Lines.{word-short, line-short}
 use Rattle.scripts.specs.declared.reply.Subject.{Subject}
 use Rattle.scripts.specs.declared.reply.Subject.the-variants.{Sheet as OfSheet, Script as OfScript, Both as OfBoth}
-use Rattle.scripts.proofs.Sheets.{Sheet, limit-most}
+use Rattle.scripts.proofs.Sheets.{FineSheet, limit-most}
 use Rattle.reports.specs.Refusals.{numberText, whereText}
 use Rattle.reports.specs.Marks.{
   verdictKey,

@@ -8,9 +8,9 @@ use Prim.Native.Nat.{ℕ, _≤_}
 use native.Mathlib.Omega.{arith}
 use lib.ListN.{length, drop, length-append}
 use lib.Seq.{length-take-le}
+use Rattle.rules.specs.declared.paper.Paper.the-variants.{Sheet}
 use Rattle.rules.specs.declared.refusal.Refusal.{Refusal}
 use Rattle.rules.specs.declared.refusal.Refusal.the-variants.{NoAssignment}
-use Rattle.rules.specs.Limits.{maxBound, maxText}
 use Rattle.rules.specs.Meaning.{Assignment}
 use Rattle.keys.specs.Keys.{refuted}
 use Rattle.numerals.specs.Writing.{Spliced}

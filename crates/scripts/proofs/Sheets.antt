@@ -160,7 +160,7 @@ key-text-length c s =
 
 -- and is never too long for the reader
 pub key-text-short : (c : Contents) → FineSheet c → length (writtenText (c .count) (setIn c) (keyIn c)) ≤ maxText
-key-text-short c s = key-short (c .count) (setIn c) (keyIn c) (s .most) (record {
+key-text-short c s = key-short (c .count) (setIn c) (keyIn c) (s .most) (omega (arith, key-length c s)) (record {
   visible = key-visible (hiddenIn (setIn c)) (c .count) (tableIn c) (omega (arith, s .size));
   growth = key-within (hiddenIn (setIn c)) (c .count) (contentsLimit Sheet c) (tableIn c) (omega (arith, s .size)) (s .bounds);
 })

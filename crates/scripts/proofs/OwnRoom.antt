@@ -8,7 +8,7 @@ use native.Mathlib.Omega.{arith}
 use lib.IntN.{ℤ}
 use lib.Dec.{ltb}
 use lib.ListN.{length}
-use borrow.Author.Tests.{ltb-true, ltb-false}
+use borrow.Author.Tests.{ltb-true, ltb-false, le-leb}
 use Rattle.places.specs.Numbering.{blockStart}
 use Rattle.rules.specs.declared.paper.Paper.{Paper}
 use Rattle.rules.specs.declared.paper.Paper.the-variants.{Sheet, Script}
@@ -32,7 +32,7 @@ use Rattle.scripts.specs.declared.reply.TextMarking.{TextMarking}
 use Rattle.scripts.specs.declared.reply.TextMarking.the-variants.{Marked, Refused}
 use Rattle.scripts.specs.Replies.{textNumber, textValue}
 use Rattle.scripts.specs.Meaning.{ownLengths, pairNeeds, RefusedPair}
-use Rattle.scripts.specs.Marking.{textsReply, countIn}
+use Rattle.scripts.specs.Marking.{roomChecks, pairChecks, pairReply, textsReply, countIn}
 use Rattle.scripts.specs.Promises.{TextsJudged, TextsMarked, MarkedInOwnRoom}
 use Rattle.scripts.proofs.Sheets.{fine-table}
 use Rattle.scripts.proofs.Judging.{reads-count, accepted-reads, texts-refused}
@@ -116,6 +116,21 @@ module _ (sheet script : List ℕ) (k : ℕ) where
         script-reads = d .reads;
         fails = values-short (c .contents) (d .contents) k most (omega (arith, n));
       })
+
+-- how many words of an assignment are lent does not matter where they are enough, or where the script is not fine
+pub same-reply : (sheet script : List ℕ) (k m : ℕ) → (Readable Script script → countIn sheet ≤ k) → (Readable Script script → countIn sheet ≤ m)
+    → textsReply sheet script (ownLengths k) ≡ textsReply sheet script (ownLengths m)
+unfolding textsReply pairReply pairChecks roomChecks
+same-reply sheet script k m h g = go (checkText Sheet sheet) refl (checkText Script script) refl
+  where
+    go : (x : Judged Contents) → checkText Sheet sheet ≡ x → (y : Judged Contents) → checkText Script script ≡ y
+        → pairReply x y (ownLengths k) ≡ pairReply x y (ownLengths m)
+    go (refused f) e y d = refl
+    go (accepted c u) e (refused f) d = refl
+    go (accepted c u) e (accepted i w) d =
+        let r : Readable Script script = record { contents = i; reads = accepted-reads Script d } in
+        let n : countIn sheet ≡ c .count = reads-count sheet c (accepted-reads Sheet e) in
+        rw (le-leb (c .count) k (rw n at (h r)), le-leb (c .count) m (rw n at (g r)))
 
 -- marking with so much lent promises this
 pub own-marked : {sheet script : List ℕ} {a b w v : List ℤ} {r : TextMarking} {a' b' w' v' : List ℤ} → TextsMarked sheet script a b w v r a' b' w' v'

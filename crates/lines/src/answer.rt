@@ -1,4 +1,5 @@
 // A line's answer: what it writes with the cursor of the next line, or its refusal.
+use rules::hidden::Set;
 use rules::refusal::Refusal;
 use rules::rule::Rule;
 ghost use mathlib.Core.Path.{_≡_};
@@ -11,7 +12,7 @@ pub enum Answer {
     // a count of quantities or of rules
     Count { value: usize, next: usize },
     // the hidden set
-    Hidden { set: u32, next: usize },
+    Hidden { set: Set, next: usize },
     // a rule as written
     Rule { rule: Rule, next: usize },
     Refused { refusal: Refusal },

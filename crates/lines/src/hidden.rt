@@ -6,6 +6,7 @@ use numerals::byte::Kind;
 use numerals::compare;
 use numerals::read;
 use numerals::read::Numeral;
+use rules::hidden::Set;
 ghost use mathlib.Core.Path.{_≡_};
 ghost use mathlib.Core.Bool.{_&&_};
 ghost use Prim.Native.Nat.{_+_, _*_, _^_, _<_, _≤_};
@@ -18,7 +19,7 @@ ghost use Rattle.lines.specs.Inner.{memberBit, Ending, listAnswer};
 
 // The quantities read so far, and whether each number read was one of 1 to n.
 struct Members {
-    set: u32,
+    set: Set,
     within: bool,
 }
 

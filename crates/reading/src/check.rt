@@ -4,6 +4,7 @@ use lines::answer::Answer;
 use lines::count;
 use lines::hidden;
 use lines::rule;
+use rules::hidden::Set;
 use rules::paper;
 use rules::paper::Paper;
 use rules::refusal::Refusal;
@@ -21,7 +22,7 @@ pub enum Checked {
     // n, the hidden set, the number of rules, and the cursor at which their lines begin
     Passed {
         quantities: usize,
-        hidden: u32,
+        hidden: Set,
         rules: usize,
         body: usize,
     },
@@ -31,7 +32,7 @@ pub enum Checked {
 }
 
 // Checks the lines of `count` rules from the cursor `body` on, the first being line 4, and that nothing follows them; `n` and `hidden` go into the answer.
-fn check_rules(s: &[u8], n: usize, hidden: u32, limit: u64, count: usize, body: usize) -> Checked
+fn check_rules(s: &[u8], n: usize, hidden: Set, limit: u64, count: usize, body: usize) -> Checked
     requires { ⌜ (n ≤ maxQuantities) × (limit < cap) × (count ≤ maxRules) ⌝ }
     ensures { λ r. ⌜ r ≡ checkedRules n hidden count body (rulesFrom n limit count 4 (drop body (now (s .entry)))) ⌝ }
 {

@@ -1,6 +1,7 @@
 // A table and a hidden set written as a text.
 use crate::header;
 use crate::line;
+use rules::hidden::Set;
 use rules::hidden;
 use rules::refusal;
 use rules::refusal::Refusal;
@@ -109,7 +110,7 @@ fn put_rules(out: &mut [u8], from: usize, table: &[i64], m: u32) -> usize
 }
 
 // Writes a table over `n` quantities and a hidden set at the start of the output. Any word but the no-rule word is printed as a bound.
-pub fn write(n: usize, set: u32, table: &[i64], out: &mut [u8]) -> Writing
+pub fn write(n: usize, set: Set, table: &[i64], out: &mut [u8]) -> Writing
     ensures { λ r. ⌜ TextWritten n set (now (table .entry)) (now (out .entry)) r (now (out .exit)) ⌝ }
 {
     if !table::serves(n, table.len()) {

@@ -59,6 +59,12 @@ fn checked(source: &str) -> String {
 
 /// What is printed of the edits, the counts, and the number of checks. The source is left as it was.
 fn tried(test: &str, edits: Vec<Edit>) -> (String, Tally, usize) {
+    let (lines, tally, checks, ()) = with_trial(test, |trial| trial.all(edits).expect("files can be read and written"));
+    (lines, tally, checks)
+}
+
+/// The same of what a trial does, and its answer.
+fn with_trial<A>(test: &str, step: impl FnOnce(&mut Trial) -> A) -> (String, Tally, usize, A) {
     let folder = Folder::new(test);
     let file = folder.path().join("src/lib.rt");
     fs::create_dir(folder.path().join("src")).expect("a folder can be made");
@@ -68,10 +74,10 @@ fn tried(test: &str, edits: Vec<Edit>) -> (String, Tally, usize) {
         checks.set(checks.get() + 1);
         fs::read_to_string(&file).map(|source| checked(&source))
     };
-    let mut trial = Trial { name: "made", folder: folder.path(), check: &check, out: &mut out, tally: &mut tally };
-    trial.all(edits).expect("files can be read and written");
+    let answer =
+        step(&mut Trial { name: "made", folder: folder.path(), check: &check, out: &mut out, tally: &mut tally });
     assert_eq!(fs::read_to_string(&file).expect("the source can be read"), SOURCE);
-    (String::from_utf8(out).expect("lines are UTF-8"), tally, checks.get())
+    (String::from_utf8(out).expect("lines are UTF-8"), tally, checks.get(), answer)
 }
 
 #[test]
@@ -117,6 +123,20 @@ fn what_is_not_refused_is_told() {
     ];
     assert_eq!(lines, due);
     assert_eq!(tally, Tally { refused: 0, not: 7 });
+}
+
+#[test]
+fn an_edit_that_fits_no_more_is_told_without_a_check() {
+    let edits = [
+        edit("absent", "made::low", "a + 7", "a + 8"),
+        edit("there", "made::low", "    a + 1", "    a + 2"),
+        edit("often", "made::low", "i64", "i32"),
+    ];
+    let (lines, tally, checks, fitting) =
+        with_trial("fitting", |trial| trial.fitting(&edits).expect("files can be read"));
+    let due = "made/absent: NOT refused: its old text stands 0 times in src/lib.rt\n\
+        made/often: NOT refused: its old text stands 5 times in src/lib.rt\n";
+    assert_eq!((lines.as_str(), tally, checks, fitting), (due, Tally { refused: 0, not: 2 }, 0, 1));
 }
 
 #[test]

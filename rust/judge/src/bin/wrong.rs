@@ -1,6 +1,8 @@
-//! `wrong EDITS COPY [CRATE ..]` tries the wrong programs EDITS/CRATE/*.edit, of all crates where none is named, on COPY, which
-//! is a copy of the repository's crates that it changes and changes back. Exit status 1 says that a wrong program is not
-//! refused, or that an edit is none.
+//! `wrong EDITS COPY CRATE ..` tries the wrong programs EDITS/CRATE/*.edit on COPY, which is a copy of the repository's crates
+//! that it changes and changes back. Exit status 1 says that a wrong program is not refused, or that an edit is none.
+//!
+//! `wrong EDITS COPY` tries none, and holds those of all crates against the files that they change, which takes no proof: a
+//! change of the sources may have left an edit behind.
 
 use judge::wrong::edit::Edit;
 use judge::wrong::tally::Tally;
@@ -17,9 +19,11 @@ fn main() -> ExitCode {
         eprintln!("wrong EDITS COPY [CRATE ..]");
         return ExitCode::from(2);
     };
-    match all(Path::new(edits), Path::new(copy), crates) {
-        Ok(Tally { refused: 1.., not: 0 }) => ExitCode::SUCCESS,
-        Ok(_) => ExitCode::FAILURE,
+    let (edits, copy) = (Path::new(edits), Path::new(copy));
+    let passed = if crates.is_empty() { all_fit(edits, copy) } else { all_refused(edits, copy, crates) };
+    match passed {
+        Ok(true) => ExitCode::SUCCESS,
+        Ok(false) => ExitCode::FAILURE,
         Err(fault) => {
             let _ = writeln!(io::stderr(), "wrong: {fault}");
             ExitCode::FAILURE
@@ -27,18 +31,37 @@ fn main() -> ExitCode {
     }
 }
 
-/// Tries the edits of the named crates, or of all that have edits, one crate after the other.
-fn all(edits: &Path, copy: &Path, named: &[String]) -> io::Result<Tally> {
+/// Tries the edits of these crates, one crate after the other.
+fn all_refused(edits: &Path, copy: &Path, crates: &[String]) -> io::Result<bool> {
+    let tally = each(edits, copy, crates, &mut |trial, edits| trial.all(edits))?;
+    println!("wrong: {} wrong programs refused, {} not: {}", tally.refused, tally.not, crates.join(", "));
+    Ok(tally.refused > 0 && tally.not == 0)
+}
+
+/// Holds the edits of all crates against the files.
+fn all_fit(edits: &Path, copy: &Path) -> io::Result<bool> {
+    let mut count = 0;
+    let tally = each(edits, copy, &names(edits)?, &mut |trial, edits| {
+        count += trial.fitting(&edits)?;
+        Ok(())
+    })?;
+    println!("wrong: {count} wrong programs fit the sources, {} do not", tally.not);
+    Ok(count > 0 && tally.not == 0)
+}
+
+/// What is done with the edits of a crate.
+type Step<'a> = dyn FnMut(&mut Trial, Vec<Edit>) -> io::Result<()> + 'a;
+
+/// What became of the edits of these crates.
+fn each(edits: &Path, copy: &Path, crates: &[String], step: &mut Step) -> io::Result<Tally> {
     let mut out = io::stdout();
     let mut tally = Tally::default();
-    let crates = if named.is_empty() { names(edits)? } else { named.to_vec() };
-    for name in &crates {
+    for name in crates {
         let edits = parsed(name, &edits.join(name), &mut out, &mut tally)?;
         let folder = copy.join("crates").join(name);
         let check = || checked(copy, name);
-        Trial { name, folder: &folder, check: &check, out: &mut out, tally: &mut tally }.all(edits)?;
+        step(&mut Trial { name, folder: &folder, check: &check, out: &mut out, tally: &mut tally }, edits)?;
     }
-    writeln!(out, "wrong: {} wrong programs refused, {} not", tally.refused, tally.not)?;
     Ok(tally)
 }
 

@@ -35,6 +35,19 @@ impl Trial<'_> {
         Ok(())
     }
 
+    /// How many of the edits apply to the files; what others do is told. It takes no check.
+    pub fn fitting(&mut self, edits: &[Edit]) -> io::Result<usize> {
+        let files = self.files(edits)?;
+        let mut count = 0;
+        for edit in edits {
+            match edit.apply(&mut files.clone()) {
+                Ok(()) => count += 1,
+                Err(fault) => self.not(edit, &fault)?,
+            }
+        }
+        Ok(count)
+    }
+
     /// The files that the edits name, as far as there are such files.
     fn files(&self, edits: &[Edit]) -> io::Result<Files> {
         let mut files = Files::new();

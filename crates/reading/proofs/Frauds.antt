@@ -42,7 +42,7 @@ use Rattle.reading.specs.Reading.{onward, rulesFrom, linesFrom, checkTex
 use Rattle.reading.specs.Promises.{TextChecked, ReadInto}
 use Rattle.reading.proofs.Means.{text-means, reads-check, reads-same}
 use Rattle.reading.proofs.Replies.{not-both, reply-short, reply-accepted, reading-refused, reading-accepted}
-use Rattle.reading.proofs.Passing.{check-promised}
+use Rattle.reading.proofs.CheckedTexts.{check-promised}
 use Rattle.reading.proofs.Numbers.{zero-accepted}
 use Rattle.reading.proofs.Promised.{reading-kept, read-promised}
 

@@ -24,7 +24,7 @@ use Rattle.reading.specs.Meaning.{Reads, Passes}
 use Rattle.reading.specs.Reading.{checkText, checkedOf, filled}
 use Rattle.reading.specs.Promises.{TextChecked}
 use Rattle.reading.proofs.Means.{reads-check}
-use Rattle.reading.proofs.Passing.{checked-passes}
+use Rattle.reading.proofs.CheckedTexts.{checked-passes}
 use Rattle.marking.specs.declared.verdict.Marking.{Marking}
 use Rattle.marking.specs.Promises.{TablesMarked}
 use Rattle.scripts.specs.declared.room.Lengths.{Lengths}

@@ -36,7 +36,7 @@ use Rattle.keys.proofs.Deciding.{decides-refuted}
 use Rattle.tightening.specs.Tightening.{strengthening, strengthened, tightened}
 use Rattle.tightening.specs.Promises.{LeastBound}
 use Rattle.tightening.proofs.Lower.{clear-refuted}
-use Rattle.tightening.proofs.Reaching.{Reaches, paired-terms, lone-reached, pair-reached}
+use Rattle.tightening.proofs.ReachedBounds.{Reaches, paired-terms, lone-reached, pair-reached}
 
 -- ---- contradictions
 

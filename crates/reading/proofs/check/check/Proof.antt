@@ -13,7 +13,7 @@ use Rattle.lines.specs.Spelling.{quantitiesKey, rulesKey}
 use Rattle.lines.specs.Lines.{countJudged, hiddenJudged}
 use Rattle.lines.proofs.Found.{CountFound, HiddenFound, LineRefused, count-found, hidden-found, count-refused, hidden-refused, refused-by}
 use Rattle.reading.proofs.Limits.{limit-told, unsigned, cap-casts, cap-value}
-use Rattle.reading.proofs.Passing.{check-promised}
+use Rattle.reading.proofs.CheckedTexts.{check-promised}
 use Rattle.reading.proofs.Checking.{size-checked, first-checked, second-checked, third-checked, rules-checked}
 use Rattle.reading.proofs.check.check.Statement.{statement}
 use Rattle.reading.proofs.check.check.Tie as tie

@@ -19,7 +19,7 @@ use Rattle.reading.specs.Reading.{checkText, checkedOf, replyTo, readRep
 use Rattle.reading.specs.Meaning.{Passes}
 use Rattle.reading.specs.Promises.{ReadInto}
 use Rattle.reading.proofs.Means.{reads-check}
-use Rattle.reading.proofs.Passing.{failed-refused}
+use Rattle.reading.proofs.CheckedTexts.{failed-refused}
 use Rattle.reading.proofs.Promised.{reading-kept, read-promised}
 use Rattle.reading.proofs.Headers.{passed-opened}
 

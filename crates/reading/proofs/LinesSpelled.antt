@@ -20,8 +20,8 @@ use Rattle.reading.proofs.Readers.{Value, value-of, some-kind}
 use Rattle.reading.proofs.Openings.{lineOf, goOn, Due, due-start, due-counted, due-headed, due-ruled}
 use Rattle.reading.proofs.Steps.{Unspelled, spelled, unspelled}
 use Rattle.reading.proofs.Ending.{allOf, sheet-lines, ended-due, ended-alone, ended-followed}
-use Rattle.reading.proofs.Telling.{Tells}
-use Rattle.reading.proofs.Reaching.{reached}
+use Rattle.reading.proofs.LinesAnswered.{Tells}
+use Rattle.reading.proofs.AfterOpenings.{reached}
 
 -- after an opening a line is due,
 record Going (paper : Paper) (o : Opening) : Type 0 where

@@ -28,7 +28,7 @@ use Rattle.tables.proofs.Refusing.{tied-returned, tied-number}
 use Rattle.keys.specs.Meaning.{BoundsWithin, NumbersWithin}
 use Rattle.tables.specs.Replies.{replyNumber, check}
 use Rattle.elimination.specs.Hiding.{paired, eliminated}
-use Rattle.keys.specs.Keys.{every, hideUpTo, keyOf, refuted, keyReply, assignmentReply, freesWorkspace}
+use Rattle.keys.specs.Keys.{every, hideUpTo, keyOf, refuted, lentChecks, keyReply, assignmentReply, freesWorkspace}
 use Rattle.keys.specs.Inner.{pairUpTo, fillDown, Fits, Layered, Decided}
 use Rattle.keys.specs.Promises.{KeyMade, Keyed, AssignmentFound, Assigned}
 use Rattle.keys.proofs.Several.{key-exact, key-visible, refuted-false}
@@ -81,7 +81,7 @@ five-none n t r e d = (go (refuted n t) refl, λ u. rw (e, d .1 u))
 -- its reply past the checks before 5
 pub key-late : (n set : ℕ) (t : List ℤ) (w : ℕ) → TableSized n (length t) → blockStart n ≤ w → NumbersWithin n set t
     → keyReply n set t w ≡ check (not (refuted n t)) NoAssignment Done
-unfolding keyReply
+unfolding keyReply lentChecks
 key-late n set t w s l m = rw (serves-sized n (length t) .1 s, le-leb (blockStart n) w l, m .0, bounds Sheet n set t .1 (m .1))
 
 key-none : (n set : ℕ) (t : List ℤ) (w : ℕ) (r : Reply) → r ≡ keyReply n set t w → TableSized n (length t) → blockStart n ≤ w → NumbersWithin n set t
@@ -142,7 +142,7 @@ key-done n set t w t' w' p d k =
 
 assignment-late : (n : ℕ) (t : List ℤ) (w v : ℕ) → TableSized n (length t) → blockStart n ≤ w → n ≤ v → BoundsWithin Sheet n 0 t
     → assignmentReply n t w v ≡ check (not (refuted n t)) NoAssignment Done
-unfolding assignmentReply
+unfolding assignmentReply lentChecks
 assignment-late n t w v s l k b = rw (serves-sized n (length t) .1 s, le-leb (blockStart n) w l, le-leb n v k, bounds Sheet n 0 t .1 b)
 
 assignment-none : (n : ℕ) (t : List ℤ) (w v : ℕ) (r : Reply) → r ≡ assignmentReply n t w v → TableSized n (length t) → blockStart n ≤ w → n ≤ v

@@ -1,4 +1,5 @@
 // The key call: the sheet's table is replaced by its key.
+use crate::checks;
 use crate::decide;
 use rules::hidden::Set;
 use rules::hidden;
@@ -45,18 +46,15 @@ pub fn hide_set(n: usize, set: Set, table: &mut [i64])
 fn check(n: usize, set: Set, table: &[i64], workspace: usize) -> Reply
     ensures { λ r. ⌜ KeyChecked n set (now (table .entry)) workspace r ⌝ }
 {
-    if !table::serves(n, table.len()) {
-        return Reply::Refused(Refusal::Size);
-    }
-    let needed = table::size(n);
-    if workspace < needed {
-        return Reply::Refused(Refusal::TooShort { needed });
-    }
+    let lent = checks::lent(n, table.len(), workspace);
+    let Reply::Done = lent else {
+        return lent;
+    };
     if !hidden::is_within(set, n) {
         return Reply::Refused(Refusal::OutOfLimit { line: 0 });
     }
     let most = paper::bound_limit(Paper::Sheet, n, set);
-    if !limit::is_table_in(table, needed, most) {
+    if !limit::is_table_in(table, table::size(n), most) {
         return Reply::Refused(Refusal::OutOfLimit { line: 0 });
     }
     Reply::Done

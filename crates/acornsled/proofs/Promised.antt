@@ -5,21 +5,23 @@ use mathlib.Core.Logic.{_↔_}
 use mathlib.Core.List.{List, [], _∷_}
 use Prim.Native.Nat.{ℕ, zero, suc, _<_, _≤_}
 use native.Mathlib.Omega.{arith}
-use lib.IntN.{ℤ}
+use lib.IntN.{ℤ, pos}
 use lib.Dec.{leb}
 use lib.ListN.{length}
 use borrow.Author.Tests.{leb-true, leb-false}
 use Rattle.tables.specs.declared.reply.Reply.{Reply}
+use Rattle.tables.specs.declared.reply.Reply.the-variants.{Done}
+use Rattle.tables.specs.declared.reply.Reply.the-variants.{Refused as NotDone}
 use Rattle.keys.specs.Promises.{Keyed, Assigned}
 use Rattle.rules.specs.declared.refusal.Refusal.{Refusal}
 use Rattle.rules.specs.Limits.{maxQuantities}
 use Rattle.rules.specs.declared.paper.Paper.the-variants.{Script as OfScript}
 use Rattle.rules.specs.declared.rule.Rule.{Rule}
-use Rattle.rules.specs.Refusal.{refusalNumber, refusalValue}
-use Rattle.rules.proofs.Refusals.{same-refusal-value, refusal-below}
+use Rattle.rules.specs.Refusal.{refusalNumber, refusalValue, Returned, refusedAs}
+use Rattle.rules.proofs.Refusals.{same-refusal-value, same-refusal, refusal-number, refusal-below}
 use Rattle.rules.specs.RuleWords.{ruleIn}
 use Rattle.tables.proofs.Tests.{clash}
-use Rattle.tables.specs.Replies.{replyNumber, replyValue}
+use Rattle.tables.specs.Replies.{replyReturned, replyNumber, replyValue}
 use Rattle.marking.specs.declared.verdict.Verdict.{Verdict}
 use Rattle.marking.specs.declared.verdict.Verdict.the-variants.{Equal, Loose, Tight}
 use Rattle.marking.specs.Verdicts.{verdictNumber, carriedWords}
@@ -38,23 +40,65 @@ use Rattle.scripts.proofs.Judging.{texts-refused}
 use Rattle.scripts.proofs.OwnRoom.{same-reply}
 use Rattle.reading.specs.declared.read.Reading.{Reading}
 use Rattle.reading.specs.declared.read.Reading.the-variants.{Accepted, Refused}
-use Rattle.reading.specs.Reading.{readingNumber, readingValue}
-use Rattle.reading.specs.Meaning.{Readable}
+use Rattle.reading.specs.Reading.{readingReturned, readingNumber, readingValue}
+use Rattle.reading.specs.Meaning.{Readable, AcceptedAs}
 use Rattle.reading.specs.Promises.{ReadInto}
 use Rattle.writing.specs.declared.write.Writing.{Writing}
-use Rattle.writing.specs.Writing.{writingNumber, writingValue}
+use Rattle.writing.specs.declared.write.Writing.the-variants.{Text}
+use Rattle.writing.specs.declared.write.Writing.the-variants.{Refused as NotWritten}
+use Rattle.writing.specs.Writing.{writingReturned, writingNumber, writingValue}
 use Rattle.writing.specs.Promises.{TextWritten}
 use Rattle.acornsled.specs.Promises.{KeyAnswer, AssignmentAnswer, ReadAnswer, WriteAnswer, RefusedWith, MarkAnswer, countRead, setRead, hostReply, countMarked, ruleMarked, Told, MarkTextsAnswer}
 
+-- ---- a reply by its number and value is a reply as it is returned
+
+abbrev number : Returned → ℕ
+number x = x .number
+
+reply-told-as : (x : Reply) (f : Refusal) → ((replyNumber x ≡ refusalNumber f) × (replyValue x ≡ refusalValue f)) ↔ (replyReturned x ≡ refusedAs f)
+reply-told-as Done f = (λ e. absurd (refusal-number f (sym (e .0))), λ e. absurd (refusal-number f (sym (ap number e))))
+reply-told-as (NotDone g) f = (λ e. ap refusedAs (same-refusal-value g f (e .0) (e .1)), λ e. let d = same-refusal g f e in (rw d, rw d))
+
+reading-told : (x : Reading) (f : Refusal) → ((readingNumber x ≡ refusalNumber f) × (readingValue x ≡ refusalValue f)) ↔ (readingReturned x ≡ refusedAs f)
+reading-told (Accepted n set) f = (λ e. absurd (refusal-number f (sym (e .0))), λ e. absurd (refusal-number f (sym (ap number e))))
+reading-told (Refused g) f = (λ e. ap refusedAs (same-refusal-value g f (e .0) (e .1)), λ e. let d = same-refusal g f e in (rw d, rw d))
+
+writing-told : (x : Writing) (f : Refusal) → ((writingNumber x ≡ refusalNumber f) × (writingValue x ≡ refusalValue f)) ↔ (writingReturned x ≡ refusedAs f)
+writing-told (Text m) f = (λ e. absurd (refusal-number f (sym (e .0))), λ e. absurd (refusal-number f (sym (ap number e))))
+writing-told (NotWritten g) f = (λ e. ap refusedAs (same-refusal-value g f (e .0) (e .1)), λ e. let d = same-refusal g f e in (rw d, rw d))
+
+-- one equivalence after another
+through : {P Q R : Type 0} → P ↔ Q → Q ↔ R → P ↔ R
+through a b = (λ p. b .0 (a .0 p), λ r. a .1 (b .1 r))
+
+-- ---- the calls
+
 pub key-answer : (n set : ℕ) (t w t' w' : List ℤ) (reply : Reply) (r v : ℕ) → Keyed n set t w reply t' w' → r ≡ replyNumber reply → v ≡ replyValue reply
     → KeyAnswer n set t w r v t' w'
-key-answer n set t w t' w' reply r v k e d =
-    record { number = e ∙ ap replyNumber (k .reply); value = d ∙ ap replyValue (k .reply); call = rw (k .reply) at k }
+key-answer n set t w t' w' reply r v k e d = record {
+  number = e ∙ ap replyNumber (k .reply);
+  value = d ∙ ap replyValue (k .reply);
+  refused = λ f. rw (e, d) (through (reply-told-as reply f) (k .refused f));
+  accepted = rw e (k .accepted);
+  call = rw (k .reply) at k;
+}
 
 pub assignment-answer : (n : ℕ) (t w u w' u' : List ℤ) (reply : Reply) (r v : ℕ) → Assigned n t w u reply w' u' → r ≡ replyNumber reply
     → v ≡ replyValue reply → AssignmentAnswer n t w u r v w' u'
-assignment-answer n t w u w' u' reply r v k e d =
-    record { number = e ∙ ap replyNumber (k .reply); value = d ∙ ap replyValue (k .reply); call = rw (k .reply) at k }
+assignment-answer n t w u w' u' reply r v k e d = record {
+  number = e ∙ ap replyNumber (k .reply);
+  value = d ∙ ap replyValue (k .reply);
+  refused = λ f. rw (e, d) (through (reply-told-as reply f) (k .refused f));
+  accepted = rw e (k .accepted);
+  call = rw (k .reply) at k;
+}
+
+-- 0 is the number of an accepted text, with n and the hidden set afterwards
+read-zero : (s : List ℕ) (words n set : ℕ) (reply : Reading)
+    → ((m h : ℕ) → (readingReturned reply ≡ record { number = 0; values = pos m ∷ pos h ∷ [] }) ↔ AcceptedAs s words m h)
+    → (readingNumber reply ≡ 0) ↔ AcceptedAs s words (countRead n reply) (setRead set reply)
+read-zero s words n set (Accepted m h) a = (λ e. a m h .0 refl, λ x. refl)
+read-zero s words n set (Refused f) a = (λ e. absurd (refusal-number f e), λ x. ap number (a n set .1 x))
 
 read-answer : (s : List ℕ) (t t' : List ℤ) (n set n' set' : ℕ) (reply : Reading) (r v : ℕ) → ReadInto s t reply t' → r ≡ readingNumber reply
     → v ≡ readingValue reply → n' ≡ countRead n reply → set' ≡ setRead set reply → ReadAnswer s t n set r v n' set' t'
@@ -63,13 +107,20 @@ read-answer s t t' n set n' set' reply r v k e d c h = record {
   value = d ∙ ap readingValue (k .reply);
   count = c ∙ ap (countRead n) (k .reply);
   hidden = h ∙ ap (setRead set) (k .reply);
+  refused = λ f. rw (e, d) (through (reading-told reply f) (k .refused f));
+  accepted = rw (e, c, h) (read-zero s (length t) n set reply (k .accepted));
   call = rw (k .reply) at k;
 }
 
 pub write-answer : (n set : ℕ) (t : List ℤ) (out out' : List ℕ) (reply : Writing) (r v : ℕ) → TextWritten n set t out reply out'
     → r ≡ writingNumber reply → v ≡ writingValue reply → WriteAnswer n set t out r v out'
-write-answer n set t out out' reply r v k e d =
-    record { number = e ∙ ap writingNumber (k .reply); value = d ∙ ap writingValue (k .reply); call = rw (k .reply) at k }
+write-answer n set t out out' reply r v k e d = record {
+  number = e ∙ ap writingNumber (k .reply);
+  value = d ∙ ap writingValue (k .reply);
+  refused = λ f. rw (e, d) (through (writing-told reply f) (k .refused f));
+  accepted = rw e (k .accepted);
+  call = rw (k .reply) at k;
+}
 
 -- a text that is refused leaves n and the hidden set
 pub read-refused : (s : List ℕ) (t t' : List ℤ) (n set : ℕ) (reply : Reading) (f : Refusal) (r v : ℕ) → ReadInto s t reply t' → reply ≡ Refused f

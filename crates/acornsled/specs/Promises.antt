@@ -10,9 +10,11 @@ use Rattle.rules.specs.declared.paper.Paper.the-variants.{Sheet, Script}
 use Rattle.rules.specs.declared.refusal.Refusal.{Refusal}
 use Rattle.rules.specs.Limits.{maxQuantities}
 use Rattle.rules.specs.Refusal.{refusalNumber, refusalValue}
+use Rattle.rules.specs.Refusing.{RefusedBy, AllMet}
 use Rattle.rules.specs.RuleWords.{ruleIn}
 use Rattle.tables.specs.Replies.{replyNumber, replyValue}
 use Rattle.keys.specs.Keys.{keyReply, assignmentReply}
+use Rattle.keys.specs.Meaning.{keyNeeds, assignmentNeeds}
 use Rattle.keys.specs.Promises.{Keyed, Assigned}
 use Rattle.marking.specs.Verdicts.{carriedWords}
 use Rattle.reading.specs.declared.read.Reading.{Reading}
@@ -20,9 +22,9 @@ use Rattle.reading.specs.declared.read.Reading.the-variants.{Accepted, Refused}
 use Rattle.reading.specs.Reading.{readReply, readingNumber, readingValue}
 use Rattle.reading.specs.Promises.{ReadInto}
 use Rattle.reading.specs.Texts.{Contents}
-use Rattle.reading.specs.Meaning.{Reads, Readable}
+use Rattle.reading.specs.Meaning.{Reads, Readable, RefusedFor, AcceptedAs}
 use Rattle.writing.specs.Writing.{writeReply, writingNumber, writingValue}
-use Rattle.writing.specs.Promises.{TextWritten}
+use Rattle.writing.specs.Promises.{writeNeeds, TextWritten}
 use Rattle.scripts.specs.declared.reply.Subject.{Subject}
 use Rattle.scripts.specs.declared.room.Lengths.{Lengths}
 use Rattle.scripts.specs.declared.reply.TextMarking.{TextMarking}
@@ -48,24 +50,33 @@ pub record ReadAnswer (text : List ℕ) (table : List ℤ) (n set r v n' set' : 
   pub value : v ≡ readingValue (readReply text (length table))
   pub count : n' ≡ countRead n (readReply text (length table))
   pub hidden : set' ≡ setRead set (readReply text (length table))
+  -- a refusal's number and value exactly for its reason; 0 exactly where the text is accepted, with this n and hidden set
+  pub refused : (f : Refusal) → ((r ≡ refusalNumber f) × (v ≡ refusalValue f)) ↔ RefusedFor text (length table) f
+  pub accepted : (r ≡ 0) ↔ AcceptedAs text (length table) n' set'
   pub call : ReadInto text table (readReply text (length table)) table'
 
 -- writing's
 pub record WriteAnswer (n set : ℕ) (table : List ℤ) (out : List ℕ) (r v : ℕ) (out' : List ℕ) : Type 0 where
   pub number : r ≡ writingNumber (writeReply n set table (length out))
   pub value : v ≡ writingValue (writeReply n set table (length out))
+  pub refused : (f : Refusal) → ((r ≡ refusalNumber f) × (v ≡ refusalValue f)) ↔ RefusedBy (writeNeeds n set table (length out)) f
+  pub accepted : (r ≡ 0) ↔ AllMet (writeNeeds n set table (length out))
   pub call : TextWritten n set table out (writeReply n set table (length out)) out'
 
 -- the key call's number r and value v
 pub record KeyAnswer (n set : ℕ) (table workspace : List ℤ) (r v : ℕ) (table' workspace' : List ℤ) : Type 0 where
   pub number : r ≡ replyNumber (keyReply n set table (length workspace))
   pub value : v ≡ replyValue (keyReply n set table (length workspace))
+  pub refused : (f : Refusal) → ((r ≡ refusalNumber f) × (v ≡ refusalValue f)) ↔ RefusedBy (keyNeeds n set table (length workspace)) f
+  pub accepted : (r ≡ 0) ↔ AllMet (keyNeeds n set table (length workspace))
   pub call : Keyed n set table workspace (keyReply n set table (length workspace)) table' workspace'
 
 -- the assignment call's
 pub record AssignmentAnswer (n : ℕ) (table workspace values : List ℤ) (r v : ℕ) (workspace' values' : List ℤ) : Type 0 where
   pub number : r ≡ replyNumber (assignmentReply n table (length workspace) (length values))
   pub value : v ≡ replyValue (assignmentReply n table (length workspace) (length values))
+  pub refused : (f : Refusal) → ((r ≡ refusalNumber f) × (v ≡ refusalValue f)) ↔ RefusedBy (assignmentNeeds n table (length workspace) (length values)) f
+  pub accepted : (r ≡ 0) ↔ AllMet (assignmentNeeds n table (length workspace) (length values))
   pub call : Assigned n table workspace values (assignmentReply n table (length workspace) (length values)) workspace' values'
 
 -- ---- marking two texts

@@ -117,8 +117,10 @@ key-made n set t f b s = record {
   meaning = λ σ. key-exact (hiddenIn set) n t (s .assignment) (hide-ample (hiddenIn set) n t f) (s .satisfies) σ;
   some = s;
   steps = key-turns (hiddenIn set) n t (f .grows .room);
-  visible = key-visible (hiddenIn set) n t (f .grows .room);
-  growth = key-within (hiddenIn set) n (boundLimit Sheet n set) t (f .grows .room) b;
+  like = record {
+    visible = key-visible (hiddenIn set) n t (f .grows .room);
+    growth = key-within (hiddenIn set) n (boundLimit Sheet n set) t (f .grows .room) b;
+  };
 }
 
 pub key-done : (n set : ℕ) (t w t' w' : List ℤ) → TableSized n (length t) × (blockStart n ≤ length w) × NumbersWithin n set t → Decided n t w false w'

@@ -1,4 +1,4 @@
--- What the functions inside ask and answer; no promise of the two calls rests on it.
+-- What inner functions, here and in the crates above, ask and answer; no promise of the two calls rests on it.
 -- All quantities of a table paired, one after the other, with nothing cleared: how the program decides 'no assignment' in one table, and why its sums fit.
 -- Where `later`, of each quantity's rules those alone take part whose other quantity is a later one: the table is reduced. The places of each quantity
 -- with later ones then stay as they were at its turn, and an assignment is read back from them. Where not, all rules take part, as least bounds need.

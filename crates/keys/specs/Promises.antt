@@ -3,8 +3,8 @@ use mathlib.Core.Bool.{cond}
 use mathlib.Core.Path.{_≡_}
 use mathlib.Core.Logic.{_↔_}
 use mathlib.Core.List.{List}
-use Prim.Native.Nat.{ℕ, _*_, _^_, _≤_, _<_}
-use lib.IntN.{ℤ, pos}
+use Prim.Native.Nat.{ℕ, _≤_, _<_}
+use lib.IntN.{ℤ}
 use lib.ListN.{length, drop}
 use Rattle.integers.specs.Bound.{Within}
 use Rattle.words.specs.Change.{wordAt}
@@ -14,12 +14,11 @@ use Rattle.rules.specs.declared.paper.Paper.the-variants.{Sheet}
 use Rattle.rules.specs.declared.refusal.Refusal.{Refusal}
 use Rattle.rules.specs.Refusal.{refusedAs}
 use Rattle.rules.specs.Refusing.{RefusedBy, AllMet}
-use Rattle.rules.specs.Limits.{boundLimit}
-use Rattle.rules.specs.Hidden.{hiddenIn, hiddenCount}
+use Rattle.rules.specs.Hidden.{hiddenIn}
 use Rattle.rules.specs.Meaning.{Assignment}
 use Rattle.tables.specs.declared.reply.Reply.{Reply}
 use Rattle.tables.specs.Replies.{isDone, replyReturned, replyNumber}
-use Rattle.tables.specs.Meaning.{TableSized, Satisfies, Satisfiable, Unsatisfiable, SheetAllows, NamesVisible, assignmentOf, WordsWithin}
+use Rattle.tables.specs.Meaning.{TableSized, Satisfies, Satisfiable, Unsatisfiable, SheetAllows, KeyLike, assignmentOf}
 use Rattle.elimination.specs.Magnitude.{valueLimit}
 use Rattle.keys.specs.Keys.{keyOf, keyReply, assignmentReply, freesWorkspace}
 use Rattle.keys.specs.Meaning.{BoundsWithin, NumbersWithin, keyNeeds, assignmentNeeds, HiddenInTurn}
@@ -27,13 +26,12 @@ use Rattle.keys.specs.Meaning.{BoundsWithin, NumbersWithin, keyNeeds, as
 -- ---- the key call
 
 -- what a key is. Demand 2: it allows integers for the visible quantities exactly when some integers for the hidden ones satisfy the whole sheet with them. It is made
--- by document 01's steps, names visible quantities alone, and its bounds double at most with each hidden one
+-- by document 01's steps, names visible quantities alone, and its bounds double at most with each hidden one (`KeyLike`)
 pub record KeyMade (n set : ℕ) (sheet key : List ℤ) : Type 0 where
   pub meaning : (σ : Assignment) → Satisfies n key σ ↔ SheetAllows (hiddenIn set) (Satisfies n sheet) σ
   pub some : Satisfiable n sheet
   pub steps : HiddenInTurn (hiddenIn set) n sheet key
-  pub visible : NamesVisible n (hiddenIn set) key
-  pub growth : WordsWithin (blockStart n) (pos (boundLimit Sheet n set * 2 ^ hiddenCount (hiddenIn set) n)) key
+  pub like : KeyLike n set key
 
 -- the key call on n quantities and a hidden set: refused by the first need that is not met, as it is returned, and else the table is its key
 pub record Keyed (n set : ℕ) (table workspace : List ℤ) (r : Reply) (table' workspace' : List ℤ) : Type 0 where

@@ -84,7 +84,7 @@ module _ (s : List ℕ) (t : List ℤ) where
         ∙ tableOf-smallest (c .count) rs k l
 
     reading-read : TableRead c t (readTable s t)
-    reading-read = record { filled = reading-filled; smallest = reading-smallest; meaning = reading-meaning }
+    reading-read = record { filled = reading-filled; holds = record { smallest = reading-smallest; meaning = reading-meaning } }
 
   -- the table stays where the number is not 0
   kept : (readingNumber (readReply s (length t)) ≡ 0 → ⊥) → readTable s t ≡ t

@@ -28,13 +28,15 @@ pub record TextChecked (paper : Paper) (s : List ℕ) (r : Checked) : Type 0 whe
   pub passed : (n set m body : ℕ)
       → (checkedReturned r ≡ record { number = 0; values = pos n ∷ pos set ∷ pos m ∷ pos body ∷ [] }) ↔ Passes paper s n set m body
 
--- a table holds what contents write
+-- a table holds what contents write: at each place the smallest bound that rules have there, in whatever order they stand; so what satisfies it meets the rules
+pub record TableHolds (c : Contents) (table : List ℤ) : Type 0 where
+  pub smallest : (k : ℕ) → k < blockStart (c .count) → wordAt table k ≡ smallestAt k (writtenRules (c .written))
+  pub meaning : (σ : Assignment) → Satisfies (c .count) table σ ↔ MeetsAll σ (writtenRules (c .written))
+
+-- and is the table of their rules, put in, with words past it as they were
 pub record TableRead (c : Contents) (before after : List ℤ) : Type 0 where
-  -- it is that of the rules, put in; words past it stay
   pub filled : after ≡ tableOf (c .count) (writtenRules (c .written)) ++ drop (blockStart (c .count)) before
-  -- so each place holds the smallest bound that rules have there, in whatever order they stand
-  pub smallest : (k : ℕ) → k < blockStart (c .count) → wordAt after k ≡ smallestAt k (writtenRules (c .written))
-  pub meaning : (σ : Assignment) → Satisfies (c .count) after σ ↔ MeetsAll σ (writtenRules (c .written))
+  pub holds : TableHolds c after
 
 -- a sheet's text read into a table
 pub record ReadInto (s : List ℕ) (table : List ℤ) (r : Reading) (table' : List ℤ) : Type 0 where

@@ -11,7 +11,8 @@ maxQuantities = 32
 abbrev pub maxBound : ℕ
 maxBound = 1000000000
 
--- a bound is at most this in magnitude on a paper, sheet or script, over n quantities with this hidden set in its header (document 01: "Scripts have the same limits")
+-- a bound is at most this in magnitude on a paper, sheet or script, over n quantities with this hidden set in its header. Document 01 has one limit for all ("Scripts have
+-- the same limits"); document 02 lets a script's depend on how many are hidden and a sheet's on n, and so moves this definition alone
 unfoldable pub boundLimit : Paper → ℕ → ℕ → ℕ
 boundLimit paper n set = maxBound
 

@@ -1,5 +1,5 @@
--- What is returned to a caller, and document 01's number and values for each refusal (document 01, 'Returned to the caller'). A new refusal is one clause of each of
--- the first two definitions.
+-- What is returned to a caller, and document 01's number and values for each refusal (document 01, 'Returned to the caller'). A new refusal is one clause each of
+-- `refusalNumber` and `refusalBeside`.
 use Prim.Native.Nat.{ℕ}
 use mathlib.Core.List.{List, [], _∷_}
 use lib.IntN.{ℤ, pos}
@@ -55,7 +55,7 @@ refusalValue f = besideValue (refusalBeside f)
 abbrev pub refusalLine : Refusal → ℕ
 refusalLine f = besideLine (refusalBeside f)
 
--- what is returned by any call: a number, and the values beside it
+-- what is returned by a call: a number, and the values beside it (marking two texts also names a paper with a refusal, and n with a verdict)
 pub record Returned : Type 0 where
   pub number : ℕ
   pub values : List ℤ

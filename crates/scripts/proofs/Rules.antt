@@ -1,13 +1,12 @@
 -- The rules that a text writes, where its lines are fine: their table holds them, and its bounds are in the paper's limit. Assumes nothing.
-use mathlib.Core.Path.{_≡_, refl, sym, _∙_, ap}
+use mathlib.Core.Path.{_≡_, refl}
 use mathlib.Core.Bool.{true, _&&_}
-use mathlib.Core.List.{List, [], _∷_, _++_, append-nil}
+use mathlib.Core.List.{List, [], _∷_}
 use Prim.Native.Nat.{ℕ, suc}
 use native.Mathlib.Omega.{arith}
 use lib.Dec.{leb}
 use lib.IntN.{ℤ, pos, negsuc, natAbs}
 use lib.ListN.{getD-replicate}
-use lib.Seq.{drop-nil}
 use borrow.Author.Tests.{leb-true}
 use Rattle.integers.specs.Bound.{Within}
 use Rattle.integers.proofs.Parts.{positivePart, negativePart}
@@ -24,15 +23,14 @@ use Rattle.tables.proofs.Lists.{tableOf-meaning, tableOf-smallest}
 use Rattle.lines.specs.Spelling.{Written, one, two, rule, quantityWithin, lineWithin, signedQuantity, writtenRule, writtenRules}
 use Rattle.reading.specs.Texts.{Contents, ruleLines}
 use Rattle.reading.specs.Meaning.{Fine, AllFine, FineLines, contentsLimit}
-use Rattle.reading.specs.Promises.{TableRead}
+use Rattle.reading.specs.Promises.{TableHolds}
 use Rattle.reading.proofs.FineRules.{contents-accepted}
 use Rattle.scripts.specs.Meaning.{tableIn}
 use Rattle.marking.proofs.Puts.{put-within}
 
 -- the table of fine rules holds the smallest bounds and means what they say
-pub rules-held : (paper : Paper) (c : Contents) → FineLines (contentsLimit paper c) c → TableRead c [] (tableIn c)
+pub rules-held : (paper : Paper) (c : Contents) → FineLines (contentsLimit paper c) c → TableHolds c (tableIn c)
 rules-held paper c f = record {
-  filled = sym (ap (λ (t : List ℤ). tableIn c ++ t) (drop-nil (blockStart (c .count))) ∙ append-nil (tableIn c));
   smallest = λ k h. tableOf-smallest (c .count) (writtenRules (c .written)) k h;
   meaning = λ σ. tableOf-meaning (c .count) (writtenRules (c .written)) σ (contents-accepted paper c f);
 }

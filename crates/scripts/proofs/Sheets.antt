@@ -2,7 +2,7 @@
 -- demand 2 says. Assumes nothing.
 use mathlib.Core.Path.{_≡_, refl, sym, _∙_, ap}
 use mathlib.Core.Bool.{Bool, true, false}
-use mathlib.Core.List.{List, []}
+use mathlib.Core.List.{List}
 use mathlib.Core.Logic.{_↔_}
 use Prim.Native.Nat.{ℕ, _*_, _^_, _≤_, _<_}
 use native.Mathlib.Nat.{mul-le-mul-left, add-mul}
@@ -35,7 +35,7 @@ use Rattle.lines.proofs.Bits.{within-range}
 use Rattle.lines.proofs.SetMembers.{list-members}
 use Rattle.reading.specs.Texts.{Contents}
 use Rattle.reading.specs.Meaning.{FineLines, contentsLimit, rulesOf}
-use Rattle.reading.specs.Promises.{TableRead}
+use Rattle.reading.specs.Promises.{TableHolds}
 use Rattle.writing.specs.Writing.{hiddenList, writtenText}
 use Rattle.writing.specs.Promises.{maxWritten}
 use Rattle.writing.proofs.Lengths.{longest}
@@ -58,7 +58,7 @@ pub record FineTable (paper : Paper) (c : Contents) : Type 0 where
   pub size : length (tableIn c) ≡ blockStart (c .count)
   pub bounds : BoundsWithin paper (c .count) (setIn c) (tableIn c)
   pub fits : Fits (c .count) (tableIn c)
-  pub held : TableRead c [] (tableIn c)
+  pub held : TableHolds c (tableIn c)
 
 pub fine-table : (paper : Paper) (c : Contents) → FineLines (contentsLimit paper c) c → FineTable paper c
 unfolding lineWithin

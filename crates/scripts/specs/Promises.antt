@@ -17,7 +17,7 @@ use Rattle.rules.specs.Refusal.{refusedAs}
 use Rattle.marking.specs.Meaning.{VerdictMeans, workspaceSize}
 use Rattle.reading.specs.Texts.{Contents}
 use Rattle.reading.specs.Meaning.{Reads, Readable, rulesOf}
-use Rattle.reading.specs.Promises.{TableRead}
+use Rattle.reading.specs.Promises.{TableHolds}
 use Rattle.scripts.specs.declared.room.Lengths.{Lengths}
 use Rattle.scripts.specs.declared.reply.Subject.{Subject}
 use Rattle.scripts.specs.declared.reply.TextMarking.{TextMarking}
@@ -31,8 +31,8 @@ pub record PairJudged {sheet script : List ℕ} {lent : Lengths} (t : AcceptedPa
   -- the set has the quantities that are listed
   pub members : (q : ℕ) → hiddenIn (setIn (t .of-sheet)) q ≡ isListed q (t .of-sheet .hiddens)
   -- each place of a table holds the smallest bound that rules of its text have there, and what satisfies it meets the rules
-  pub sheet-table : TableRead (t .of-sheet) [] (tableIn (t .of-sheet))
-  pub script-table : TableRead (t .of-script) [] (tableIn (t .of-script))
+  pub sheet-table : TableHolds (t .of-sheet) (tableIn (t .of-sheet))
+  pub script-table : TableHolds (t .of-script) (tableIn (t .of-script))
   pub means : VerdictMeans (t .of-sheet .count) (setIn (t .of-sheet)) (rulesOf (t .of-sheet)) (rulesOf (t .of-script)) (tableIn (t .of-sheet)) (tableIn (t .of-script))
       number rule values
 

@@ -2,7 +2,6 @@
 -- 3 at line 4. Assumes nothing.
 use mathlib.Core.Path.{_≡_, refl, _∙_, ap}
 use mathlib.Core.Bool.{Bool, false, true, _||_}
-use mathlib.Core.Logic.{inr}
 use mathlib.Core.List.{List, [], _∷_, _++_}
 use Prim.Native.Nat.{ℕ, zero, suc, _+_, _<_}
 use native.Mathlib.Omega.{arith}
@@ -20,7 +19,7 @@ use Rattle.rules.specs.Hidden.{hiddenIn, hiddenCount}
 use Rattle.rules.specs.Limits.{boundLimit, maxBound, noRule}
 use Rattle.rules.specs.Meaning.{names}
 use Rattle.tables.specs.Tables.{hasRule, inLimit, wordsInLimit}
-use Rattle.tables.specs.Meaning.{HoldsRule, ruleIn}
+use Rattle.tables.specs.Meaning.{HoldsRule, ruleIn, KeyLike}
 use Rattle.tables.proofs.Tests.{clash}
 use Rattle.tables.proofs.Limits.{wordsInLimit-within}
 use Rattle.numerals.specs.Bytes.{bytes}
@@ -32,7 +31,7 @@ use Rattle.reading.specs.Reading.{readReply, readTable, readingReturned}
 use Rattle.reading.proofs.Frauds.{reading}
 use Rattle.writing.specs.Writing.{writtenText}
 use Rattle.writing.specs.declared.write.Writing.the-variants.{Text}
-use Rattle.writing.specs.Promises.{KeyLike, FirstPast, lineAt, TextWritten}
+use Rattle.writing.specs.Promises.{FirstPast, lineAt, TextWritten}
 use Rattle.writing.proofs.Frauds.{writing}
 
 -- the key's table: +1-3 has place 11
@@ -124,6 +123,6 @@ large-like = record {
 pub large-past : (out : List ℕ) (m : ℕ) (out' : List ℕ) → TextWritten 3 2 largeKey out (Text m) out' → (t : List ℤ)
     → (readingReturned (readReply (take m out') (length t)) ≡ refusedAs (OutOfLimit 4)) × (readTable (take m out') t ≡ t)
 large-past out m out' w t =
-    let p = w .made refl .past (inr large-like) 11 (large-first .past) t in
+    let p = w .made refl .past (w .made refl .key-short large-like) 11 (large-first .past) t in
     let line : lineAt largeKey (p .place) ≡ 4 = rw (large-place (p .place) (p .first .past .holds)) large-line in
     (rw line at (p .reply), p .kept)

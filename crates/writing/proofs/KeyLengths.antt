@@ -19,11 +19,10 @@ use Rattle.places.proofs.Numbering.{blockStart-mono}
 use Rattle.rules.specs.declared.paper.Paper.the-variants.{Sheet}
 use Rattle.rules.specs.Hidden.{hiddenIn, hiddenCount}
 use Rattle.rules.specs.Limits.{boundLimit, maxQuantities, maxBound, maxText}
-use Rattle.tables.specs.Meaning.{WordsWithin}
+use Rattle.tables.specs.Meaning.{WordsWithin, KeyLike}
 use Rattle.numerals.specs.Decimal.{signedDecimal}
 use Rattle.numerals.proofs.Decimals.{signed-width}
 use Rattle.writing.specs.Writing.{tableRules, writtenText}
-use Rattle.writing.specs.Promises.{KeyLike}
 use Rattle.writing.proofs.Counts.{count-most, visibleCount, rules-visible}
 use Rattle.writing.proofs.Lengths.{NumeralsWithin, longest-counted, sheet-limit, longest-sheet}
 use Rattle.writing.proofs.Lines.{wordWidth}

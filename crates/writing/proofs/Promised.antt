@@ -1,7 +1,7 @@
 -- The reply of writing by its tests, and what is promised from it. Assumes nothing.
 use mathlib.Core.Path.{_≡_, refl, sym, _∙_, ap}
 use mathlib.Core.Bool.{Bool, true, cond}
-use mathlib.Core.Logic.{_↔_, ⊎-elim}
+use mathlib.Core.Logic.{_↔_}
 use mathlib.Core.List.{List, _++_}
 use Prim.Native.Nat.{ℕ, _≤_, _<_}
 use lib.Dec.{leb}
@@ -23,14 +23,14 @@ use Rattle.tables.specs.declared.reply.Reply.{Reply}
 use Rattle.tables.specs.declared.reply.Reply.the-variants.{Done}
 use Rattle.tables.specs.declared.reply.Reply.the-variants.{Refused as NotDone}
 use Rattle.tables.specs.Tables.{serves}
-use Rattle.tables.specs.Meaning.{TableSized}
+use Rattle.tables.specs.Meaning.{TableSized, KeyLike}
 use Rattle.tables.specs.Replies.{isDone, check}
 use Rattle.tables.proofs.Sizes.{serves-sized}
 use Rattle.tables.proofs.Refusing.{Tied, tied-done, tied-more, tied-returned, tied-number, number-done}
 use Rattle.writing.specs.declared.write.Writing.{Writing}
 use Rattle.writing.specs.declared.write.Writing.the-variants.{Text, Refused}
 use Rattle.writing.specs.Writing.{writtenText, writeChecks, textOr, writeReply, written, writingReturned, writingNumber, writingValue}
-use Rattle.writing.specs.Promises.{writeNeeds, KeyLike, TextMade, TextWritten}
+use Rattle.writing.specs.Promises.{writeNeeds, TextMade, TextWritten}
 use Rattle.writing.proofs.Meanings.{AreWords, words-clean, table-meaning}
 use Rattle.writing.proofs.Lengths.{longest-any}
 use Rattle.writing.proofs.KeyLengths.{key-short}
@@ -139,7 +139,7 @@ text-made n set t s w words = record {
   longest = longest-any n set t (s .most) words;
   key-short = short;
   back = λ b. written-back n set t (s .some) (s .most) w b (s .room) (words-clean (blockStart n) t words);
-  past = λ l. written-past n set t (s .some) (s .most) w (⊎-elim (λ m. m) short l);
+  past = λ l. written-past n set t (s .some) (s .most) w l;
 }
   where
     short : KeyLike n set t → length (writtenText n set t) ≤ maxText

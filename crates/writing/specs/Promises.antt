@@ -2,7 +2,7 @@
 -- read back, or refused by the reader where a bound is too large for it.
 use mathlib.Core.Path.{_≡_}
 use mathlib.Core.Bool.{true}
-use mathlib.Core.Logic.{_↔_, _⊎_}
+use mathlib.Core.Logic.{_↔_}
 use mathlib.Core.List.{List, _++_}
 use Prim.Native.Nat.{ℕ, _*_, _+_, _^_, _≤_}
 use lib.IntN.{ℤ, pos}
@@ -15,10 +15,10 @@ use Rattle.rules.specs.declared.refusal.Refusal.{Refusal}
 use Rattle.rules.specs.declared.refusal.Refusal.the-variants.{Size, OutOfLimit, TooShort}
 use Rattle.rules.specs.Refusal.{refusedAs}
 use Rattle.rules.specs.Refusing.{Needs, passed, _or_then_, RefusedBy, AllMet}
-use Rattle.rules.specs.Hidden.{hiddenIn, hiddenCount, setWithin}
+use Rattle.rules.specs.Hidden.{setWithin}
 use Rattle.rules.specs.Limits.{boundLimit, maxRules, maxText}
 use Rattle.rules.specs.Meaning.{Assignment}
-use Rattle.tables.specs.Meaning.{TableSized, HoldsRule, Satisfies, MeetsAll, NamesVisible, WordsWithin}
+use Rattle.tables.specs.Meaning.{TableSized, HoldsRule, Satisfies, MeetsAll, WordsWithin, KeyLike}
 use Rattle.lines.specs.Spelling.{writtenRules}
 use Rattle.reading.specs.declared.read.Reading.the-variants.{Accepted}
 use Rattle.reading.specs.Meaning.{Spells}
@@ -38,7 +38,7 @@ writeNeeds n set t room =
 
 -- ---- how long a text is
 
--- the lines before the rules have at most this many bytes, each rule's line at most this many, and no text more than these make (it is not said to be attained)
+-- no text written is longer than this: so many bytes for the lines before the rules, and so many for each rule's (it is not said to be attained)
 abbrev pub maxHeader : ℕ
 maxHeader = 119
 
@@ -47,11 +47,6 @@ maxLine = 33
 
 abbrev pub maxWritten : ℕ
 maxWritten = maxHeader + maxLine * maxRules
-
--- a table is like a key: its rules name visible quantities alone, and its bounds are a sheet's, doubled at most with each hidden quantity
-pub record KeyLike (n set : ℕ) (table : List ℤ) : Type 0 where
-  pub visible : NamesVisible n (hiddenIn set) table
-  pub growth : WordsWithin (blockStart n) (pos (boundLimit Sheet n set * 2 ^ hiddenCount (hiddenIn set) n)) table
 
 -- ---- a text read again
 
@@ -97,7 +92,7 @@ pub record TextMade (n set : ℕ) (table : List ℤ) (r : Writing) (s : List ℕ
   -- read into any table that is long enough, the text gives the table back, where its words are in the sheet's limit
   pub back : WordsWithin (blockStart n) (pos (boundLimit Sheet n set)) table → (t : List ℤ) → blockStart n ≤ length t → ReadBack n set table s t
   -- where some bound is outside it, and the text not too long to be read, as no key's is, it is refused with 3, whatever table it is read into
-  pub past : (length s ≤ maxText) ⊎ KeyLike n set table → (k : ℕ) → PastLimit n set table k → (t : List ℤ) → RefusedPast n set table s t
+  pub past : length s ≤ maxText → (k : ℕ) → PastLimit n set table k → (t : List ℤ) → RefusedPast n set table s t
 
 -- a table and a hidden set written: refused by the first need that is not met, and then the output stays; else its first bytes, as many as are returned, are the text
 pub record TextWritten (n set : ℕ) (table : List ℤ) (out : List ℕ) (r : Writing) (out' : List ℕ) : Type 0 where

@@ -1,18 +1,23 @@
 -- The exported functions' contracts, from those of the calls. Assumes nothing.
 use mathlib.Core.Path.{_≡_, refl, sym, ap, _∙_}
+use mathlib.Core.Bool.{Bool, true, false}
 use mathlib.Core.Logic.{_↔_}
 use mathlib.Core.List.{List, [], _∷_}
 use Prim.Native.Nat.{ℕ, zero, suc, _<_, _≤_}
 use native.Mathlib.Omega.{arith}
 use lib.IntN.{ℤ}
+use lib.Dec.{leb}
 use lib.ListN.{length}
+use borrow.Author.Tests.{leb-true, leb-false}
 use Rattle.tables.specs.declared.reply.Reply.{Reply}
 use Rattle.keys.specs.Promises.{Keyed, Assigned}
 use Rattle.rules.specs.declared.refusal.Refusal.{Refusal}
 use Rattle.rules.specs.Limits.{maxQuantities}
-use Rattle.rules.specs.Refusal.{refusalNumber, refusalValues, refusalValue, integersOf}
+use Rattle.rules.specs.declared.paper.Paper.the-variants.{Script as OfScript}
+use Rattle.rules.specs.declared.rule.Rule.{Rule}
+use Rattle.rules.specs.Refusal.{refusalNumber, refusalValue}
 use Rattle.rules.proofs.Refusals.{same-refusal-value, refusal-below}
-use Rattle.rules.specs.RuleWords.{ruleValues, ruleIn}
+use Rattle.rules.specs.RuleWords.{ruleIn}
 use Rattle.tables.proofs.Tests.{clash}
 use Rattle.tables.specs.Replies.{replyNumber, replyValue}
 use Rattle.marking.specs.declared.verdict.Verdict.{Verdict}
@@ -25,19 +30,21 @@ use Rattle.scripts.specs.declared.room.Lengths.{Lengths}
 use Rattle.scripts.specs.declared.reply.TextMarking.{TextMarking}
 use Rattle.scripts.specs.declared.reply.TextMarking.the-variants.{Marked}
 use Rattle.scripts.specs.declared.reply.TextMarking.the-variants.{Refused as NotMarked}
-use Rattle.scripts.specs.Replies.{textNumber, textValue, paperNumber, textPaper, TextReturned}
-use Rattle.scripts.specs.Meaning.{AcceptedPair, RefusedPair}
-use Rattle.scripts.specs.Marking.{ownLengths}
-use Rattle.scripts.specs.Promises.{TextsJudged, TextsShown, MarkedInOwnRoom}
-use Rattle.scripts.proofs.Judging.{returned-same}
+use Rattle.scripts.specs.Replies.{textNumber, textRule, textValue, paperNumber, textPaper}
+use Rattle.scripts.specs.Marking.{textsReply, countIn}
+use Rattle.scripts.specs.Meaning.{AcceptedPair, RefusedPair, ownLengths}
+use Rattle.scripts.specs.Promises.{PairJudged, TextsJudged, MarkedInOwnRoom}
+use Rattle.scripts.proofs.Judging.{texts-refused}
+use Rattle.scripts.proofs.OwnRoom.{same-reply}
 use Rattle.reading.specs.declared.read.Reading.{Reading}
 use Rattle.reading.specs.declared.read.Reading.the-variants.{Accepted, Refused}
 use Rattle.reading.specs.Reading.{readingNumber, readingValue}
+use Rattle.reading.specs.Meaning.{Readable}
 use Rattle.reading.specs.Promises.{ReadInto}
 use Rattle.writing.specs.declared.write.Writing.{Writing}
 use Rattle.writing.specs.Writing.{writingNumber, writingValue}
 use Rattle.writing.specs.Promises.{TextWritten}
-use Rattle.acornsled.specs.Promises.{KeyAnswer, AssignmentAnswer, ReadAnswer, WriteAnswer, RefusedWith, MarkAnswer, countRead, setRead, countMarked, ruleMarked, Told, MarkTextsAnswer}
+use Rattle.acornsled.specs.Promises.{KeyAnswer, AssignmentAnswer, ReadAnswer, WriteAnswer, RefusedWith, MarkAnswer, countRead, setRead, hostReply, countMarked, ruleMarked, Told, MarkTextsAnswer}
 
 pub key-answer : (n set : ℕ) (t w t' w' : List ℤ) (reply : Reply) (r v : ℕ) → Keyed n set t w reply t' w' → r ≡ replyNumber reply → v ≡ replyValue reply
     → KeyAnswer n set t w r v t' w'
@@ -78,16 +85,20 @@ read-accepted s t t' n set n' set' reply v k q d =
 -- ---- marking
 
 -- a reply's number below 100 is a refusal's
-refused-number : (sheet script : List ℕ) (r : TextMarking) → TextsJudged sheet script (ownLengths maxQuantities) r
+refused-number : (sheet script : List ℕ) (r : TextMarking) → r ≡ textsReply sheet script (ownLengths maxQuantities)
     → (k : ℕ) → k < 100 → (textNumber r ≡ k) ↔ RefusedWith sheet script k
-refused-number sheet script r j k h = (told r j, λ w. j .refused (w .paper) (w .refusal) .1 (w .reason) .0 ∙ sym (w .number))
+refused-number sheet script r j k h = (
+  told r j,
+  λ w. ap textNumber (j ∙ texts-refused sheet script (ownLengths maxQuantities) (w .paper) (w .refusal) .1 (w .reason)) ∙ sym (w .number),
+)
   where
-    told : (x : TextMarking) → TextsJudged sheet script (ownLengths maxQuantities) x → textNumber x ≡ k → RefusedWith sheet script k
+    told : (x : TextMarking) → x ≡ textsReply sheet script (ownLengths maxQuantities) → textNumber x ≡ k → RefusedWith sheet script k
     told (Marked n v) i e = absurd (omega (arith, verdict-from v))
-    told (NotMarked p f) i e = record { paper = p; refusal = f; reason = i .refused p f .0 (refl, refl, refl); number = sym e }
+    told (NotMarked p f) i e =
+        record { paper = p; refusal = f; reason = texts-refused sheet script (ownLengths maxQuantities) p f .0 (sym i); number = sym e }
 
 -- a number from 100 on is a verdict's, exactly where both texts are accepted
-reply-accepted : {sheet script : List ℕ} {lent : Lengths} (r : TextMarking) → TextsJudged sheet script lent r
+reply-accepted : {sheet script : List ℕ} {lent : Lengths} {values : List ℤ} (r : TextMarking) → TextsJudged sheet script lent r values
     → (100 ≤ textNumber r) ↔ AcceptedPair sheet script lent
 reply-accepted (Marked n v) j = (λ h. j .accepted .0 refl, λ t. verdict-from v)
 reply-accepted (NotMarked w f) j = (λ h. absurd (omega (arith, refusal-below f)), λ t. clash (j .accepted .1 t) refl)
@@ -96,14 +107,14 @@ reply-accepted (NotMarked w f) j = (λ h. absurd (omega (arith, refusal-below f)
 pub mark-answer : (sheet script : List ℕ) (values values' : List ℤ) (reply : TextMarking) (r : ℕ) → MarkedInOwnRoom sheet script values reply values'
     → length values ≡ maxQuantities → r ≡ textNumber reply → MarkAnswer sheet script r
 mark-answer sheet script values values' reply r m h e =
-    let j : TextsJudged sheet script (ownLengths maxQuantities) reply = rw h at (m .judged) in
+    let j : TextsJudged sheet script (ownLengths maxQuantities) reply values' = rw h at (m .judged) in
     record {
       number = e ∙ ap textNumber (j .reply);
-      refused = rw e (refused-number sheet script reply j);
+      refused = rw e (refused-number sheet script reply (j .reply));
       accepted = rw e (reply-accepted reply j);
-      demand = rw e (j .demand);
-      never = rw e (m .never, λ six. let s = m .short .0 six in omega (arith, h, s .1, m .most));
-      judged = rw (j .reply) at j;
+      never = rw e (j .never, λ six. let s = m .short .0 six in omega (arith, h, s .1, m .most));
+      values = values';
+      judged = λ t. rw (e, ← j .reply) (j .judged t);
     }
 
 -- ---- marking with the reasons
@@ -129,49 +140,66 @@ abbrev ToldAs : TextMarking → Subject → Refusal → Type 0
 ToldAs r w f = (textNumber r ≡ refusalNumber f) × (textPaper r ≡ paperNumber w) × (textValue r ≡ refusalValue f)
 
 -- exactly where it is
-told-refused : (sheet script : List ℕ) (lent : Lengths) (r : TextMarking) → TextsJudged sheet script lent r → (w : Subject) (f : Refusal)
+told-refused : (sheet script : List ℕ) (lent : Lengths) (r : TextMarking) → r ≡ textsReply sheet script lent → (w : Subject) (f : Refusal)
     → ToldAs r w f ↔ RefusedPair sheet script lent w f
-told-refused sheet script lent r j w f = (there r j, λ a. back r (j .refused w f .1 a))
+told-refused sheet script lent r j w f = (λ e. texts-refused sheet script lent w f .0 (sym j ∙ there r e), λ a. back (j ∙ texts-refused sheet script lent w f .1 a))
   where
-    there : (x : TextMarking) → TextsJudged sheet script lent x → ToldAs x w f → RefusedPair sheet script lent w f
-    there (Marked n v) i e = absurd (omega (arith, e .0, verdict-from v, refusal-below f))
-    there (NotMarked u g) i e =
-        let s = same-paper u w (e .1) in
-        let t = same-refusal-value g f (e .0) (e .2) in
-        rw (sym s, sym t) (i .refused u g .0 (refl, refl, refl))
+    there : (x : TextMarking) → ToldAs x w f → x ≡ NotMarked w f
+    there (Marked n v) e = absurd (omega (arith, e .0, verdict-from v, refusal-below f))
+    there (NotMarked u g) e = rw (same-paper u w (e .1), same-refusal-value g f (e .0) (e .2))
 
-    back : (x : TextMarking) → TextReturned x (refusalNumber f) (integersOf (refusalValues f)) (w ∷ []) → ToldAs x w f
-    back (Marked n v) e = absurd (omega (arith, e .0, verdict-from v, refusal-below f))
-    back (NotMarked u g) e = let t = returned-same u w g f e in (e .0, ap paperNumber (t .0), ap refusalValue (t .1))
+    back : r ≡ NotMarked w f → ToldAs r w f
+    back e = (ap textNumber e, ap textPaper e, ap textValue e)
 
 -- a verdict is told with the sheet's n
-told-count : {sheet script : List ℕ} {lent : Lengths} (before : ℕ) (r : TextMarking) → TextsJudged sheet script lent r
+told-count : {sheet script : List ℕ} {lent : Lengths} {values : List ℤ} (before : ℕ) (r : TextMarking) → TextsJudged sheet script lent r values
     → (t : AcceptedPair sheet script lent) → countMarked before r ≡ t .of-sheet .count
 told-count before (Marked n v) j t = let e = j .counts t in cc
 told-count before (NotMarked w f) j t = clash (j .accepted .1 t) refl
 
 -- the words that come with a loose or tight verdict are of the rule that it carries
-told-rule : (before : List ℤ) (r : TextMarking) (k : ℕ) → textNumber r ≡ k → 100 < k
-    → TextReturned r k (ruleValues (ruleIn (ruleMarked before r))) []
+told-rule : (before : List ℤ) (r : TextMarking) (k : ℕ) → textNumber r ≡ k → 100 < k → ruleIn (ruleMarked before r) ≡ textRule r
 told-rule before (Marked n Equal) k e h = absurd (omega (arith, e))
-told-rule before (Marked n (Loose rule)) k e h = (e, ap ruleValues (sym (words-rule rule)), refl)
-told-rule before (Marked n (Tight rule)) k e h = (e, ap ruleValues (sym (words-rule rule)), refl)
+told-rule before (Marked n (Loose rule)) k e h = words-rule rule
+told-rule before (Marked n (Tight rule)) k e h = words-rule rule
 told-rule before (NotMarked w f) k e h = absurd (omega (arith, e, refusal-below f))
 
+-- what a verdict means it means with another name of its rule
+judged-rule : {sheet script : List ℕ} {lent : Lengths} (t : AcceptedPair sheet script lent) (number : ℕ) (r s : Rule) (values : List ℤ)
+    → (number ≡ 101 → s ≡ r) → (number ≡ 102 → s ≡ r) → PairJudged t number r values → PairJudged t number s values
+judged-rule t number r s values l h j = record {
+  members = j .members;
+  sheet-table = j .sheet-table;
+  script-table = j .script-table;
+  means = record {
+    demand = j .means .demand;
+    visibles = j .means .visibles;
+    key = j .means .key;
+    loose = λ e. rw (l e) (j .means .loose e);
+    tight = λ e. rw (h e) (j .means .tight e);
+  };
+}
+
 -- what a host is told of a reply
-reply-told : (sheet script : List ℕ) (lent : Lengths) (reply : TextMarking) (n : ℕ) (rule values : List ℤ) → TextsJudged sheet script lent reply
-    → TextsShown sheet script lent reply values
+reply-told : (sheet script : List ℕ) (lent : Lengths) (reply : TextMarking) (n : ℕ) (rule values : List ℤ) → TextsJudged sheet script lent reply values
     → Told sheet script lent (textNumber reply) (textPaper reply) (textValue reply) (countMarked n reply) (ruleMarked rule reply) values
-reply-told sheet script lent reply n rule values j s =
-    let x = ruleIn (ruleMarked rule reply) in
-    record {
-      refused = told-refused sheet script lent reply j;
-      accepted = reply-accepted reply j;
-      count = told-count n reply j;
-      demand = j .demand;
-      loose = λ t e. let w = told-rule rule reply 101 e (omega arith) in (j .loose-rule t x w, s .loose-shown t x w);
-      tight = λ t e. let w = told-rule rule reply 102 e (omega arith) in (j .tight-rule t x w, s .tight-shown t x w);
-    }
+reply-told sheet script lent reply n rule values j = record {
+  refused = told-refused sheet script lent reply (j .reply);
+  accepted = reply-accepted reply j;
+  count = told-count n reply j;
+  judged = λ t. judged-rule t (textNumber reply) (textRule reply) (ruleIn (ruleMarked rule reply)) values
+      (λ e. told-rule rule reply 101 e (omega arith)) (λ e. told-rule rule reply 102 e (omega arith)) (j .judged t);
+}
+
+-- marking without the reasons gives the same number, where the assignment is not too short
+agreeing : (sheet script : List ℕ) (values values' : List ℤ) (reply : TextMarking) → MarkedInOwnRoom sheet script values reply values'
+    → ((textNumber reply ≡ 6) → ⊥) → textNumber reply ≡ textNumber (hostReply sheet script maxQuantities)
+agreeing sheet script values values' reply m six =
+    ap textNumber (m .judged .reply ∙ same-reply sheet script (length values) maxQuantities (λ d. long d (leb (countIn sheet) (length values)) refl) (λ d. m .most))
+  where
+    long : Readable OfScript script → (b : Bool) → leb (countIn sheet) (length values) ≡ b → countIn sheet ≤ length values
+    long d true e = leb-true (countIn sheet) (length values) e
+    long d false e = absurd (six (m .short .1 (d, leb-false (countIn sheet) (length values) e)))
 
 -- a reply's numbers and words
 mark-texts-answer : (sheet script : List ℕ) (n n' : ℕ) (rule rule' values values' : List ℤ) (reply : TextMarking) (r p v : ℕ)
@@ -186,12 +214,12 @@ mark-texts-answer sheet script n n' rule rule' values values' reply r p v m e w 
       count = c ∙ ap (countMarked n) (j .reply);
       words = u ∙ ap (ruleMarked rule) (j .reply);
       written = rw (j .reply) at (m .written);
-      counted = m .count;
-      told = rw (e, w, d, c, u) (reply-told sheet script (ownLengths (length values)) reply n rule values' j (m .shown));
-      never = rw e (m .never);
+      counted = j .count;
+      told = rw (e, w, d, c, u) (reply-told sheet script (ownLengths (length values)) reply n rule values' j);
+      never = rw e (j .never);
       short = rw e (m .short);
       needed = rw (e, d) (m .needed);
-      judged = rw (j .reply) at j;
+      agrees = λ h. e ∙ agreeing sheet script values values' reply m (rw e at h);
     }
 
 -- a refusal leaves n and the rule's words

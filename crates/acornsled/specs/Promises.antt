@@ -6,8 +6,8 @@ use Prim.Native.Nat.{ℕ, _<_, _≤_}
 use lib.IntN.{ℤ}
 use lib.ListN.{length}
 use Rattle.words.specs.Lent.{Lent}
+use Rattle.rules.specs.declared.paper.Paper.the-variants.{Sheet, Script}
 use Rattle.rules.specs.declared.refusal.Refusal.{Refusal}
-use Rattle.rules.specs.Hidden.{hiddenIn}
 use Rattle.rules.specs.Limits.{maxQuantities}
 use Rattle.rules.specs.Refusal.{refusalNumber, refusalValue}
 use Rattle.rules.specs.RuleWords.{ruleIn}
@@ -15,13 +15,12 @@ use Rattle.tables.specs.Replies.{replyNumber, replyValue}
 use Rattle.keys.specs.Keys.{keyReply, assignmentReply}
 use Rattle.keys.specs.Promises.{Keyed, Assigned}
 use Rattle.marking.specs.Verdicts.{carriedWords}
-use Rattle.marking.specs.Meaning.{ByDemand, LooseRule, TightRule, LooseShown, TightShown}
 use Rattle.reading.specs.declared.read.Reading.{Reading}
 use Rattle.reading.specs.declared.read.Reading.the-variants.{Accepted, Refused}
 use Rattle.reading.specs.Reading.{readReply, readingNumber, readingValue}
 use Rattle.reading.specs.Promises.{ReadInto}
 use Rattle.reading.specs.Texts.{Contents}
-use Rattle.reading.specs.Meaning.{rulesOf}
+use Rattle.reading.specs.Meaning.{Reads, Readable}
 use Rattle.writing.specs.Writing.{writeReply, writingNumber, writingValue}
 use Rattle.writing.specs.Promises.{TextWritten}
 use Rattle.scripts.specs.declared.reply.Subject.{Subject}
@@ -29,10 +28,10 @@ use Rattle.scripts.specs.declared.room.Lengths.{Lengths}
 use Rattle.scripts.specs.declared.reply.TextMarking.{TextMarking}
 use Rattle.scripts.specs.declared.reply.TextMarking.the-variants.{Marked}
 use Rattle.scripts.specs.declared.reply.TextMarking.the-variants.{Refused as NotMarked}
-use Rattle.scripts.specs.Replies.{textNumber, textValue, textPaper, paperNumber, isTextShown}
-use Rattle.scripts.specs.Meaning.{setIn, tableIn, Reads, Readable, AcceptedPair, RefusedPair}
-use Rattle.scripts.specs.Marking.{textsReply, countIn, ownLengths}
-use Rattle.scripts.specs.Promises.{TextsJudged}
+use Rattle.scripts.specs.Replies.{textNumber, textRule, textValue, textPaper, paperNumber, isTextShown}
+use Rattle.scripts.specs.Meaning.{AcceptedPair, RefusedPair, ownLengths}
+use Rattle.scripts.specs.Marking.{textsReply, countIn}
+use Rattle.scripts.specs.Promises.{PairJudged}
 
 -- n or the hidden set after reading: that of the text where it is accepted, else as it was
 abbrev pub countRead : ℕ → Reading → ℕ
@@ -85,15 +84,14 @@ pub record RefusedWith (sheet script : List ℕ) (k : ℕ) : Type 0 where
 -- marking two texts, for the exam host: its number r is that of the reply with room enough lent, a verdict's or a refusal's
 pub record MarkAnswer (sheet script : List ℕ) (r : ℕ) : Type 0 where
   pub number : r ≡ textNumber (hostReply sheet script maxQuantities)
-  -- a refusal's number exactly for these reasons, a verdict's exactly where both texts are accepted, and by demand 3, of the rules as written
+  -- a refusal's number exactly for these reasons, a verdict's exactly where both texts are accepted
   pub refused : (k : ℕ) → k < 100 → (r ≡ k) ↔ RefusedWith sheet script k
   pub accepted : (100 ≤ r) ↔ AcceptedPair sheet script (ownLengths maxQuantities)
-  pub demand : (t : AcceptedPair sheet script (ownLengths maxQuantities))
-      → ByDemand (hiddenIn (setIn (t .of-sheet))) (rulesOf (t .of-sheet)) (rulesOf (t .of-script)) r
   -- there is room for every sheet, so 6 does not come, and 5 is no reply of marking
   pub never : ((r ≡ 5) → ⊥) × ((r ≡ 6) → ⊥)
-  -- what the reply promises beside
-  pub judged : TextsJudged sheet script (ownLengths maxQuantities) (hostReply sheet script maxQuantities)
+  -- the number means what demand 3 says; the rule of the verdict and an assignment that shows it are not told
+  pub values : List ℤ
+  pub judged : (t : AcceptedPair sheet script (ownLengths maxQuantities)) → PairJudged t r (textRule (hostReply sheet script maxQuantities)) values
 
 -- n after marking: with a verdict the sheet's, else as it was
 abbrev pub countMarked : ℕ → TextMarking → ℕ
@@ -110,18 +108,11 @@ pub record Told (sheet script : List ℕ) (lent : Lengths) (r p v n : ℕ) (rule
   -- a refusal's number, with this paper and this line or length, exactly for these reasons
   pub refused : (w : Subject) (f : Refusal)
       → ((r ≡ refusalNumber f) × (p ≡ paperNumber w) × (v ≡ refusalValue f)) ↔ RefusedPair sheet script lent w f
-  -- a verdict's exactly where both texts are accepted, with the sheet's n, and by demand 3, of the rules as written
+  -- a verdict's exactly where both texts are accepted, with the sheet's n
   pub accepted : (100 ≤ r) ↔ AcceptedPair sheet script lent
   pub count : (t : AcceptedPair sheet script lent) → n ≡ t .of-sheet .count
-  pub demand : (t : AcceptedPair sheet script lent)
-      → ByDemand (hiddenIn (setIn (t .of-sheet))) (rulesOf (t .of-sheet)) (rulesOf (t .of-script)) r
-  -- the rule of a loose or tight verdict is the one of these words, and the assignment shows the verdict and breaks it
-  pub loose : (t : AcceptedPair sheet script lent) → r ≡ 101
-      → LooseRule (hiddenIn (setIn (t .of-sheet))) (t .of-sheet .count) (tableIn (t .of-sheet)) (rulesOf (t .of-script)) (ruleIn rule)
-      × LooseShown (t .of-sheet .count) (hiddenIn (setIn (t .of-sheet))) (rulesOf (t .of-sheet)) (rulesOf (t .of-script)) (ruleIn rule) values
-  pub tight : (t : AcceptedPair sheet script lent) → r ≡ 102
-      → TightRule (t .of-sheet .count) (rulesOf (t .of-sheet)) (tableIn (t .of-script)) (ruleIn rule)
-      × TightShown (t .of-sheet .count) (hiddenIn (setIn (t .of-sheet))) (rulesOf (t .of-sheet)) (rulesOf (t .of-script)) (ruleIn rule) values
+  -- it means what demand 3 says; the rule of a loose or tight verdict is the one of these words, and the assignment shows the verdict and breaks it
+  pub judged : (t : AcceptedPair sheet script lent) → PairJudged t r (ruleIn rule) values
 
 -- marking two texts with the reasons: n, the rule's words and the assignment before the call, then the number r, the paper p and the line or length v, and the
 -- same three after it
@@ -133,11 +124,11 @@ pub record MarkTextsAnswer (sheet script : List ℕ) (n : ℕ) (rule values : Li
   pub words : rule' ≡ ruleMarked rule (hostReply sheet script (length values))
   -- the assignment is written for loose and tight alone, so many words of it as the sheet's n
   pub written : Lent (countIn sheet) (isTextShown (hostReply sheet script (length values))) values values'
-  pub counted : (c : Contents) → Reads sheet c → countIn sheet ≡ c .count
+  pub counted : (c : Contents) → Reads Sheet sheet c → countIn sheet ≡ c .count
   pub told : Told sheet script (ownLengths (length values)) r p v n' rule' values'
   -- 5 is no reply of marking; 6 exactly where both texts are fine and the assignment is shorter than the sheet's n, which is the length needed
   pub never : (r ≡ 5) → ⊥
-  pub short : (r ≡ 6) ↔ (Readable script × (length values < countIn sheet))
+  pub short : (r ≡ 6) ↔ (Readable Script script × (length values < countIn sheet))
   pub needed : (r ≡ 6) → v ≡ countIn sheet
-  -- what the reply promises beside
-  pub judged : TextsJudged sheet script (ownLengths (length values)) (hostReply sheet script (length values))
+  -- any other number is that of marking without the reasons
+  pub agrees : ((r ≡ 6) → ⊥) → r ≡ textNumber (hostReply sheet script maxQuantities)

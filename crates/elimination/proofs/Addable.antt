@@ -9,8 +9,7 @@ use Rattle.integers.proofs.Parts.{word-value}
 use Rattle.integers.proofs.Within.{sum-word}
 use Rattle.tables.specs.Tables.{hasRule}
 use Rattle.tables.proofs.Tests.{clash}
-use Rattle.elimination.specs.Rows.{noneHeld}
-use Rattle.elimination.specs.Promises.{Addable}
+use Rattle.elimination.specs.Inner.{Addable, noneHeld}
 
 -- the sum of two addable words that hold rules is a word
 pub sum-fits : (a b : ℤ) → Addable a → Addable b → hasRule a ≡ true → hasRule b ≡ true → SFits w64 (a +ℤ b)

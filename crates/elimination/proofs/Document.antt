@@ -22,10 +22,10 @@ use Rattle.rules.specs.Limits.{noRule}
 use Rattle.rules.specs.Literal.{quantityOf}
 use Rattle.rules.specs.Meaning.{boundOf, names}
 use Rattle.rules.specs.Steps.{partnerOf}
-use Rattle.tables.specs.Places.{placeOf, findPlace, HasPlace}
+use Rattle.tables.specs.Places.{findPlace, HasPlace}
 use Rattle.tables.specs.Tables.{hasRule}
 use Rattle.tables.specs.Meaning.{ruleIn}
-use Rattle.tables.proofs.Places.{hasPlace-found, hasPlace-below, names-bound, place-names}
+use Rattle.tables.proofs.Places.{placeOf, hasPlace-found, hasPlace-below, names-bound, place-names}
 use Rattle.tables.proofs.Without.{cleared-word}
 use Rattle.elimination.specs.Hiding.{pairWord, loneWord, paired, contradicts, eliminated}
 use Rattle.elimination.specs.ByRules.{RuleWith, IsSum, SumAt, BareSum, HiddenByRules}

@@ -27,12 +27,13 @@ use Rattle.elimination.specs.Hiding.{pairWord, loneWord}
 use Rattle.elimination.specs.Choosing.{choice}
 use Rattle.elimination.specs.Feasible.{MeetsOwn, Feasible}
 use Rattle.elimination.specs.Magnitude.{Past}
-use Rattle.elimination.specs.Promises.{Ready, Chosen}
+use Rattle.elimination.specs.Promises.{Chosen}
 use Rattle.elimination.proofs.Projection.{Own, own-sums, sums-own, chosen-near}
 use Rattle.elimination.proofs.TermWords.{pair-first, lone-at, pair-at}
 use Rattle.elimination.proofs.Terms.{rule-one, rule-two, lone-met, pair-met, place-named, place-unnamed}
 use Rattle.elimination.proofs.Terms.{OwnMet, own-met, literal-agree, own-agree}
 use Rattle.elimination.proofs.Exact.{joined-own, joined-other}
+use Rattle.elimination.specs.Inner.{Ready}
 
 -- ---- from the rules of places to those of the quantity's literals and back
 

@@ -12,6 +12,7 @@ pub mod Growth
 pub mod Unnamed
 pub mod DocumentTerms
 pub mod Document
+pub mod SumOver
 pub mod Values
 pub mod Addable
 pub mod Rows

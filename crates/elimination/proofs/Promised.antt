@@ -16,11 +16,13 @@ use Rattle.tables.specs.Tables.{clearReply}
 use Rattle.tables.specs.Promises.{Cleared}
 use Rattle.tables.proofs.Sizes.{long-serves}
 use Rattle.elimination.specs.Hiding.{eliminated}
-use Rattle.elimination.specs.Promises.{Ready, Paired, QuantityHidden}
+use Rattle.elimination.specs.Promises.{Paired, QuantityHidden}
 use Rattle.elimination.proofs.Step.{Adds, paired-length}
 use Rattle.elimination.proofs.Exact.{eliminate-exact, eliminate-none}
 use Rattle.elimination.proofs.Growth.{eliminated-within}
 use Rattle.elimination.proofs.Document.{by-rules}
+use Rattle.elimination.proofs.SumOver.{sums-over}
+use Rattle.elimination.specs.Inner.{Ready}
 
 clear-done : (n j words : ℕ) → j < n → n ≤ maxQuantities → blockStart n ≤ words → clearReply n words (suc j) ≡ Done
 unfolding clearReply
@@ -33,6 +35,7 @@ hidden-done n j t u v r reply s p c = record {
   reply = p .reply;
   table = table;
   rules = by-rules n j t (s .room) (s .one) v r (p .reply) table;
+  sums = sums-over n j t (s .words);
   growth = λ B w. rw table (eliminated-within n j B t (s .room) (s .one) w);
   meaning = λ e σ. rw table (eliminate-exact n j 4611686018427387903 t σ adds (s .one) (sym (p .reply) ∙ e));
   none = λ e σ. eliminate-none n j t σ (s .room) (s .one) (sym (p .reply) ∙ e);

@@ -19,9 +19,8 @@ use Rattle.rules.specs.Limits.{noRule}
 use Rattle.tables.proofs.Tests.{clash}
 use Rattle.elimination.specs.Hiding.{pairWord}
 use Rattle.elimination.specs.Magnitude.{addLimit}
-use Rattle.elimination.specs.Rows.{gathering}
-use Rattle.elimination.specs.Promises.{Addable, Ready, Row}
 use Rattle.elimination.proofs.TermWords.{pair-within}
+use Rattle.elimination.specs.Inner.{Addable, Ready, Row, gathering}
 
 -- ---- the words of a row
 

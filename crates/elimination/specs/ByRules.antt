@@ -27,7 +27,8 @@ pub record RuleWith (n z : ℕ) (t : List ℤ) (r : Rule) : Type 0 where
   pub stands : Stands z r
 
 -- 'every rule with +q is added to every rule with -q, q drops out, and the sum is halved where its two remaining terms are alike, or is
--- a bare 0 ≤ c where nothing remains or the rest cancels': u is such a sum, q being quantity j + 1. Its bound is over unbounded integers
+-- a bare 0 ≤ c where nothing remains or the rest cancels': u is such a sum, q being quantity j + 1. Its bound is over unbounded integers; where it is a word, u is
+-- what the rule's own method hands back, `sumOver` (`QuantityHidden.sums`)
 pub record IsSum (n j : ℕ) (t : List ℤ) (u : Rule) : Type 0 where
   pub plus : Rule
   pub minus : Rule

@@ -4,7 +4,7 @@ ghost use mathlib.Core.Path.{_≡_};
 ghost use Prim.Native.Nat.{_*_, _≤_};
 ghost use Rattle.words.specs.Change.{wordAt};
 ghost use Rattle.elimination.specs.Hiding.{anyBare};
-ghost use Rattle.elimination.specs.Promises.{Row};
+ghost use Rattle.elimination.specs.Inner.{Row};
 
 // Whether the bare sum of a literal and its negation, past the first `from` quantities, is a contradiction for one of `n` quantities.
 pub(crate) fn is_any_bare_below(n: usize, from: usize, plus: &[i64], minus: &[i64]) -> bool

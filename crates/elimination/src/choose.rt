@@ -8,7 +8,8 @@ ghost use Rattle.words.specs.Change.{wordAt};
 ghost use Rattle.rules.specs.Meaning.{literalValue};
 ghost use Rattle.tables.specs.Meaning.{assignmentOf};
 ghost use Rattle.elimination.specs.Choosing.{withUpper, boundedIn};
-ghost use Rattle.elimination.specs.Promises.{Addable, Choosable, Valued, Ready, Chosen};
+ghost use Rattle.elimination.specs.Promises.{Chosen};
+ghost use Rattle.elimination.specs.Inner.{Addable, Choosable, Valued, Ready};
 
 // The value of the literal `x`.
 fn literal_value(values: &[i64], x: usize) -> i64

@@ -1,6 +1,7 @@
 // Hiding one quantity: the pairing of its rules, then the clearing of its places.
 use crate::pair;
-ghost use Rattle.elimination.specs.Promises.{Ready, QuantityHidden};
+ghost use Rattle.elimination.specs.Promises.{QuantityHidden};
+ghost use Rattle.elimination.specs.Inner.{Ready};
 
 // Hides quantity `j + 1` and answers whether a bare sum is a contradiction.
 pub fn hide(n: usize, table: &mut [i64], j: usize) -> bool

@@ -11,7 +11,8 @@ ghost use Rattle.words.specs.Change.{wordAt};
 ghost use Rattle.places.specs.Numbering.{blockStart};
 ghost use Rattle.rules.specs.Limits.{maxQuantities};
 ghost use Rattle.elimination.specs.Hiding.{withSum, withHalf};
-ghost use Rattle.elimination.specs.Promises.{Addable, Ready, Row, TwosPaired, BlockReady, BlockPaired, BlocksReady, BlocksPaired, Paired};
+ghost use Rattle.elimination.specs.Promises.{Paired};
+ghost use Rattle.elimination.specs.Inner.{Addable, Ready, Row, BlockReady, BlockPaired, BlocksReady, BlocksPaired, TwosPaired};
 
 // The words of a row: one for each literal.
 const ROW: usize = 2 * Sheet::MAX_QUANTITIES;

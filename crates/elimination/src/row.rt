@@ -6,7 +6,7 @@ ghost use lib.ListN.{length};
 ghost use Rattle.places.specs.Numbering.{blockStart};
 ghost use Rattle.rules.specs.Limits.{maxQuantities};
 ghost use Rattle.elimination.specs.Hiding.{pairWord as Hiding·pairWord};
-ghost use Rattle.elimination.specs.Promises.{Gatherable, RowGathered};
+ghost use Rattle.elimination.specs.Inner.{Gatherable, RowGathered};
 
 // The bound of the term of literals `z` and `x`; two of one quantity have no term together.
 pub(crate) fn pair_word(n: usize, table: &[i64], z: usize, x: usize) -> i64

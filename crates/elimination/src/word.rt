@@ -2,8 +2,7 @@
 use rules::sheet::Sheet;
 ghost use mathlib.Core.Path.{_≡_};
 ghost use Rattle.elimination.specs.Hiding.{withSum, withHalf, bareBelow};
-ghost use Rattle.elimination.specs.Rows.{noneHeld};
-ghost use Rattle.elimination.specs.Promises.{Addable};
+ghost use Rattle.elimination.specs.Inner.{Addable, noneHeld};
 
 // `w` with the sum of two bounds put in by minimum; `w` where either is no rule.
 pub(crate) fn with_sum(a: i64, b: i64, w: i64) -> i64

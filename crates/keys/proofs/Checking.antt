@@ -16,6 +16,7 @@ use Rattle.rules.specs.declared.refusal.Refusal.{Refusal}
 use Rattle.rules.specs.declared.refusal.Refusal.the-variants.{Size, OutOfLimit, NoAssignment, TooShort}
 use Rattle.rules.specs.Hidden.{setWithin}
 use Rattle.rules.specs.Limits.{boundLimit}
+use Rattle.rules.specs.Refusing.{Needs, passed, _or_then_}
 use Rattle.tables.specs.declared.reply.Reply.{Reply}
 use Rattle.tables.specs.declared.reply.Reply.the-variants.{Done, Refused}
 use Rattle.tables.specs.Tables.{tableSize, serves}
@@ -23,9 +24,10 @@ use Rattle.tables.specs.Meaning.{TableSized, Satisfiable, Unsatisfiable}
 use Rattle.tables.specs.Promises.{InLimit}
 use Rattle.tables.proofs.Tests.{both-true, refused-done, clash}
 use Rattle.tables.proofs.Limits.{wordsInLimit-within}
-use Rattle.tables.proofs.Sizes.{serves-sized, serves-tells}
-use Rattle.tables.proofs.Refusing.{Tied, tied-done, tied-more}
-use Rattle.keys.specs.Keys.{every, refuted, boundsInLimit, keyReply, assignmentReply}
+use Rattle.tables.proofs.Sizes.{serves-sized, serves-tells, size-known}
+use Rattle.tables.proofs.Refusing.{Tied, tied-done, tied-more, Before, before-none, before-more}
+use Rattle.tables.specs.Replies.{check}
+use Rattle.keys.specs.Keys.{every, refuted, boundsInLimit, lentChecks, keyReply, assignmentReply}
 use Rattle.keys.specs.Inner.{Fits, KeyChecked, AssignmentChecked}
 use Rattle.keys.specs.Meaning.{BoundsWithin, NumbersWithin, keyNeeds, assignmentNeeds}
 use Rattle.keys.proofs.Several.{refuted-false}
@@ -51,10 +53,6 @@ pub bounds-test : (paper : Paper) (n set m : ℕ) (limit : ℤ) (t : List ℤ) (
     → InLimit m limit t r → boundsInLimit paper n set t ≡ r
 bounds-test paper n set m limit t r s l i = sym (rw (s, l) at (i .reply))
 
-pub limit-test : (paper : Paper) (n set m : ℕ) (limit : ℤ) (t : List ℤ) (r : Bool) → serves n (length t) ≡ true → m ≡ tableSize n
-    → limit ≡ pos (boundLimit paper n set) → InLimit m limit t r → boundsInLimit paper n set t ≡ r
-limit-test paper n set m limit t r e d l i = bounds-test paper n set m limit t r (d ∙ serves-tells n (length t) e .size) l i
-
 -- 'no assignment' is decided
 module _ (n set : ℕ) (t : List ℤ) (s : TableSized n (length t)) (b : BoundsWithin Sheet n set t) where
   pub checked-fits : Fits n t
@@ -74,94 +72,118 @@ module _ (n set : ℕ) (t : List ℤ) (s : TableSized n (length t)) (b : BoundsW
       back x true e = absurd (decided-none .0 e (x .assignment) (x .satisfies))
       back x false e = refl
 
+-- ---- a table and a workspace
+
+module _ (n words w : ℕ) where
+  pub lent-size : serves n words ≡ false → Refused Size ≡ lentChecks n words w Done
+  unfolding lentChecks
+  lent-size e = rw e
+
+  module _ (m : ℕ) (e : serves n words ≡ true) (d : m ≡ tableSize n) where
+    size : m ≡ blockStart n
+    size = d ∙ serves-tells n words e .size
+
+    pub lent-short : w < m → Refused (TooShort m) ≡ lentChecks n words w Done
+    unfolding lentChecks
+    lent-short h = rw (e, lt-leb (blockStart n) w (omega (arith, size)), size)
+
+    pub lent-done : m ≤ w → Done ≡ lentChecks n words w Done
+    unfolding lentChecks
+    lent-done h = rw (e, le-leb (blockStart n) w (omega (arith, size)))
+
+  -- the same checks before others, and what it tells that they pass
+  lent-before : Before (lentChecks n words w)
+  unfolding lentChecks
+  lent-before =
+      before-more (serves n words) Size (λ next. check (leb (blockStart n) w) (TooShort (blockStart n)) next)
+      (before-more (leb (blockStart n) w) (TooShort (blockStart n)) (λ next. next) before-none)
+
+  lent-tied : (rest : Needs) (next : Reply) → (TableSized n words → Tied rest next)
+      → Tied (TableSized n words or Size then (blockStart n ≤ w) or TooShort (blockStart n) then rest) (lentChecks n words w next)
+  unfolding lentChecks
+  lent-tied rest next t = tied-more _ _ _ _ _ (serves-sized n words) (λ s. tied-more _ _ _ _ _ (length-test (blockStart n) w) (λ l. t s))
+
+  lent-tells : lentChecks n words w Done ≡ Done → TableSized n words × (blockStart n ≤ w)
+  lent-tells e = go (lent-tied passed Done (λ s. tied-done) .passes .0 e)
+    where
+      go : TableSized n words × ((blockStart n ≤ w) × Unit {0}) → TableSized n words × (blockStart n ≤ w)
+      go (s, (l, u)) = (s, l)
+
+-- the size that is asked for is that of a table that serves
+pub lent-limit : (paper : Paper) (n set w m : ℕ) (limit : ℤ) (t : List ℤ) (r : Bool) → lentChecks n (length t) w Done ≡ Done → m ≡ tableSize n
+    → limit ≡ pos (boundLimit paper n set) → InLimit m limit t r → boundsInLimit paper n set t ≡ r
+lent-limit paper n set w m limit t r e d l i = bounds-test paper n set m limit t r (size-known n m (lent-tells n (length t) w e .0 .most) d) l i
+
 -- ---- the calls are refused by the first need that is not met
 
 pub key-tied : (n set : ℕ) (t : List ℤ) (w : ℕ) → Tied (keyNeeds n set t w) (keyReply n set t w)
 unfolding keyReply
 key-tied n set t w =
-    tied-more _ _ _ _ _ (serves-sized n (length t)) (λ s.
-    tied-more _ _ _ _ _ (length-test (blockStart n) w) (λ l.
+    lent-tied n (length t) w _ _ (λ s.
     tied-more _ _ _ _ _ (numbers n set t) (λ m.
-    tied-more _ _ _ _ _ (decided-some n set t s (m .1)) (λ x. tied-done))))
+    tied-more _ _ _ _ _ (decided-some n set t s (m .1)) (λ x. tied-done)))
 
 pub assignment-tied : (n : ℕ) (t : List ℤ) (w v : ℕ) → Tied (assignmentNeeds n t w v) (assignmentReply n t w v)
 unfolding assignmentReply
 assignment-tied n t w v =
-    tied-more _ _ _ _ _ (serves-sized n (length t)) (λ s.
-    tied-more _ _ _ _ _ (length-test (blockStart n) w) (λ l.
+    lent-tied n (length t) w _ _ (λ s.
     tied-more _ _ _ _ _ (length-test n v) (λ k.
     tied-more _ _ _ _ _ (bounds Sheet n 0 t) (λ b.
-    tied-more _ _ _ _ _ (decided-some n 0 t s b) (λ x. tied-done)))))
+    tied-more _ _ _ _ _ (decided-some n 0 t s b) (λ x. tied-done))))
 
 -- ---- at each check of the key call
 
 -- a refusal that is the call's reply
-pub key-stops : (n set : ℕ) (t : List ℤ) (w : ℕ) (f : Refusal) → Refused f ≡ keyReply n set t w → KeyChecked n set t w (Refused f)
+key-stops : (n set : ℕ) (t : List ℤ) (w : ℕ) (f : Refusal) → Refused f ≡ keyReply n set t w → KeyChecked n set t w (Refused f)
 key-stops n set t w f e = record { stands = λ g d. e; passes = λ d. absurd (refused-done d) }
 
 module _ (n set : ℕ) (t : List ℤ) (w : ℕ) where
-  pub key-size : serves n (length t) ≡ false → KeyChecked n set t w (Refused Size)
+  pub key-lent : (r : Reply) (f : Refusal) → r ≡ lentChecks n (length t) w Done → r ≡ Refused f → KeyChecked n set t w r
   unfolding keyReply
-  key-size e = key-stops n set t w Size (rw e)
+  key-lent r f e d = rw d (key-stops n set t w f (sym (lent-before n (length t) w .stands f (sym e ∙ d) _)))
 
-  module _ (m : ℕ) (e : serves n (length t) ≡ true) (d : m ≡ tableSize n) where
-    size : m ≡ blockStart n
-    size = d ∙ serves-tells n (length t) e .size
-
-    pub key-short : w < m → KeyChecked n set t w (Refused (TooShort m))
+  module _ (e : lentChecks n (length t) w Done ≡ Done) where
+    -- the reply past them
+    key-past : keyReply n set t w ≡ check (setWithin n set && boundsInLimit Sheet n set t) (OutOfLimit 0) (check (not (refuted n t)) NoAssignment Done)
     unfolding keyReply
-    key-short h = key-stops n set t w (TooShort m) (rw (e, lt-leb (blockStart n) w (omega (arith, size)), size))
+    key-past = lent-before n (length t) w .goes-on e _
 
-    module _ (l : m ≤ w) where
-      pub key-set : setWithin n set ≡ false → KeyChecked n set t w (Refused (OutOfLimit 0))
-      unfolding keyReply
-      key-set f = key-stops n set t w (OutOfLimit 0) (rw (e, le-leb (blockStart n) w (omega (arith, size)), f))
+    pub key-set : setWithin n set ≡ false → KeyChecked n set t w (Refused (OutOfLimit 0))
+    key-set f = key-stops n set t w (OutOfLimit 0) (rw (key-past, f))
 
-      pub key-words : boundsInLimit Sheet n set t ≡ false → KeyChecked n set t w (Refused (OutOfLimit 0))
-      unfolding keyReply
-      key-words i =
-          key-stops n set t w (OutOfLimit 0)
-          (rw (e, le-leb (blockStart n) w (omega (arith, size)), i, and-false (setWithin n set)))
+    pub key-words : boundsInLimit Sheet n set t ≡ false → KeyChecked n set t w (Refused (OutOfLimit 0))
+    key-words i = key-stops n set t w (OutOfLimit 0) (rw (key-past, i, and-false (setWithin n set)))
 
-      pub key-passes : setWithin n set ≡ true → boundsInLimit Sheet n set t ≡ true → KeyChecked n set t w Done
-      key-passes f i = record {
-        stands = λ g c. absurd (refused-done (sym c));
-        passes = λ c.
-            (serves-sized n (length t) .0 e, omega (arith, size), (f, bounds Sheet n set t .0 i));
-      }
+    pub key-passes : setWithin n set ≡ true → boundsInLimit Sheet n set t ≡ true → KeyChecked n set t w Done
+    key-passes f i = record {
+      stands = λ g c. absurd (refused-done (sym c));
+      passes = λ c. let l = lent-tells n (length t) w e in (l .0, l .1, (f, bounds Sheet n set t .0 i));
+    }
 
 -- ---- and of the assignment call
 
-pub assignment-stops : (n : ℕ) (t : List ℤ) (w v : ℕ) (f : Refusal) → Refused f ≡ assignmentReply n t w v → AssignmentChecked n t w v (Refused f)
+assignment-stops : (n : ℕ) (t : List ℤ) (w v : ℕ) (f : Refusal) → Refused f ≡ assignmentReply n t w v → AssignmentChecked n t w v (Refused f)
 assignment-stops n t w v f e = record { stands = λ g d. e; passes = λ d. absurd (refused-done d) }
 
 module _ (n : ℕ) (t : List ℤ) (w v : ℕ) where
-  pub assignment-size : serves n (length t) ≡ false → AssignmentChecked n t w v (Refused Size)
+  pub assignment-lent : (r : Reply) (f : Refusal) → r ≡ lentChecks n (length t) w Done → r ≡ Refused f → AssignmentChecked n t w v r
   unfolding assignmentReply
-  assignment-size e = assignment-stops n t w v Size (rw e)
+  assignment-lent r f e d = rw d (assignment-stops n t w v f (sym (lent-before n (length t) w .stands f (sym e ∙ d) _)))
 
-  module _ (m : ℕ) (e : serves n (length t) ≡ true) (d : m ≡ tableSize n) where
-    sized : m ≡ blockStart n
-    sized = d ∙ serves-tells n (length t) e .size
-
-    pub assignment-short : w < m → AssignmentChecked n t w v (Refused (TooShort m))
+  module _ (e : lentChecks n (length t) w Done ≡ Done) where
+    assignment-past :
+        assignmentReply n t w v ≡ check (leb n v) (TooShort n) (check (boundsInLimit Sheet n 0 t) (OutOfLimit 0) (check (not (refuted n t)) NoAssignment Done))
     unfolding assignmentReply
-    assignment-short h = assignment-stops n t w v (TooShort m) (rw (e, lt-leb (blockStart n) w (omega (arith, sized)), sized))
+    assignment-past = lent-before n (length t) w .goes-on e _
 
-    module _ (l : m ≤ w) where
-      pub assignment-brief : v < n → AssignmentChecked n t w v (Refused (TooShort n))
-      unfolding assignmentReply
-      assignment-brief h = assignment-stops n t w v (TooShort n) (rw (e, le-leb (blockStart n) w (omega (arith, sized)), lt-leb n v h))
+    pub assignment-brief : v < n → AssignmentChecked n t w v (Refused (TooShort n))
+    assignment-brief h = assignment-stops n t w v (TooShort n) (rw (assignment-past, lt-leb n v h))
 
-      pub assignment-words : n ≤ v → boundsInLimit Sheet n 0 t ≡ false → AssignmentChecked n t w v (Refused (OutOfLimit 0))
-      unfolding assignmentReply
-      assignment-words k i =
-          assignment-stops n t w v (OutOfLimit 0)
-          (rw (e, le-leb (blockStart n) w (omega (arith, sized)), le-leb n v k, i))
+    pub assignment-words : n ≤ v → boundsInLimit Sheet n 0 t ≡ false → AssignmentChecked n t w v (Refused (OutOfLimit 0))
+    assignment-words k i = assignment-stops n t w v (OutOfLimit 0) (rw (assignment-past, le-leb n v k, i))
 
-      pub assignment-passes : n ≤ v → boundsInLimit Sheet n 0 t ≡ true → AssignmentChecked n t w v Done
-      assignment-passes k i = record {
-        stands = λ g c. absurd (refused-done (sym c));
-        passes = λ c.
-            (serves-sized n (length t) .0 e, omega (arith, sized), k, bounds Sheet n 0 t .0 i);
-      }
+    pub assignment-passes : n ≤ v → boundsInLimit Sheet n 0 t ≡ true → AssignmentChecked n t w v Done
+    assignment-passes k i = record {
+      stands = λ g c. absurd (refused-done (sym c));
+      passes = λ c. let l = lent-tells n (length t) w e in (l .0, l .1, k, bounds Sheet n 0 t .0 i);
+    }

@@ -17,12 +17,12 @@ use Rattle.rules.specs.Meaning.{literalValue}
 use Rattle.tables.specs.Meaning.{Satisfies, assignmentOf}
 use Rattle.elimination.specs.Hiding.{pairWord, loneWord}
 use Rattle.elimination.specs.Choosing.{choice}
-use Rattle.elimination.specs.Promises.{Valued}
 use Rattle.elimination.specs.Magnitude.{valueLimit, Past}
 use Rattle.elimination.proofs.Projection.{chosen-within}
 use Rattle.elimination.proofs.Terms.{TermsMet, satisfies-met}
 use Rattle.elimination.proofs.Exact.{upward-choose}
 use Rattle.elimination.proofs.Values.{literal-within}
+use Rattle.elimination.specs.Inner.{Valued}
 use Rattle.keys.specs.Inner.{fillDown, Layered}
 use Rattle.keys.proofs.Fitting.{limit-rises}
 use Rattle.keys.proofs.Room.{Closed}

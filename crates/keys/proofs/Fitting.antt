@@ -18,10 +18,10 @@ use Rattle.rules.specs.Limits.{maxQuantities, maxBound, boundLimit}
 use Rattle.rules.specs.Hidden.{hiddenCount}
 use Rattle.tables.specs.Meaning.{WordsWithin}
 use Rattle.elimination.specs.Hiding.{eliminated}
-use Rattle.elimination.specs.Promises.{Ready}
 use Rattle.elimination.specs.Magnitude.{Unnamed}
 use Rattle.elimination.proofs.Growth.{eliminated-within}
 use Rattle.elimination.proofs.Unnamed.{eliminated-unnamed-within, unnamed-eliminated}
+use Rattle.elimination.specs.Inner.{Ready}
 use Rattle.keys.specs.Keys.{hideUpTo, keyOf}
 use Rattle.keys.specs.Inner.{Grows, Fits}
 use Rattle.keys.proofs.Several.{Ample, AmpleUpTo, hideUpTo-length}

@@ -15,10 +15,10 @@ use Rattle.rules.specs.Steps.{ruleOf, halvedOf}
 use Rattle.tables.specs.declared.reply.Reply.{Reply}
 use Rattle.rules.specs.declared.paper.Paper.the-variants.{Sheet}
 use Rattle.places.specs.Numbering.{blockStart}
-use Rattle.tables.specs.Tables.{emptyTable, cleared, ruleReply, AllAccepted}
+use Rattle.tables.specs.Tables.{emptyTable, cleared, ruleReply}
 use Rattle.tables.specs.Meaning.{TableSized, HoldsRule, Satisfies, Satisfiable, Unsatisfiable, SheetAllows, NamesVisible, joined}
 use Rattle.tables.proofs.Tests.{clash}
-use Rattle.tables.proofs.Lists.{empty-satisfied, tableOf-length, tableOf-meaning}
+use Rattle.tables.proofs.Lists.{AllAccepted, empty-satisfied, tableOf-length, tableOf-meaning}
 use Rattle.tables.proofs.SheetA.{rules, of-one-and-three, of-two, completes, allowed, not-allowed}
 use Rattle.tables.specs.Replies.{replyNumber}
 use Rattle.elimination.specs.Hiding.{eliminated}

@@ -12,9 +12,9 @@ use Rattle.places.specs.Numbering.{blockStart}
 use Rattle.tables.specs.Meaning.{WordsWithin}
 use Rattle.elimination.specs.Hiding.{paired}
 use Rattle.elimination.specs.Magnitude.{Unnamed}
-use Rattle.elimination.specs.Promises.{Ready}
 use Rattle.elimination.proofs.Growth.{paired-within}
 use Rattle.elimination.proofs.Unnamed.{unnamed-same, unnamed-paired}
+use Rattle.elimination.specs.Inner.{Ready}
 use Rattle.keys.specs.Inner.{pairedFrom, pairUpTo, Fits}
 use Rattle.keys.proofs.Several.{Ample}
 use Rattle.keys.proofs.Fitting.{words-mono, limit-ample}

@@ -22,15 +22,15 @@ use Rattle.tables.specs.declared.reply.Reply.{Reply}
 use Rattle.tables.specs.declared.reply.Reply.the-variants.{Done, Refused}
 use Rattle.tables.specs.Tables.{cleared}
 use Rattle.tables.proofs.Tests.{clash}
-use Rattle.tables.specs.Meaning.{TableSized, Unsatisfiable, assignmentOf}
+use Rattle.tables.specs.Meaning.{TableSized, Satisfiable, Unsatisfiable, assignmentOf}
 use Rattle.tables.proofs.Sizes.{serves-sized}
 use Rattle.tables.proofs.Refusing.{tied-returned, tied-number}
 use Rattle.keys.specs.Meaning.{BoundsWithin, NumbersWithin}
 use Rattle.tables.specs.Replies.{replyNumber, check}
 use Rattle.elimination.specs.Hiding.{paired, eliminated}
-use Rattle.keys.specs.Keys.{every, hideUpTo, keyOf, refuted, keyReply, assignmentReply, freesWorkspace}
+use Rattle.keys.specs.Keys.{every, hideUpTo, keyOf, refuted, lentChecks, keyReply, assignmentReply, freesWorkspace}
 use Rattle.keys.specs.Inner.{pairUpTo, fillDown, Fits, Layered, Decided}
-use Rattle.keys.specs.Promises.{Keyed, AssignmentFound, Assigned}
+use Rattle.keys.specs.Promises.{KeyMade, Keyed, AssignmentFound, Assigned}
 use Rattle.keys.proofs.Several.{key-exact, key-visible, refuted-false}
 use Rattle.keys.proofs.Fitting.{hide-ample, key-within}
 use Rattle.keys.proofs.Copying.{SameTable, copied, same-back, same-satisfies, same-fits}
@@ -79,9 +79,9 @@ five-none n t r e d = (go (refuted n t) refl, λ u. rw (e, d .1 u))
 -- ---- the key call
 
 -- its reply past the checks before 5
-key-late : (n set : ℕ) (t : List ℤ) (w : ℕ) → TableSized n (length t) → blockStart n ≤ w → NumbersWithin n set t
+pub key-late : (n set : ℕ) (t : List ℤ) (w : ℕ) → TableSized n (length t) → blockStart n ≤ w → NumbersWithin n set t
     → keyReply n set t w ≡ check (not (refuted n t)) NoAssignment Done
-unfolding keyReply
+unfolding keyReply lentChecks
 key-late n set t w s l m = rw (serves-sized n (length t) .1 s, le-leb (blockStart n) w l, m .0, bounds Sheet n set t .1 (m .1))
 
 key-none : (n set : ℕ) (t : List ℤ) (w : ℕ) (r : Reply) → r ≡ keyReply n set t w → TableSized n (length t) → blockStart n ≤ w → NumbersWithin n set t
@@ -111,6 +111,16 @@ pub key-five : (n set : ℕ) (t w w' : List ℤ) → TableSized n (length t) × 
     → Keyed n set t w (Refused NoAssignment) t w'
 key-five n set t w w' p d = key-refused n set t w w' (Refused NoAssignment) NoAssignment (key-decided n set t w w' true p d) refl (d .lent)
 
+-- what the key of a table that some integers satisfy is
+pub key-made : (n set : ℕ) (t : List ℤ) → Fits n t → BoundsWithin Sheet n set t → Satisfiable n t → KeyMade n set t (keyOf (hiddenIn set) n t)
+key-made n set t f b s = record {
+  meaning = λ σ. key-exact (hiddenIn set) n t (s .assignment) (hide-ample (hiddenIn set) n t f) (s .satisfies) σ;
+  some = s;
+  steps = key-turns (hiddenIn set) n t (f .grows .room);
+  visible = key-visible (hiddenIn set) n t (f .grows .room);
+  growth = key-within (hiddenIn set) n (boundLimit Sheet n set) t (f .grows .room) b;
+}
+
 pub key-done : (n set : ℕ) (t w t' w' : List ℤ) → TableSized n (length t) × (blockStart n ≤ length w) × NumbersWithin n set t → Decided n t w false w'
     → t' ≡ keyOf (hiddenIn set) n t → Keyed n set t w Done t' w'
 key-done n set t w t' w' p d k =
@@ -125,20 +135,14 @@ key-done n set t w t' w' p d k =
       words = k;
       rest = rw k (rest-key (hiddenIn set) n t);
       lent = d .lent;
-      made = λ c. rw k (record {
-        meaning = λ σ. key-exact (hiddenIn set) n t (s .assignment) (hide-ample (hiddenIn set) n t f) (s .satisfies) σ;
-        some = s;
-        steps = key-turns (hiddenIn set) n t (f .grows .room);
-        visible = key-visible (hiddenIn set) n t (f .grows .room);
-        growth = key-within (hiddenIn set) n (boundLimit Sheet n set) t (f .grows .room) (p .2 .1);
-      });
+      made = λ c. rw k (key-made n set t f (p .2 .1) s);
     }
 
 -- ---- the assignment call
 
 assignment-late : (n : ℕ) (t : List ℤ) (w v : ℕ) → TableSized n (length t) → blockStart n ≤ w → n ≤ v → BoundsWithin Sheet n 0 t
     → assignmentReply n t w v ≡ check (not (refuted n t)) NoAssignment Done
-unfolding assignmentReply
+unfolding assignmentReply lentChecks
 assignment-late n t w v s l k b = rw (serves-sized n (length t) .1 s, le-leb (blockStart n) w l, le-leb n v k, bounds Sheet n 0 t .1 b)
 
 assignment-none : (n : ℕ) (t : List ℤ) (w v : ℕ) (r : Reply) → r ≡ assignmentReply n t w v → TableSized n (length t) → blockStart n ≤ w → n ≤ v

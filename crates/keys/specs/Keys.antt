@@ -46,22 +46,24 @@ refuted n t = refutedUpTo n n t
 abbrev pub boundsInLimit : Paper → ℕ → ℕ → List ℤ → Bool
 boundsInLimit paper n set t = wordsInLimit (blockStart n) (pos (boundLimit paper n set)) t
 
--- the key call's reply for a table and a workspace of so many words: 1, 6, 3, 5
+-- for a table and a workspace of so many words: 1 for n and the table, 6 for the workspace, and what follows
+unfoldable pub lentChecks : ℕ → ℕ → ℕ → Reply → Reply
+lentChecks n table workspace next = check (serves n table) Size (check (leb (blockStart n) workspace) (TooShort (blockStart n)) next)
+
+-- the key call's reply: 1, 6, 3, 5
 unfoldable pub keyReply : ℕ → ℕ → List ℤ → ℕ → Reply
 keyReply n set t workspace =
-    check (serves n (length t)) Size
-    (check (leb (blockStart n) workspace) (TooShort (blockStart n))
+    lentChecks n (length t) workspace
     (check (setWithin n set && boundsInLimit Sheet n set t) (OutOfLimit 0)
-    (check (not (refuted n t)) NoAssignment Done)))
+    (check (not (refuted n t)) NoAssignment Done))
 
 -- the assignment call's: 1, 6 for the workspace, 6 for the assignment, 3, 5. It is lent no hidden set
 unfoldable pub assignmentReply : ℕ → List ℤ → ℕ → ℕ → Reply
 assignmentReply n t workspace values =
-    check (serves n (length t)) Size
-    (check (leb (blockStart n) workspace) (TooShort (blockStart n))
+    lentChecks n (length t) workspace
     (check (leb n values) (TooShort n)
     (check (boundsInLimit Sheet n 0 t) (OutOfLimit 0)
-    (check (not (refuted n t)) NoAssignment Done))))
+    (check (not (refuted n t)) NoAssignment Done)))
 
 -- the replies after which the workspace is free: success and 5
 abbrev pub freesWorkspace : Reply → Bool

@@ -1,4 +1,5 @@
 // The assignment call: integers that satisfy a table, or the refusal that there are none.
+use crate::checks;
 use crate::decide;
 use rules::paper;
 use rules::paper::Paper;
@@ -28,18 +29,15 @@ pub fn fill(n: usize, table: &[i64], values: &mut [i64])
 fn check(n: usize, table: &[i64], workspace: usize, values: usize) -> Reply
     ensures { λ r. ⌜ AssignmentChecked n (now (table .entry)) workspace values r ⌝ }
 {
-    if !table::serves(n, table.len()) {
-        return Reply::Refused(Refusal::Size);
-    }
-    let needed = table::size(n);
-    if workspace < needed {
-        return Reply::Refused(Refusal::TooShort { needed });
-    }
+    let lent = checks::lent(n, table.len(), workspace);
+    let Reply::Done = lent else {
+        return lent;
+    };
     if values < n {
         return Reply::Refused(Refusal::TooShort { needed: n });
     }
     let most = paper::bound_limit(Paper::Sheet, n, 0);
-    if !limit::is_table_in(table, needed, most) {
+    if !limit::is_table_in(table, table::size(n), most) {
         return Reply::Refused(Refusal::OutOfLimit { line: 0 });
     }
     Reply::Done

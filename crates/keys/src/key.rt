@@ -1,5 +1,7 @@
 // The key call: the sheet's table is replaced by its key.
+use crate::checks;
 use crate::decide;
+use rules::hidden::Set;
 use rules::hidden;
 use rules::paper;
 use rules::paper::Paper;
@@ -12,13 +14,13 @@ ghost use mathlib.Core.Bool.{cond};
 ghost use Prim.Native.Nat.{suc};
 ghost use Rattle.rules.specs.Hidden.{hiddenIn};
 ghost use Rattle.elimination.specs.Hiding.{eliminated};
-ghost use Rattle.elimination.specs.Promises.{Ready};
+ghost use Rattle.elimination.specs.Inner.{Ready};
 ghost use Rattle.keys.specs.Keys.{keyOf};
 ghost use Rattle.keys.specs.Inner.{Fits, KeyChecked};
 ghost use Rattle.keys.specs.Promises.{Keyed};
 
 // Hides quantity `j + 1` where the set has it.
-fn hide_member(n: usize, set: u32, table: &mut [i64], j: usize)
+fn hide_member(n: usize, set: Set, table: &mut [i64], j: usize)
     requires { ⌜ Ready n j (now table) ⌝ }
     ensures { λ _. ⌜ now (table .exit) ≡ cond (hiddenIn set (suc j)) (eliminated n j (now (table .entry))) (now (table .entry)) ⌝ }
 {
@@ -29,7 +31,7 @@ fn hide_member(n: usize, set: u32, table: &mut [i64], j: usize)
 }
 
 // Hides each quantity of the set in increasing number.
-pub fn hide_set(n: usize, set: u32, table: &mut [i64])
+pub fn hide_set(n: usize, set: Set, table: &mut [i64])
     requires { ⌜ Fits n (now table) ⌝ }
     ensures { λ _. ⌜ now (table .exit) ≡ keyOf (hiddenIn set) n (now (table .entry)) ⌝ }
 {
@@ -41,21 +43,18 @@ pub fn hide_set(n: usize, set: u32, table: &mut [i64])
 }
 
 // The key call's checks before 5: its first refusal, or done.
-fn check(n: usize, set: u32, table: &[i64], workspace: usize) -> Reply
+fn check(n: usize, set: Set, table: &[i64], workspace: usize) -> Reply
     ensures { λ r. ⌜ KeyChecked n set (now (table .entry)) workspace r ⌝ }
 {
-    if !table::serves(n, table.len()) {
-        return Reply::Refused(Refusal::Size);
-    }
-    let needed = table::size(n);
-    if workspace < needed {
-        return Reply::Refused(Refusal::TooShort { needed });
-    }
+    let lent = checks::lent(n, table.len(), workspace);
+    let Reply::Done = lent else {
+        return lent;
+    };
     if !hidden::is_within(set, n) {
         return Reply::Refused(Refusal::OutOfLimit { line: 0 });
     }
     let most = paper::bound_limit(Paper::Sheet, n, set);
-    if !limit::is_table_in(table, needed, most) {
+    if !limit::is_table_in(table, table::size(n), most) {
         return Reply::Refused(Refusal::OutOfLimit { line: 0 });
     }
     Reply::Done
@@ -63,7 +62,7 @@ fn check(n: usize, set: u32, table: &[i64], workspace: usize) -> Reply
 
 // Replaces the sheet's table over `n` quantities by its key, the quantities of the set `hidden` hidden. 'No assignment' is decided in the workspace
 // first, for all quantities.
-pub fn key(n: usize, hidden: u32, table: &mut [i64], workspace: &mut [i64]) -> Reply
+pub fn key(n: usize, hidden: Set, table: &mut [i64], workspace: &mut [i64]) -> Reply
     ensures { λ r. ⌜ Keyed n hidden (now (table .entry)) (now (workspace .entry)) r (now (table .exit)) (now (workspace .exit)) ⌝ }
 {
     let checked = check(n, hidden, table, workspace.len());

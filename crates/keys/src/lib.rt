@@ -1,4 +1,5 @@
 // The key of a sheet and an assignment of a table, in place and with one lent workspace.
 pub mod assignment;
+mod checks;
 pub mod decide;
 pub mod key;

@@ -14,7 +14,7 @@ use Rattle.rules.specs.Hidden.{bitOf}
 use Rattle.rules.specs.Limits.{maxQuantities}
 use Rattle.rules.proofs.Sets.{bit-twice}
 use Rattle.lines.specs.Spelling.{quantityWithin}
-use Rattle.lines.specs.Listed.{memberBit}
+use Rattle.lines.specs.Inner.{memberBit}
 
 -- ---- the bit of a number
 

@@ -9,9 +9,9 @@ use lib.ListN.{drop}
 use borrow.Author.Tests.{eqb-true}
 use Rattle.numerals.specs.declared.byte.Kind.the-variants.{LineEnd}
 use Rattle.numerals.specs.Bytes.{newline, kindOf}
-use Rattle.numerals.specs.Parsing.{parsed, malformed, kindAt}
+use Rattle.numerals.specs.Parsing.{parsed, malformed}
 use Rattle.numerals.proofs.Cases.{clash}
-use Rattle.numerals.proofs.Keys.{byte-kind, kind-test, starts-kind, starts-other, expect-not, byte-passed}
+use Rattle.numerals.proofs.Keys.{kindAt, byte-kind, kind-test, starts-kind, starts-other, expect-not, byte-passed}
 use Rattle.lines.specs.Lines.{ended}
 
 -- a line that ends at the cursor is read, and the next one begins after it

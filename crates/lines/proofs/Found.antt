@@ -25,7 +25,7 @@ use Rattle.lines.specs.declared.answer.Answer.the-variants.{Count, Hidde
 use Rattle.lines.specs.declared.answer.Answer.the-variants.{Rule as RuleRead}
 use Rattle.lines.specs.Spelling.{Line, Written, quantities, hidden, rules, rule, lineText, IncreasingFrom, allWithin, ruleWithin, cancelling, writtenRule}
 use Rattle.lines.specs.Lines.{Judged, accepted, refused, judged, never, between, countLine, hiddenLine, ruleLine, countJudged, hiddenJudged, ruleJudged}
-use Rattle.lines.specs.Answers.{answerOf, countAnswer, hiddenAnswer, ruleAnswer, refusalOf}
+use Rattle.lines.specs.Answers.{answerOf, countAnswer, hiddenAnswer, ruleAnswer}
 use Rattle.lines.proofs.answer.Answer.{the-type}
 use Rattle.lines.proofs.Spellings.{count-sound, hidden-sound, hidden-increases, rule-sound}
 
@@ -47,7 +47,7 @@ passed s at text rest next e h q = record {
 }
 
 -- what is refused is not accepted
-not-both : {A : Type 0} {a : A} {u : List ℕ} {r : Refusal} → refused r ≡ accepted a u → ⊥
+pub not-both : {A : Type 0} {a : A} {u : List ℕ} {r : Refusal} → refused r ≡ accepted a u → ⊥
 not-both e = let z : _≡_ {A = ℕ} 0 1 = cc in omega arith
 
 -- a line that is accepted has its form, is within its limits, and does not cancel
@@ -191,17 +191,22 @@ rule-found s n limit line at r next e =
 
 -- ---- lines that are refused
 
--- the line is refused, and the answer tells it
+-- the line is refused, and so is its answer
 pub record LineRefused {A : Type 0} (j : Judged A) (got : Answer) : Type 0 where
-  pub is : j ≡ refused (refusalOf got)
-  pub answered : got ≡ Refused (refusalOf got)
+  pub refusal : Refusal
+  pub is : j ≡ refused refusal
+  pub answered : got ≡ Refused refusal
+
+-- by whatever refusal the answer is
+pub refused-by : {A : Type 0} {j : Judged A} {got : Answer} (f : Refusal) → LineRefused j got → got ≡ Refused f → j ≡ refused f
+refused-by f l e = let a = l .answered in let same : l .refusal ≡ f = cc in l .is ∙ ap refused same
 
 -- an answer that is not of the line's own kind is its refusal
 other-refused : {A : Type 0} (make : A → ℕ → Answer) (ks : List ℕ) (s : List ℕ) (j : Judged A) (got : Answer) → got ≡ answerOf make s j
     → ((a : A) (i : ℕ) → T (not (hasKey ks (place (make a i))))) → OneOf ks (place got) → LineRefused j got
 other-refused make ks s (accepted a u) got e m o =
     absurd (miss ks (place (make a (cursorOf s u))) (m a (cursorOf s u)) (subst (λ (x : Answer). OneOf ks (place x)) e o))
-other-refused make ks s (refused r) got e m o = let f : refusalOf got ≡ r = ap refusalOf e in record { is = ap refused (sym f); answered = rw f e }
+other-refused make ks s (refused f) got e m o = record { refusal = f; is = refl; answered = e }
 
 -- what the `else` of `let Answer::Count { .. } = got else { .. }` tells of a line of a key and a number
 pub count-refused : (s : List ℕ) (j : Judged ℕ) (got : Answer) → got ≡ countAnswer s j → OneOf (1 ∷ 2 ∷ 3 ∷ []) (place got) → LineRefused j got

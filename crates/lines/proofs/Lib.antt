@@ -6,11 +6,12 @@ pub mod Lists
 pub mod Spellings
 pub mod RuleBytes
 pub mod Found
+pub mod Answered
 pub mod Ends
 pub mod Counts
 pub mod Bits
 pub mod Members
-pub mod Told
+pub mod CappedIntegers
 pub mod SignedNumbers
 pub mod RuleForms
 pub mod RuleLimits

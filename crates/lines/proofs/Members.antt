@@ -13,9 +13,9 @@ use borrow.Author.Tests.{leb-true, le-leb, ne-eqb, lt-ltb}
 use Rattle.numerals.specs.declared.byte.Kind.the-variants.{Comma, LineEnd}
 use Rattle.numerals.specs.Decimal.{decimal}
 use Rattle.numerals.specs.Order.{smallerNumeral}
-use Rattle.numerals.specs.Parsing.{Parsed, parsed, malformed, andThen, startsWith, numeralOf, kindAt, cursorOf}
+use Rattle.numerals.specs.Parsing.{Parsed, parsed, malformed, andThen, startsWith, numeralOf, cursorOf}
 use Rattle.numerals.proofs.Decimals.{decimal-some}
-use Rattle.numerals.proofs.Keys.{expect-key, expect-not, kind-test, kind-test-fails, kind-inside}
+use Rattle.numerals.proofs.Keys.{kindAt, expect-key, expect-not, kind-test, kind-test-fails, kind-inside}
 use Rattle.numerals.proofs.Cursors.{cursor-here}
 use Rattle.numerals.proofs.Numerals.{NumeralFound, numeral-run}
 use Rattle.numerals.proofs.Order.{smaller-numeral}
@@ -27,7 +27,7 @@ use Rattle.lines.specs.declared.answer.Answer.the-variants.{Hidden, Refu
 use Rattle.lines.specs.Spelling.{hiddenKey, quantityWithin, allWithin}
 use Rattle.lines.specs.Lines.{withFirst, membersAfter, membersFrom, listOf, hiddenLine, judged, accepted, refused, never, hiddenJudged}
 use Rattle.lines.specs.Answers.{answerOf, hiddenAnswer}
-use Rattle.lines.specs.Listed.{memberBit, endAnswer, Ending, listAnswer}
+use Rattle.lines.specs.Inner.{memberBit, endAnswer, Ending, listAnswer}
 use Rattle.lines.proofs.Ends.{by-end}
 use Rattle.lines.proofs.Bits.{bit-inside, within-told, bit-told, room-told, room-more}
 

@@ -7,13 +7,30 @@ use native.Mathlib.Omega.{arith}
 use lib.Dec.{ltb}
 use lib.IntN.{ℤ, pos, negsuc}
 use borrow.Author.Tests.{ltb-true}
+use Rattle.numerals.specs.declared.byte.Kind.{Kind}
+use Rattle.numerals.specs.declared.byte.Kind.the-variants.{Digit, Plus, Minus, Colon, Comma, LineEnd, Other}
 use Rattle.numerals.specs.Bytes.{newline, plus, minus, digitZero, kindOf}
 use Rattle.numerals.specs.Decimal.{decimalUpTo, decimal, signedDecimal}
 use Rattle.numerals.specs.Parsing.{parsed}
 use Rattle.numerals.proofs.Keys.{is-digit, digit-kind}
-use Rattle.lines.specs.Spelling.{Term, Written, one, two, rule, ruleKey, termText, ruleText, valueText, lineText, inRule, RuleBytes}
+use Rattle.lines.specs.Spelling.{Term, Written, one, two, rule, ruleKey, termText, ruleText, valueText, lineText}
 use Rattle.lines.specs.Lines.{ruleLine}
 use Rattle.lines.proofs.Spellings.{rule-sound}
+
+-- the kinds of these bytes
+abbrev pub inRule : Kind → Bool
+inRule Digit = true
+inRule Plus = true
+inRule Minus = true
+inRule Colon = true
+inRule Comma = false
+inRule LineEnd = true
+inRule Other = false
+
+-- each byte is of one of them
+abbrev pub RuleBytes : List ℕ → Type 0
+RuleBytes [] = Unit {0}
+RuleBytes (b ∷ u) = (inRule (kindOf b) ≡ true) × RuleBytes u
 
 -- such bytes after such bytes
 append-bytes : (u v : List ℕ) → RuleBytes u → RuleBytes v → RuleBytes (u ++ v)

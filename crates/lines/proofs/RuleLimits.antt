@@ -1,4 +1,4 @@
--- A rule line's answer by its form: what holds of the values as they are told holds of the values. Assumes nothing.
+-- A rule line's answer by its form: what holds of the capped values holds of the values. Assumes nothing.
 use mathlib.Core.Path.{_≡_, refl, _∙_, ap, ap₂}
 use mathlib.Core.Bool.{Bool, true, false, cond, not, _&&_, Bool·beq}
 use mathlib.Core.List.{List}
@@ -20,9 +20,10 @@ use Rattle.rules.specs.Steps.{isNone, ruleOf}
 use Rattle.lines.specs.declared.answer.Answer.the-variants.{Rule, Refused}
 use Rattle.lines.specs.Spelling.{Term, Written, one, two, quantityWithin, ruleWithin, cancelling, signedQuantity, writtenRule}
 use Rattle.lines.specs.Lines.{accepted, refused, judged}
-use Rattle.lines.specs.Answers.{told, spelledAnswer, formAnswer, ruleAnswer}
+use Rattle.lines.specs.Answers.{ruleAnswer}
+use Rattle.lines.specs.Inner.{cappedInteger, spelledAnswer, formAnswer}
 use Rattle.lines.proofs.Bits.{within-range}
-use Rattle.lines.proofs.Told.{natAbs-told, natAbs-signed, told-exact}
+use Rattle.lines.proofs.CappedIntegers.{natAbs-capped, natAbs-signed, capped-integer-exact}
 
 -- ---- limits
 
@@ -51,23 +52,23 @@ within-sum n x y h e f = word-of
     within-parts (pos v) = omega arith
     within-parts (negsuc v) = omega arith
 
--- a quantity number is told as one of 1 to n where it is one
-term-within : (n : ℕ) (x : Term) → n ≤ maxQuantities → quantityWithin n (natAbs (told (signedQuantity x))) ≡ quantityWithin n (x .quantity)
-term-within n x h = rw (natAbs-told (signedQuantity x), natAbs-signed x)
+-- a quantity number, capped, is one of 1 to n where it is one
+term-within : (n : ℕ) (x : Term) → n ≤ maxQuantities → quantityWithin n (natAbs (cappedInteger (signedQuantity x))) ≡ quantityWithin n (x .quantity)
+term-within n x h = rw (natAbs-capped (signedQuantity x), natAbs-signed x)
     (ap₂ _&&_ (capped-least (x .quantity) 1 (omega arith)) (capped-most (x .quantity) n (omega arith)))
 
--- and then it is the one told
-term-exact : (n : ℕ) (x : Term) → n ≤ maxQuantities → quantityWithin n (x .quantity) ≡ true → told (signedQuantity x) ≡ signedQuantity x
-term-exact n x h e = told-exact (signedQuantity x)
-    (omega (arith, within-range n (natAbs (told (signedQuantity x))) (term-within n x h ∙ e)))
+-- and then it is not changed
+term-exact : (n : ℕ) (x : Term) → n ≤ maxQuantities → quantityWithin n (x .quantity) ≡ true → cappedInteger (signedQuantity x) ≡ signedQuantity x
+term-exact n x h e = capped-integer-exact (signedQuantity x)
+    (omega (arith, within-range n (natAbs (cappedInteger (signedQuantity x))) (term-within n x h ∙ e)))
 
--- a bound is told as one in its limit where it is one
-bound-within : (limit : ℕ) (c : ℤ) → limit < cap → leb (natAbs (told c)) limit ≡ leb (natAbs c) limit
-bound-within limit c h = rw (natAbs-told c) (capped-most (natAbs c) limit h)
+-- a bound, capped, is in its limit where it is
+bound-within : (limit : ℕ) (c : ℤ) → limit < cap → leb (natAbs (cappedInteger c)) limit ≡ leb (natAbs c) limit
+bound-within limit c h = rw (natAbs-capped c) (capped-most (natAbs c) limit h)
 
--- and then it is the one told
-bound-exact : (limit : ℕ) (c : ℤ) → limit < cap → leb (natAbs c) limit ≡ true → told c ≡ c
-bound-exact limit c h e = told-exact c (omega (arith, leb-true (natAbs (told c)) limit (bound-within limit c h ∙ e)))
+-- and then it is not changed
+bound-exact : (limit : ℕ) (c : ℤ) → limit < cap → leb (natAbs c) limit ≡ true → cappedInteger c ≡ c
+bound-exact limit c h e = capped-integer-exact c (omega (arith, leb-true (natAbs (cappedInteger c)) limit (bound-within limit c h ∙ e)))
 
 -- ---- cancelling
 
@@ -126,7 +127,7 @@ form-judged n limit line s malformed h l = refl
 form-judged n limit line s (parsed (one x c) u) h l = rw (term-within n x h, bound-within limit c l) (go (ruleWithin n limit (one x c)) refl)
   where
     go : (t : Bool) → ruleWithin n limit (one x c) ≡ t
-        → cond t (Rule (ruleOf (told (signedQuantity x)) (pos 0) (told c)) (cursorOf s u)) (Refused (OutOfLimit line))
+        → cond t (Rule (ruleOf (cappedInteger (signedQuantity x)) (pos 0) (cappedInteger c)) (cursorOf s u)) (Refused (OutOfLimit line))
         ≡ ruleAnswer s (cond t (accepted (one x c) u) (refused (OutOfLimit line)))
     go true e = let p = both-true (quantityWithin n (x .quantity)) (leb (natAbs c) limit) e in
         rw (term-exact n x h (p .0), bound-exact limit c l (p .1))
@@ -140,8 +141,8 @@ form-judged n limit line s (parsed (two x y c) u) h l =
     cancelled false = refl
 
     go : (t : Bool) → ruleWithin n limit (two x y c) ≡ t
-        → cond t (cond (isNone (told (signedQuantity x) +ℤ told (signedQuantity y))) (Refused (Cancelling line))
-        (Rule (ruleOf (told (signedQuantity x)) (told (signedQuantity y)) (told c)) (cursorOf s u))) (Refused (OutOfLimit line))
+        → cond t (cond (isNone (cappedInteger (signedQuantity x) +ℤ cappedInteger (signedQuantity y))) (Refused (Cancelling line))
+        (Rule (ruleOf (cappedInteger (signedQuantity x)) (cappedInteger (signedQuantity y)) (cappedInteger c)) (cursorOf s u))) (Refused (OutOfLimit line))
         ≡ ruleAnswer s (cond t (cond (cancelling (two x y c)) (refused (Cancelling line)) (accepted (two x y c) u)) (refused (OutOfLimit line)))
     go true e =
         let p = both-true (_&&_ (quantityWithin n (x .quantity)) (quantityWithin n (y .quantity))) (leb (natAbs c) limit) e in

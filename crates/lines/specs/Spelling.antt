@@ -1,13 +1,10 @@
 -- How the lines of a text are spelled (document 01, 'Text'), with numbers of any size, and the limits of these numbers. No reading is in it.
-use mathlib.Core.Path.{_≡_}
 use mathlib.Core.Bool.{Bool, true, false, cond, not, _&&_, Bool·beq}
 use mathlib.Core.List.{List, [], _∷_, _++_}
 use Prim.Native.Nat.{ℕ, suc, _≤_}
 use lib.Dec.{leb, eqb}
 use lib.IntN.{ℤ, pos, negℤ, natAbs}
-use Rattle.numerals.specs.declared.byte.Kind.{Kind}
-use Rattle.numerals.specs.declared.byte.Kind.the-variants.{Digit, Plus, Minus, Colon, Comma, LineEnd, Other}
-use Rattle.numerals.specs.Bytes.{bytes, newline, plus, comma, minus, colon, kindOf}
+use Rattle.numerals.specs.Bytes.{bytes, newline, plus, comma, minus, colon}
 use Rattle.numerals.specs.Decimal.{decimal, signedDecimal}
 use Rattle.rules.specs.declared.rule.Rule.{Rule}
 use Rattle.rules.specs.Limits.{maxQuantities, maxRules}
@@ -78,21 +75,6 @@ keyText (rule r) = ruleKey
 -- a line with its end
 unfoldable pub lineText : Line → List ℕ
 lineText l = keyText l ++ (valueText l ++ newline ∷ [])
-
--- the kinds of the bytes of a rule line after its key: a digit, a sign, a colon or the line end
-abbrev pub inRule : Kind → Bool
-inRule Digit = true
-inRule Plus = true
-inRule Minus = true
-inRule Colon = true
-inRule Comma = false
-inRule LineEnd = true
-inRule Other = false
-
--- each byte is of one of these kinds
-abbrev pub RuleBytes : List ℕ → Type 0
-RuleBytes [] = Unit {0}
-RuleBytes (b ∷ u) = (inRule (kindOf b) ≡ true) × RuleBytes u
 
 -- numbers that increase, the first being at least this
 abbrev pub IncreasingFrom : ℕ → List ℕ → Type 0

@@ -5,17 +5,16 @@ use numerals::byte;
 use numerals::byte::Kind;
 use numerals::read;
 use numerals::read::Numeral;
-ghost use mathlib.Core.Path.{_≡_};
 ghost use Prim.Native.Nat.{_<_, _≤_};
 ghost use lib.ListN.{drop};
 ghost use Rattle.numerals.specs.Decimal.{cap};
 ghost use Rattle.lines.specs.Lines.{countJudged};
-ghost use Rattle.lines.specs.Answers.{countAnswer};
+ghost use Rattle.lines.specs.Answers.{countAnswer, LineAnswered};
 
 // The line at the cursor, its number being one of `least` to `most`.
 pub fn count_line(s: &[u8], at: usize, key: &[u8], least: usize, most: usize, line: usize) -> Answer
     requires { ⌜ (least ≤ cap) × (most < cap) ⌝ }
-    ensures { λ r. ⌜ r ≡ countAnswer (now (s .entry)) (countJudged (now (key .entry)) least most line (drop at (now (s .entry)))) ⌝ }
+    ensures { λ r. ⌜ LineAnswered (countAnswer (now (s .entry))) (countJudged (now (key .entry)) least most line (drop at (now (s .entry)))) r ⌝ }
 {
     if !byte::has_key(s, at, key) {
         return answer::malformed(line);

@@ -6,6 +6,7 @@ use numerals::byte::Kind;
 use numerals::compare;
 use numerals::read;
 use numerals::read::Numeral;
+use rules::hidden::Set;
 ghost use mathlib.Core.Path.{_≡_};
 ghost use mathlib.Core.Bool.{_&&_};
 ghost use Prim.Native.Nat.{_+_, _*_, _^_, _<_, _≤_};
@@ -13,12 +14,12 @@ ghost use lib.ListN.{drop};
 ghost use Rattle.rules.specs.Limits.{maxQuantities};
 ghost use Rattle.lines.specs.Spelling.{quantityWithin};
 ghost use Rattle.lines.specs.Lines.{hiddenJudged};
-ghost use Rattle.lines.specs.Answers.{hiddenAnswer};
-ghost use Rattle.lines.specs.Listed.{memberBit, Ending, listAnswer};
+ghost use Rattle.lines.specs.Answers.{hiddenAnswer, LineAnswered};
+ghost use Rattle.lines.specs.Inner.{memberBit, Ending, listAnswer};
 
 // The quantities read so far, and whether each number read was one of 1 to n.
 struct Members {
-    set: u32,
+    set: Set,
     within: bool,
 }
 
@@ -100,7 +101,7 @@ fn listed(s: &[u8], at: usize, n: usize, line: usize) -> Answer
 // The line at the cursor, in a text over `n` quantities. A list that does not increase is malformed, also where its numbers are outside their limits.
 pub fn hidden_line(s: &[u8], at: usize, n: usize, line: usize) -> Answer
     requires { ⌜ n ≤ maxQuantities ⌝ }
-    ensures { λ r. ⌜ r ≡ hiddenAnswer (now (s .entry)) (hiddenJudged n line (drop at (now (s .entry)))) ⌝ }
+    ensures { λ r. ⌜ LineAnswered (hiddenAnswer (now (s .entry))) (hiddenJudged n line (drop at (now (s .entry)))) r ⌝ }
 {
     let key = b"hidden=";
     if !byte::has_key(s, at, key) {

@@ -14,9 +14,10 @@ ghost use Rattle.rules.specs.Limits.{maxQuantities};
 ghost use Rattle.lines.specs.declared.spelled.Spelled.the-variants.{One, Two};
 ghost use Rattle.lines.specs.Spelling.{quantityWithin};
 ghost use Rattle.lines.specs.Lines.{ruleJudged};
-ghost use Rattle.lines.specs.Answers.{ruleAnswer, formAnswer};
+ghost use Rattle.lines.specs.Answers.{ruleAnswer, LineAnswered};
+ghost use Rattle.lines.specs.Inner.{formAnswer};
 
-// Whether a signed quantity number, as far as it is told, is of one of 1 to `n`.
+// Whether a signed quantity number is of one of 1 to `n`.
 fn is_quantity(term: i64, n: usize) -> bool
     ensures { λ r. ⌜ r ≡ quantityWithin n (natAbs term) ⌝ }
 {
@@ -80,7 +81,7 @@ fn two(
 // The rule line at the cursor, in a text over `n` quantities with bounds up to `limit` in magnitude.
 pub fn rule_line(s: &[u8], at: usize, n: usize, limit: u64, line: usize) -> Answer
     requires { ⌜ (n ≤ maxQuantities) × (limit < cap) ⌝ }
-    ensures { λ r. ⌜ r ≡ ruleAnswer (now (s .entry)) (ruleJudged n limit line (drop at (now (s .entry)))) ⌝ }
+    ensures { λ r. ⌜ LineAnswered (ruleAnswer (now (s .entry))) (ruleJudged n limit line (drop at (now (s .entry)))) r ⌝ }
 {
     let form = spelled::spelled_at(s, at);
     match form {
@@ -91,6 +92,6 @@ pub fn rule_line(s: &[u8], at: usize, n: usize, limit: u64, line: usize) -> Answ
             first,
             second,
         } => two(first, second, bound, n, limit, line, next),
-        Spelled::Nothing => answer::malformed(line),
+        Spelled::Malformed => answer::malformed(line),
     }
 }

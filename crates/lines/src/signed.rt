@@ -7,10 +7,11 @@ ghost use mathlib.Core.Path.{_≡_};
 ghost use Prim.Native.Nat.{_≤_};
 ghost use lib.ListN.{drop};
 ghost use Rattle.numerals.specs.Decimal.{cap};
+ghost use Rattle.numerals.specs.Parsing.{andThen, numeralOf};
 ghost use Rattle.lines.specs.Lines.{termOf, boundAt, boundLine};
-ghost use Rattle.lines.specs.Answers.{withSign, afterMinus, signedAnswer, termAnswer};
+ghost use Rattle.lines.specs.Inner.{withSign, signedBound, signedAnswer, termAnswer};
 
-// A number with its sign, as far as values are told, and the cursor after it.
+// A number with its sign, its magnitude capped, and the cursor after it.
 pub(crate) enum Signed {
     Read { value: i64, next: usize },
     Malformed,
@@ -53,33 +54,32 @@ pub(crate) fn term_at(s: &[u8], at: usize) -> Signed
     }
 }
 
-// The cursor after the minus at the cursor, or the same one where there is none.
-fn after_minus(s: &[u8], at: usize) -> usize
-    ensures { λ r. ⌜ r ≡ afterMinus (now (s .entry)) at ⌝ }
+// The number of a bound, after a minus or without one; `-0` is malformed.
+fn after_sign(s: &[u8], at: usize, minus: bool) -> Signed
+    ensures { λ r. ⌜ r ≡ signedAnswer (now (s .entry)) (andThen (numeralOf (drop at (now (s .entry)))) (signedBound minus)) ⌝ }
 {
-    let kind = byte::kind_of(byte::byte_at(s, at));
-    let Kind::Minus = kind else {
-        return at;
-    };
-    at + 1
-}
-
-// The bound at the cursor; `-0` is malformed, so that a number after a minus is at least 1.
-fn bound_at(s: &[u8], at: usize) -> Signed
-    ensures { λ r. ⌜ r ≡ signedAnswer (now (s .entry)) (boundAt (drop at (now (s .entry)))) ⌝ }
-{
-    let from = after_minus(s, at);
-    let got = read::numeral_at(s, from);
+    let got = read::numeral_at(s, at);
     let Numeral::Number { value, next } = got else {
         return Signed::Malformed;
     };
-    if value < (from - at) as u64 {
+    if minus && value == 0 {
         return Signed::Malformed;
     }
     Signed::Read {
-        value: with_sign(at < from, value),
+        value: with_sign(minus, value),
         next,
     }
+}
+
+// The bound at the cursor.
+fn bound_at(s: &[u8], at: usize) -> Signed
+    ensures { λ r. ⌜ r ≡ signedAnswer (now (s .entry)) (boundAt (drop at (now (s .entry)))) ⌝ }
+{
+    let kind = byte::kind_of(byte::byte_at(s, at));
+    let Kind::Minus = kind else {
+        return after_sign(s, at, false);
+    };
+    after_sign(s, at + 1, true)
 }
 
 // The bound at the cursor and the end of its line, with the cursor after that.

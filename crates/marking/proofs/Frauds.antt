@@ -19,12 +19,12 @@ use Rattle.rules.specs.Hidden.{hiddenIn}
 use Rattle.rules.specs.Literal.{negated}
 use Rattle.rules.specs.Meaning.{Assignment, literalValue, hasTerm}
 use Rattle.rules.specs.Steps.{trivialRule, ruleOf, halvedOf, oppositeOf}
-use Rattle.tables.specs.Places.{placeOf, HasPlace}
-use Rattle.tables.specs.Tables.{AllAccepted, emptyTable, tableOf, putRule, ruleReply}
+use Rattle.tables.specs.Places.{HasPlace}
+use Rattle.tables.specs.Tables.{emptyTable, tableOf, putRule, ruleReply}
 use Rattle.tables.specs.Meaning.{HoldsRule, ruleIn, Satisfies, Unsatisfiable, MeetsAll, Solutions, joined, SheetAllows, Breaks}
 use Rattle.tables.proofs.Tests.{clash}
-use Rattle.tables.proofs.Lists.{empty-satisfied, tableOf-meaning}
-use Rattle.tables.proofs.Places.{ruleAt-place, ruleAt-hasPlace}
+use Rattle.tables.proofs.Lists.{AllAccepted, empty-satisfied, tableOf-meaning}
+use Rattle.tables.proofs.Places.{placeOf, ruleAt-place, ruleAt-hasPlace}
 use Rattle.tables.proofs.SheetA.{rules, hidden, sheet, of-one-and-three, of-two, completes, not-allowed, wide, wide-allows}
 use Rattle.keys.specs.Keys.{keyOf, refuted}
 use Rattle.keys.proofs.Sheets.{sheetTable, seenLate, steps}

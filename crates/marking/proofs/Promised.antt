@@ -36,7 +36,7 @@ use Rattle.keys.specs.Keys.{keyOf, refuted}
 use Rattle.keys.specs.Inner.{pairUpTo, fillDown, Decided}
 use Rattle.keys.proofs.Copying.{copied, holds-same, same-unnamed}
 use Rattle.keys.proofs.Deciding.{refuted-exactly}
-use Rattle.keys.proofs.Promised.{untouched, values-found}
+use Rattle.keys.proofs.Promised.{untouched, key-made, values-found}
 use Rattle.marking.specs.declared.verdict.Verdict.{Verdict}
 use Rattle.marking.specs.declared.verdict.Verdict.the-variants.{Equal, Loose, Tight}
 use Rattle.marking.specs.declared.verdict.Marking.the-variants.{Marked, Refused}
@@ -292,13 +292,14 @@ equal-given n set sheet script w v y x u r w' v' e p f b h =
 -- what a verdict means
 verdict-told : (n set : ℕ) (sheet script : List ℤ) (w v : List ℤ) (r : Verdict) (w' v' : List ℤ)
     → TablesAccepted n set sheet script (length w) (length v) → VerdictGiven n set sheet script w v r w' v'
-    → VerdictMeans n (hiddenIn set) (Satisfies n sheet) (Satisfies n script) sheet script (verdictNumber r) (carriedRule r) v'
+    → VerdictMeans n set (Satisfies n sheet) (Satisfies n script) sheet script (verdictNumber r) (carriedRule r) v'
 verdict-told n set sheet script w v r w' v' m g = record {
   demand = rw (g .reply) (verdict-demand n set sheet script (length w) (length v) m);
   visibles = record {
     script-visible = λ σ τ. script-visible n (hiddenIn set) script σ τ (m .visible);
     sheet-visible = table-allows-visible n (hiddenIn set) sheet;
   };
+  key = key-made n set sheet (sheet-fitting n set sheet script (length w) (length v) m) (m .limits .sheet-within);
   loose = λ e. let p = is-loose r e in
       (verdict-loose n set sheet script (length w) (length v) m (carriedRule r) (sym (g .reply) ∙ p), g .loose-shown (carriedRule r) p);
   tight = λ e. let p = is-tight r e in

@@ -23,10 +23,10 @@ use Rattle.rules.specs.Literal.{quantityOf}
 use Rattle.rules.specs.Meaning.{boundOf, names}
 use Rattle.rules.specs.Steps.{oppositeOf, halvedOf}
 use Rattle.rules.proofs.Literals.{negated-quantity}
-use Rattle.tables.specs.Places.{ruleAt, placeOf, findPlace, HasPlace}
+use Rattle.tables.specs.Places.{ruleAt, findPlace, HasPlace}
 use Rattle.tables.specs.Tables.{hasRule, putAt, putHalved, putRule}
 use Rattle.tables.specs.Meaning.{ruleIn, WordsWithin}
-use Rattle.tables.proofs.Places.{hasPlace-found, names-bound, place-names}
+use Rattle.tables.proofs.Places.{placeOf, hasPlace-found, names-bound, place-names}
 use Rattle.elimination.specs.Magnitude.{Unnamed}
 
 -- ---- magnitudes

@@ -21,12 +21,12 @@ use Rattle.rules.specs.Meaning.{Assignment, Meets, boundOf, names}
 use Rattle.rules.specs.Steps.{oppositeOf, halvedOf}
 use Rattle.tables.specs.declared.reply.Reply.{Reply}
 use Rattle.tables.specs.declared.reply.Reply.the-variants.{Done}
-use Rattle.tables.specs.Places.{placeOf, HasPlace}
+use Rattle.tables.specs.Places.{HasPlace}
 use Rattle.tables.specs.Tables.{hasRule, tableSize, serves, ruleReply, putReply, putRule}
 use Rattle.tables.specs.Meaning.{Satisfies, assignmentOf}
 use Rattle.tables.specs.Promises.{Put}
 use Rattle.tables.proofs.Lists.{put-length}
-use Rattle.tables.proofs.Places.{ruleAt-hasPlace, hasPlace-below}
+use Rattle.tables.proofs.Places.{placeOf, ruleAt-hasPlace, hasPlace-below}
 use Rattle.tables.proofs.Sizes.{serves-tells, long-serves}
 use Rattle.tables.proofs.Tests.{clash}
 use Rattle.elimination.specs.Magnitude.{Unnamed}

@@ -23,6 +23,7 @@ use Rattle.tables.specs.Meaning.{HoldsRule, ruleIn, Satisfiable, Unsatisfiable,
 use Rattle.elimination.specs.Magnitude.{valueLimit}
 use Rattle.keys.specs.Keys.{keyOf}
 use Rattle.keys.specs.Meaning.{BoundsWithin}
+use Rattle.keys.specs.Promises.{KeyMade}
 
 -- ---- demand 3
 
@@ -116,14 +117,15 @@ pub record TightShown (n : ℕ) (hidden : ℕ → Bool) (sheet script : Solution
 
 -- ---- what a verdict means
 
--- demand 3 with the rule and the assignment, of two papers over n quantities and their tables: a verdict of this number, which carries this rule and comes with these
--- words
-pub record VerdictMeans (n : ℕ) (hidden : ℕ → Bool) (sheet script : Solutions) (sheet-table script-table : List ℤ) (number : ℕ) (rule : Rule) (values : List ℤ)
-    : Type 0 where
-  pub demand : ByDemand hidden sheet script number
-  pub visibles : ByVisible n hidden sheet script
-  pub loose : number ≡ 101 → LooseRule hidden n sheet-table script rule × LooseShown n hidden sheet script rule values
-  pub tight : number ≡ 102 → TightRule n sheet script-table rule × TightShown n hidden sheet script rule values
+-- demand 3 with the rule and the assignment, of two papers over n quantities, their hidden set and their tables: a verdict of this number, which carries this rule and
+-- comes with these words
+pub record VerdictMeans (n set : ℕ) (sheet script : Solutions) (sheet-table script-table : List ℤ) (number : ℕ) (rule : Rule) (values : List ℤ) : Type 0 where
+  pub demand : ByDemand (hiddenIn set) sheet script number
+  pub visibles : ByVisible n (hiddenIn set) sheet script
+  -- the key of which a loose verdict carries a rule is one by demand 2
+  pub key : Satisfiable n sheet-table → KeyMade n set sheet-table (keyOf (hiddenIn set) n sheet-table)
+  pub loose : number ≡ 101 → LooseRule (hiddenIn set) n sheet-table script rule × LooseShown n (hiddenIn set) sheet script rule values
+  pub tight : number ≡ 102 → TightRule n sheet script-table rule × TightShown n (hiddenIn set) sheet script rule values
 
 -- ---- what marking two tables needs
 

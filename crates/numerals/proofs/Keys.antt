@@ -16,7 +16,7 @@ use borrow.Author.Tests.{leb-true, leb-false, eqb-true, le-leb, eq-eqb, ne-eqb}
 use Rattle.numerals.specs.declared.byte.Kind.{Kind}
 use Rattle.numerals.specs.declared.byte.Kind.the-variants.{Digit, Plus, Minus, Colon, Comma, LineEnd, Other}
 use Rattle.numerals.specs.Bytes.{isDigit, kindOf, digitZero, plus, minus, colon, comma, newline}
-use Rattle.numerals.specs.Parsing.{Parsed, malformed, expect, startsWith, kindAt, digitNext}
+use Rattle.numerals.specs.Parsing.{Parsed, malformed, expect, startsWith, digitNext}
 use Rattle.numerals.proofs.Cases.{clash, failed, both-true, by-below}
 use Rattle.numerals.proofs.byte.Kind.{the-type}
 
@@ -202,6 +202,11 @@ pub expect-append : {A : Type 0} (ks u : List ℕ) (next : List ℕ → Parsed A
 expect-append ks u next = expect-key ks (ks ++ u) next (startsWith-append ks u) ∙ ap next (drop-append-seam ks u)
 
 -- ---- by the kind of the first byte
+
+-- the kind of the first byte
+unfoldable pub kindAt : List ℕ → Kind
+kindAt [] = Other
+kindAt (b ∷ u) = kindOf b
 
 -- bytes of which the first has the kind of digits begin with a digit
 pub digit-next : (u : List ℕ) → kindAt u ≡ Digit → digitNext u ≡ true

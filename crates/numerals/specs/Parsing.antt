@@ -4,11 +4,9 @@ use mathlib.Core.List.{List, [], _∷_}
 use Prim.Native.Nat.{ℕ, _+_, _-_, _*_}
 use lib.Dec.{eqb}
 use lib.ListN.{length}
-use Rattle.numerals.specs.declared.byte.Kind.{Kind}
-use Rattle.numerals.specs.declared.byte.Kind.the-variants.{Other}
 use Rattle.numerals.specs.declared.read.Numeral.{Numeral}
 use Rattle.numerals.specs.declared.read.Numeral.the-variants.{Number, Malformed}
-use Rattle.numerals.specs.Bytes.{isDigit, digitZero, kindOf}
+use Rattle.numerals.specs.Bytes.{isDigit, digitZero}
 use Rattle.numerals.specs.Decimal.{capped}
 
 -- what was read and the bytes after it, or nothing of the kind
@@ -32,11 +30,6 @@ unfoldable pub startsWith : List ℕ → List ℕ → Bool
 startsWith [] u = true
 startsWith (k ∷ ks) [] = false
 startsWith (k ∷ ks) (b ∷ u) = eqb b k && startsWith ks u
-
--- the kind of the first byte
-unfoldable pub kindAt : List ℕ → Kind
-kindAt [] = Other
-kindAt (b ∷ u) = kindOf b
 
 -- is the first byte a digit?
 abbrev pub digitNext : List ℕ → Bool

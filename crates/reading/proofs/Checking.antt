@@ -90,5 +90,6 @@ module _ (paper : Paper) (s : List ℕ) (h : length s ≤ maxText) where
           go : (j : Judged (List Written)) → rulesFrom n (boundLimit paper n (setOf qs)) m 4 (drop body s) ≡ j
               → checkedRules n (setOf qs) m body j ≡ checkedOf (onward j (λ rs. accepted (made rs)))
           go (accepted ws x) q =
-              let k : length ws ≡ m = rules-count n (boundLimit paper n (setOf qs)) m 4 (drop body s) ws x q .0 in ap₂ (Passed n (setOf qs)) (sym k) (begins ws k)
+              let k : length ws ≡ m = rules-count n (boundLimit paper n (setOf qs)) m 4 (drop body s) ws x q .0 in
+              ap₂ (Passed n (setOf qs)) (sym k) (begins ws k)
           go (refused f) q = refl

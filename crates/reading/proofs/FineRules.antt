@@ -17,7 +17,8 @@ use Rattle.rules.specs.Limits.{noRule}
 use Rattle.rules.specs.Literal.{negated, literalOf}
 use Rattle.rules.specs.Steps.{isNone, ruleOf, halvedOf}
 use Rattle.tables.specs.declared.reply.Reply.the-variants.{Done}
-use Rattle.tables.specs.Tables.{hasRule, ruleReply, AllAccepted}
+use Rattle.tables.specs.Tables.{hasRule, ruleReply}
+use Rattle.tables.proofs.Lists.{AllAccepted}
 use Rattle.tables.proofs.Tests.{clash, both-true}
 use Rattle.tables.proofs.Replies.{one-inside, two-inside}
 use Rattle.lines.specs.Spelling.{Term, Written, one, two, rule, quantityWithin, lineWithin, cancelling, signedQuantity, writtenRule, writtenRules}

@@ -42,7 +42,7 @@ use Rattle.reading.specs.Reading.{onward, rulesFrom, linesFrom, checkTex
 use Rattle.reading.specs.Promises.{TextChecked, ReadInto}
 use Rattle.reading.proofs.Means.{text-means, reads-check, reads-same}
 use Rattle.reading.proofs.Replies.{not-both, reply-short, reply-accepted, reading-refused, reading-accepted}
-use Rattle.reading.proofs.Passing.{check-promised}
+use Rattle.reading.proofs.CheckedTexts.{check-promised}
 use Rattle.reading.proofs.Numbers.{zero-accepted}
 use Rattle.reading.proofs.Promised.{reading-kept, read-promised}
 
@@ -258,8 +258,8 @@ module _ (t t' : List ℤ) (n set : ℕ) (p : ReadInto textA t (Accepted n set) 
   unfolding blockStart
   enough =
       let a = p .accepted n set .0 refl in
-      let e : n ≡ 3 = a .counts ∙ ap (λ (c : Contents). c .count) (reads-same Sheet textA (a .contents) contentsA (a .reads) (sheetA-reads Sheet)) in
-      subst (λ (k : ℕ). blockStart k ≤ length t) e (a .enough)
+      let e = reads-same Sheet textA (a .contents) contentsA (a .reads) (sheetA-reads Sheet) in
+      subst (λ (c : Contents). blockStart (c .count) ≤ length t) e (a .enough)
 
   -- the table where A is accepted
   held : t' ≡ tableA ++ drop 18 t

@@ -18,11 +18,11 @@ use Rattle.rules.specs.declared.rule.Rule.the-variants.{One, Two, Nothing}
 use Rattle.rules.specs.Limits.{noRule}
 use Rattle.rules.specs.Steps.{halvedOf}
 use Rattle.tables.specs.declared.reply.Reply.the-variants.{Done}
-use Rattle.tables.specs.Places.{findPlace, placeOf}
-use Rattle.tables.specs.Tables.{ruleReply, putAt, putHalved, putRule, putAll, AllAccepted, emptyTable}
-use Rattle.tables.proofs.Places.{hasPlace-below}
+use Rattle.tables.specs.Places.{findPlace}
+use Rattle.tables.specs.Tables.{ruleReply, putAt, putHalved, putRule, putAll, emptyTable}
+use Rattle.tables.proofs.Places.{placeOf, hasPlace-below}
 use Rattle.tables.proofs.Putting.{one-accepted, two-accepted}
-use Rattle.tables.proofs.Lists.{put-length}
+use Rattle.tables.proofs.Lists.{AllAccepted, put-length}
 use Rattle.lines.specs.Spelling.{writtenRules}
 use Rattle.lines.specs.Lines.{accepted}
 use Rattle.reading.specs.Reading.{filled}

@@ -8,7 +8,7 @@ use borrow.Author.Tests.{leb-true}
 use Rattle.numerals.specs.Decimal.{cap}
 use Rattle.rules.specs.declared.paper.Paper.{Paper}
 use Rattle.rules.specs.Limits.{maxQuantities, maxRules, boundLimit}
-use Rattle.tables.specs.Tables.{AllAccepted}
+use Rattle.tables.proofs.Lists.{AllAccepted}
 use Rattle.lines.specs.Spelling.{Written, rule, lineText, lineWithin, writtenRules}
 use Rattle.lines.specs.Lines.{accepted, judged, ruleJudged}
 use Rattle.lines.proofs.Spellings.{rule-complete}

@@ -1,16 +1,16 @@
 -- The laws of texts: the lines after an opening, what they tell and what is answered; then what a text means, and what the calls' proofs share.
 pub mod Readers
-pub mod Onward
+pub mod LineAnswers
 pub mod Openings
 pub mod Steps
 pub mod Ending
-pub mod Telling
-pub mod Reaching
-pub mod Answering
+pub mod LinesAnswered
+pub mod AfterOpenings
+pub mod LinesSpelled
 pub mod Means
 pub mod Limits
 pub mod FineRules
-pub mod Passing
+pub mod CheckedTexts
 pub mod Replies
 pub mod Numbers
 pub mod Promised
@@ -19,6 +19,6 @@ pub mod Headers
 pub mod Fronts
 pub mod Filling
 pub mod Checking
-pub mod Replying
+pub mod ReadTexts
 pub mod Frauds
 pub mod Edges

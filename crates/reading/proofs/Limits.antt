@@ -14,7 +14,7 @@ use Rattle.rules.specs.declared.paper.Paper.{Paper}
 use Rattle.rules.specs.Limits.{maxQuantities, boundLimit}
 use Rattle.tables.proofs.Tests.{both-true}
 use Rattle.lines.specs.Spelling.{lineWithin}
-use Rattle.lines.proofs.Told.{cap-word}
+use Rattle.lines.proofs.CappedIntegers.{cap-word}
 use Rattle.reading.specs.Texts.{Contents}
 use Rattle.reading.specs.Meaning.{contentsLimit, FineLines}
 

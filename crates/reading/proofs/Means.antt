@@ -15,8 +15,8 @@ use Rattle.lines.specs.Lines.{Judged, accepted, refused}
 use Rattle.reading.specs.Texts.{Contents}
 use Rattle.reading.specs.Meaning.{Reads, FailsFor}
 use Rattle.reading.specs.Reading.{linesFrom, checkText}
-use Rattle.reading.proofs.Telling.{Tells, lines-tell}
-use Rattle.reading.proofs.Answering.{told-answer}
+use Rattle.reading.proofs.LinesAnswered.{Tells, lines-tell}
+use Rattle.reading.proofs.LinesSpelled.{told-answer}
 
 -- what checking a text has to answer: what it writes, with nothing after it, or the refusal
 abbrev pub Means : Paper → List ℕ → Judged Contents → Type 0

@@ -18,7 +18,7 @@ use Rattle.reading.specs.Texts.{Contents, ruleLines}
 use Rattle.reading.specs.Meaning.{Opening, start, counted, headed, ruled, linesOf, countOf, limitAt, Kind, quantities-line, hidden-line, rules-line, rule-line, no-line, dueKind, Fine, AllFine, AtMost}
 use Rattle.reading.specs.Reading.{onward, rulesFrom, linesFrom}
 use Rattle.reading.proofs.Readers.{Value, lineWith, reader}
-use Rattle.reading.proofs.Onward.{onward-onward, onward-same, judged-same}
+use Rattle.reading.proofs.LineAnswers.{onward-onward, onward-same, judged-same}
 
 -- the number of the line after an opening
 abbrev pub lineOf : Opening → ℕ

@@ -20,7 +20,7 @@ use Rattle.lines.specs.Spelling.{lineWithin}
 use Rattle.lines.proofs.SetMembers.{list-members}
 use Rattle.reading.specs.declared.read.Reading.the-variants.{Accepted, Refused}
 use Rattle.reading.specs.Texts.{Contents}
-use Rattle.reading.specs.Meaning.{Reads, Readable, FailsFor, roomFor, RefusedFor, AcceptedAs}
+use Rattle.reading.specs.Meaning.{Reads, FailsFor, roomFor, RefusedFor, AcceptedAs}
 use Rattle.reading.specs.Reading.{checkText, replyTo, readReply}
 use Rattle.reading.proofs.Means.{text-means, reads-check}
 
@@ -110,10 +110,10 @@ module _ (s : List ℕ) (words : ℕ) where
               let r : Accepted n set ≡ Accepted (c .count) (setOf (c .hiddens)) = sym e ∙ reply-accepted s words c p h in
               let k : n ≡ c .count = cc in
               let z : set ≡ setOf (c .hiddens) = cc in
-              record { contents = c; reads = p; counts = k; hides = z; members = λ q. rw z (reads-members Sheet s c p q); enough = rw k h }
+              record { contents = c; reads = p; counts = k; hides = z; members = λ q. rw z (reads-members Sheet s c p q); enough = h }
 
   accepted-reply : (n set : ℕ) → AcceptedAs s words n set → readReply s words ≡ Accepted n set
-  accepted-reply n set h = reply-accepted s words (h .contents) (h .reads) (rw (← h .counts) (h .enough)) ∙ rw (h .counts, h .hides)
+  accepted-reply n set h = reply-accepted s words (h .contents) (h .reads) (h .enough) ∙ rw (h .counts, h .hides)
 
   pub reading-accepted : (n set : ℕ) → (readReply s words ≡ Accepted n set) ↔ AcceptedAs s words n set
   reading-accepted n set = (accepted-why n set, accepted-reply n set)

@@ -194,4 +194,4 @@ pub record AcceptedAs (s : List ℕ) (words n set : ℕ) : Type 0 where
   pub counts : n ≡ contents .count
   pub hides : set ≡ setOf (contents .hiddens)
   pub members : (q : ℕ) → hiddenIn set q ≡ isListed q (contents .hiddens)
-  pub enough : blockStart n ≤ words
+  pub enough : blockStart (contents .count) ≤ words

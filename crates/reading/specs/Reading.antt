@@ -1,5 +1,4 @@
 -- Reading a text: its lines from the first, then the table (document 01, 'Returned to the caller').
-use mathlib.Core.Path.{_≡_}
 use mathlib.Core.Bool.{Bool, true, false, cond}
 use mathlib.Core.List.{List, [], _∷_, _++_}
 use Prim.Native.Nat.{ℕ, zero, suc}

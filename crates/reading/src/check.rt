@@ -4,6 +4,7 @@ use lines::answer::Answer;
 use lines::count;
 use lines::hidden;
 use lines::rule;
+use rules::hidden::Set;
 use rules::paper;
 use rules::paper::Paper;
 use rules::refusal::Refusal;
@@ -13,8 +14,6 @@ ghost use Prim.Native.Nat.{_≤_, _<_};
 ghost use lib.ListN.{drop};
 ghost use Rattle.numerals.specs.Decimal.{cap};
 ghost use Rattle.rules.specs.Limits.{maxQuantities, maxRules};
-ghost use Rattle.lines.specs.Answers.{refusalOf};
-ghost use Rattle.reading.specs.declared.check.Checked.the-variants.{Refused as Failed};
 ghost use Rattle.reading.specs.Reading.{rulesFrom};
 ghost use Rattle.reading.specs.Promises.{TextChecked};
 ghost use Rattle.reading.specs.Inner.{checkedRules};
@@ -23,7 +22,7 @@ pub enum Checked {
     // n, the hidden set, the number of rules, and the cursor at which their lines begin
     Passed {
         quantities: usize,
-        hidden: u32,
+        hidden: Set,
         rules: usize,
         body: usize,
     },
@@ -32,17 +31,8 @@ pub enum Checked {
     },
 }
 
-// A text's refusal, from the answer of a line that is refused.
-fn refused(answer: Answer) -> Checked
-    ensures { λ r. ⌜ r ≡ Failed (refusalOf answer) ⌝ }
-{
-    Checked::Refused {
-        refusal: answer::refusal(answer),
-    }
-}
-
 // Checks the lines of `count` rules from the cursor `body` on, the first being line 4, and that nothing follows them; `n` and `hidden` go into the answer.
-fn check_rules(s: &[u8], n: usize, hidden: u32, limit: u64, count: usize, body: usize) -> Checked
+fn check_rules(s: &[u8], n: usize, hidden: Set, limit: u64, count: usize, body: usize) -> Checked
     requires { ⌜ (n ≤ maxQuantities) × (limit < cap) × (count ≤ maxRules) ⌝ }
     ensures { λ r. ⌜ r ≡ checkedRules n hidden count body (rulesFrom n limit count 4 (drop body (now (s .entry)))) ⌝ }
 {
@@ -51,7 +41,9 @@ fn check_rules(s: &[u8], n: usize, hidden: u32, limit: u64, count: usize, body: 
     while i < count {
         let got = rule::rule_line(s, at, n, limit, i + 4);
         let Answer::Rule { rule: _, next } = got else {
-            return refused(got);
+            return Checked::Refused {
+                refusal: answer::refusal(got),
+            };
         };
         at = next;
         i = i + 1;
@@ -84,7 +76,9 @@ pub fn check(s: &[u8], paper: Paper) -> Checked
         next: second_at,
     } = first
     else {
-        return refused(first);
+        return Checked::Refused {
+            refusal: answer::refusal(first),
+        };
     };
     let second = hidden::hidden_line(s, second_at, n, 2);
     let Answer::Hidden {
@@ -92,7 +86,9 @@ pub fn check(s: &[u8], paper: Paper) -> Checked
         next: third_at,
     } = second
     else {
-        return refused(second);
+        return Checked::Refused {
+            refusal: answer::refusal(second),
+        };
     };
     let limit = paper::bound_limit(paper, n, set) as u64;
     let third = count::count_line(s, third_at, b"rules=", 0, Sheet::MAX_RULES, 3);
@@ -101,7 +97,9 @@ pub fn check(s: &[u8], paper: Paper) -> Checked
         next: body,
     } = third
     else {
-        return refused(third);
+        return Checked::Refused {
+            refusal: answer::refusal(third),
+        };
     };
     check_rules(s, n, set, limit, count, body)
 }

@@ -1,6 +1,7 @@
 // A table filled from a text that passed its check.
 use lines::answer::Answer;
 use lines::rule;
+use rules::hidden::Set;
 use rules::paper;
 use rules::paper::Paper;
 use tables::table;
@@ -16,7 +17,7 @@ pub fn fill(
     s: &[u8],
     paper: Paper,
     n: usize,
-    hidden: u32,
+    hidden: Set,
     count: usize,
     body: usize,
     table: &mut [i64],

@@ -2,6 +2,7 @@
 use crate::check;
 use crate::check::Checked;
 use crate::fill;
+use rules::hidden::Set;
 use rules::paper::Paper;
 use rules::refusal;
 use rules::refusal::Refusal;
@@ -11,7 +12,7 @@ ghost use Rattle.reading.specs.Promises.{ReadInto};
 
 pub enum Reading {
     // n and the hidden set
-    Accepted { quantities: usize, hidden: u32 },
+    Accepted { quantities: usize, hidden: Set },
     Refused { refusal: Refusal },
 }
 

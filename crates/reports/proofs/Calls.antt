@@ -1,12 +1,13 @@
 -- What the key call and the writer answer for a sheet's table: the call refuses with 5 alone, and its key can be written. Assumes nothing.
-use mathlib.Core.Path.{_≡_, refl, sym, _∙_}
-use mathlib.Core.Bool.{Bool, true, false}
+use mathlib.Core.Path.{_≡_, refl, sym, _∙_, ap}
+use mathlib.Core.Bool.{Bool, true, false, not}
 use mathlib.Core.List.{List}
 use Prim.Native.Nat.{ℕ, _*_, _≤_}
 use native.Mathlib.Omega.{arith}
 use lib.IntN.{ℤ}
 use lib.ListN.{length}
 use Rattle.places.specs.Numbering.{blockStart}
+use Rattle.rules.specs.declared.paper.Paper.the-variants.{Sheet}
 use Rattle.rules.specs.declared.refusal.Refusal.{Refusal}
 use Rattle.rules.specs.declared.refusal.Refusal.the-variants.{NoAssignment}
 use Rattle.rules.specs.Hidden.{hiddenIn, setWithin}
@@ -16,21 +17,23 @@ use Rattle.tables.specs.declared.reply.Reply.the-variants.{Done, Refused}
 use Rattle.tables.specs.Tables.{serves}
 use Rattle.tables.proofs.Sizes.{small-start, long-serves}
 use Rattle.tables.proofs.Tests.{refused-done}
-use Rattle.keys.specs.Keys.{keyOf, refuted, keyChecks, keyReply, orNoAssignment}
+use Rattle.tables.specs.Replies.{check}
+use Rattle.keys.specs.Keys.{keyOf, refuted}
 use Rattle.keys.specs.Promises.{Keyed}
-use Rattle.keys.proofs.Checking.{then-passed}
+use Rattle.keys.proofs.Promised.{key-late}
 use Rattle.numerals.specs.Writing.{Spliced}
 use Rattle.numerals.proofs.Splices.{splice-start}
 use Rattle.writing.specs.declared.write.Writing.{Writing}
 use Rattle.writing.specs.declared.write.Writing.the-variants.{Text}
 use Rattle.writing.specs.declared.write.Writing.the-variants.{Refused as Writing·Refused}
-use Rattle.writing.specs.Writing.{writtenText, written}
+use Rattle.writing.specs.Writing.{writtenText, writingNumber}
 use Rattle.writing.specs.Promises.{maxWritten, TextWritten}
-use Rattle.writing.proofs.Promised.{reply-text, refused-text, text-same}
+use Rattle.writing.proofs.Promised.{reply-text, refused-text, text-same, number-output}
 use Rattle.reports.specs.Refusals.{refusalText}
 use Rattle.reports.specs.Reports.{tableReport}
-use Rattle.reports.specs.Promises.{SheetTable}
-use Rattle.scripts.proofs.Sheets.{fine-sheet, key-checks, key-length}
+use Rattle.reports.specs.Inner.{SheetTable}
+use Rattle.scripts.specs.Meaning.{setIn, tableIn}
+use Rattle.scripts.proofs.Sheets.{FineSheet, fine-table, table-sized, key-length}
 use Rattle.reports.proofs.Reports.{table-length}
 
 -- ---- the writer, where it can write
@@ -48,42 +51,40 @@ module _ {n set : ℕ} {t : List ℤ} {out : List ℕ} {r : Writing} {out' : Lis
 
   -- its text stands at the start
   pub text-spliced : (m : ℕ) → r ≡ Text m → Spliced out 0 (writtenText n set t) m out'
-  unfolding written
   text-spliced m e = record {
     cursor = omega (arith, text-same (sym e ∙ replied));
-    buffer = w .bytes ∙ rw (← w .reply, replied) (sym (splice-start out (writtenText n set t)));
+    buffer = w .bytes ∙ number-output n set t out (ap writingNumber (sym (w .reply) ∙ replied)) ∙ sym (splice-start out (writtenText n set t));
   }
 
 -- ---- a sheet's table
 
 -- its report is never longer than the longest text written
 pub report-room : {n set : ℕ} {t : List ℤ} → SheetTable n set t → length (tableReport n set t) ≤ maxWritten
-report-room s = rw (s .counts, s .hides, s .holds) (table-length (s .contents) (fine-sheet (s .contents) (s .fine)))
+report-room s = rw (s .counts, s .hides, s .holds) (table-length (s .contents) (fine-table Sheet (s .contents) (s .fine)))
 
 -- ---- the key call on it, with a workspace for every table
 
--- the reply by the decision tells it
-decided : (b : Bool) → orNoAssignment b ≡ Done → b ≡ false
-unfolding orNoAssignment
-decided true e = absurd (refused-done e)
-decided false e = refl
-
-refused-five : (b : Bool) (f : Refusal) → orNoAssignment b ≡ Refused f → (b ≡ true) × (f ≡ NoAssignment)
-unfolding orNoAssignment
-refused-five true f e = (refl, cc)
-refused-five false f e = absurd (refused-done (sym e))
-
 module _ {n set : ℕ} {t w : List ℤ} {r : Reply} {t' w' : List ℤ} (k : Keyed n set t w r t' w') (s : SheetTable n set t)
     (h : 2 * (maxQuantities * maxQuantities) ≤ length w) where
-  -- its checks pass
-  replied-key : r ≡ orNoAssignment (refuted n t)
-  unfolding keyReply
+  -- the sheet's table is fine
+  fine : FineSheet (s .contents)
+  fine = fine-table Sheet (s .contents) (s .fine)
+
+  -- its checks before 5 pass
+  replied-key : r ≡ check (not (refuted n t)) NoAssignment Done
   replied-key =
       let c = s .contents in
-      let f = fine-sheet c (s .fine) in
-      let checks : keyChecks n set t (length w) ≡ Done =
-      rw (s .counts, s .hides, s .holds) (key-checks c f (length w) (omega (arith, small-start (c .count) (f .most)))) in
-      k .reply ∙ then-passed (keyChecks n set t (length w)) (orNoAssignment (refuted n t)) checks
+      k .reply ∙ rw (s .counts, s .hides, s .holds)
+      (key-late (c .count) (setIn c) (tableIn c) (length w) (table-sized Sheet c fine) (omega (arith, small-start (c .count) (fine .most)))
+      (fine .range, fine .bounds))
+
+  decided : (b : Bool) → check (not b) NoAssignment Done ≡ Done → b ≡ false
+  decided true e = absurd (refused-done e)
+  decided false e = refl
+
+  refused-five : (b : Bool) (f : Refusal) → check (not b) NoAssignment Done ≡ Refused f → (b ≡ true) × (f ≡ NoAssignment)
+  refused-five true f e = (refl, cc)
+  refused-five false f e = absurd (refused-done (sym e))
 
   -- done: the table is the key
   keyed : r ≡ Done → t' ≡ keyOf (hiddenIn set) n t
@@ -93,8 +94,8 @@ module _ {n set : ℕ} {t w : List ℤ} {r : Reply} {t' w' : List ℤ} (k : Keye
   pub key-serves : r ≡ Done → (serves n (length t') ≡ true) × (setWithin n set ≡ true)
   key-serves e =
       let c = s .contents in
-      let f = fine-sheet c (s .fine) in
-      rw (keyed e, s .counts, s .hides, s .holds) (rw (key-length c f) (long-serves (c .count) (blockStart (c .count)) (f .some) (f .most) (omega arith)), f .range)
+      rw (keyed e, s .counts, s .hides, s .holds)
+      (rw (key-length c fine) (long-serves (c .count) (blockStart (c .count)) (fine .some) (fine .most) (omega arith)), fine .range)
 
   -- and its text is what is printed
   pub report-done : r ≡ Done → tableReport n set t ≡ writtenText n set t'

@@ -11,7 +11,7 @@ use lib.ListN.{take}
 use Rattle.integers.specs.Bound.{half, oppositeBound, smaller}
 use Rattle.words.specs.Change.{changeFrom, change, lowered}
 use Rattle.places.specs.Numbering.{blockStart, placeOfOne, placeOfPair, placeOfTwo, findTwo, blockUpTo, blockOf, offsetOf, isOne, higherAt, lowerAt}
-use Rattle.rules.specs.Limits.{maxQuantities}
+use Rattle.rules.specs.Limits.{maxQuantities, boundLimit}
 use Rattle.rules.specs.Meaning.{names}
 use Rattle.rules.specs.Steps.{ruleOf, oppositeOf, halvedOf}
 use Rattle.tables.specs.Places.{ruleAt, findPlace}
@@ -19,22 +19,24 @@ use Rattle.tables.specs.Tables.{putAt, putHalved, putRule, putAll, cleared}
 use Rattle.elimination.specs.Hiding.{withSum, withHalf, bareBelow, pairWord, onOne, onTwo, lowestAt, pairing, anyBare, paired, contradicts, eliminated}
 use Rattle.keys.specs.Keys.{hideUpTo, keyOf, refutedUpTo, refuted}
 use Rattle.marking.specs.Verdicts.{isShown}
-use Rattle.marking.specs.Marking.{breakable, firstRule, firstBroken, verdictOf, namesHidden, anyNamesHidden, visibleReply}
+use Rattle.marking.specs.Meaning.{LooseShown, TightShown}
+use Rattle.marking.specs.Marking.{breakable, firstRule, firstBroken, verdictOf, namesHidden, anyNamesHidden}
 use Rattle.numerals.specs.Bytes.{bytes}
 use Rattle.numerals.specs.Decimal.{decimalUpTo, signedDecimal}
 use Rattle.numerals.proofs.Decimals.{up-to-enough}
 use Rattle.numerals.specs.Parsing.{andThen, expect, digitsFrom, numeralOf}
 use Rattle.lines.specs.Spelling.{two, termText, ruleText, joinedText, listText, valueText, lineText, cancelling, writtenRule}
 use Rattle.lines.specs.Lines.{ended, countLine, membersAfter, membersFrom, listOf, hiddenLine, termOf, boundAt, boundLine, afterTerm, ruleLine, judged, countJudged, hiddenJudged, ruleJudged}
-use Rattle.rules.specs.Hidden.{setOf}
-use Rattle.tables.specs.Replies.{andThen as inTurn, lengthReply}
+use Rattle.rules.specs.Hidden.{hiddenIn, setOf}
 use Rattle.reading.specs.Texts.{Contents, linesText, headerText, sheetText}
+use Rattle.reading.specs.Meaning.{rulesOf}
 use Rattle.reading.specs.Reading.{onward, rulesFrom, linesFrom, checkText}
 use Rattle.writing.specs.Writing.{writtenOf, rulesAt, hiddenFrom, writtenText, countText}
 use Rattle.scripts.specs.declared.reply.TextMarking.{TextMarking}
 use Rattle.scripts.specs.declared.reply.TextMarking.the-variants.{Marked, Refused}
-use Rattle.scripts.specs.Promises.{TextsShown}
-use Rattle.scripts.specs.Marking.{roomChecks, headersReply, firstChecks, pairChecks, pairReply, textsReply, ownLengths}
+use Rattle.scripts.specs.Replies.{textNumber, textRule}
+use Rattle.scripts.specs.Marking.{roomChecks, pairChecks, pairReply, textsReply}
+use Rattle.scripts.specs.Meaning.{ownLengths, setIn, AcceptedPair}
 use Rattle.reports.specs.Refusals.{refusalText}
 use Rattle.reports.specs.Reports.{tableReport, reportOf, keyReport}
 use Rattle.reports.specs.Marks.{wordText, valuesText, shownText, verdictText, markText}
@@ -69,7 +71,11 @@ MarkPasses c = (values : List ℤ) → markText (replyFor c) values ≡ bytes (c
 
 -- this assignment shows it, as the contract asks
 abbrev pub MayShow : MarkCase → List ℤ → Type 0
-MayShow c values = TextsShown (bytes (c .sheet)) (bytes (c .script)) (ownLengths maxQuantities) (replyFor c) values
+MayShow c values = (t : AcceptedPair (bytes (c .sheet)) (bytes (c .script)) (ownLengths maxQuantities))
+    → (textNumber (replyFor c) ≡ 101
+    → LooseShown (t .of-sheet .count) (hiddenIn (setIn (t .of-sheet))) (rulesOf (t .of-sheet)) (rulesOf (t .of-script)) (textRule (replyFor c)) values)
+    × (textNumber (replyFor c) ≡ 102
+    → TightShown (t .of-sheet .count) (hiddenIn (setIn (t .of-sheet))) (rulesOf (t .of-sheet)) (rulesOf (t .of-script)) (textRule (replyFor c)) values)
 
 -- a case of one program or the other, or an assignment that shows a verdict
 pub data Case : Type 0 where
@@ -181,12 +187,12 @@ unfolding
     blockStart placeOfOne placeOfPair placeOfTwo findTwo blockUpTo blockOf offsetOf isOne higherAt lowerAt
     names ruleOf oppositeOf halvedOf ruleAt findPlace putAt putHalved putRule putAll cleared
     withSum withHalf bareBelow pairWord onOne onTwo lowestAt pairing anyBare paired contradicts eliminated
-    hideUpTo keyOf refutedUpTo refuted inTurn lengthReply
-    breakable firstRule firstBroken verdictOf namesHidden anyNamesHidden visibleReply
+    boundLimit hideUpTo keyOf refutedUpTo refuted
+    breakable firstRule firstBroken verdictOf namesHidden anyNamesHidden
     andThen expect digitsFrom numeralOf cancelling writtenRule
     ended countLine membersAfter membersFrom listOf hiddenLine termOf boundAt boundLine afterTerm ruleLine judged countJudged hiddenJudged ruleJudged setOf
     onward rulesFrom linesFrom checkText writtenOf rulesAt hiddenFrom writtenText tableReport reportOf keyReport
-    roomChecks headersReply firstChecks pairChecks pairReply textsReply markText
+    roomChecks pairChecks pairReply textsReply markText
 reckoning = tt
 
 -- and this the spelling

@@ -16,12 +16,11 @@ use Rattle.numerals.proofs.Decimals.{signed-some}
 use Rattle.marking.specs.declared.verdict.Verdict.the-variants.{Loose}
 use Rattle.scripts.specs.declared.reply.TextMarking.{TextMarking}
 use Rattle.scripts.specs.declared.reply.TextMarking.the-variants.{Marked}
-use Rattle.scripts.specs.Replies.{isTextMarked, textCounts}
+use Rattle.scripts.specs.Replies.{textNumber, isTextMarked, textCounts}
 use Rattle.reports.specs.Reports.{keyReport}
 use Rattle.reports.specs.Marks.{integersText, valuesText, markText}
 use Rattle.reports.specs.Promises.{KeyPrinted, MarkPrinted}
 use Rattle.reports.proofs.Marks.{later-more-length, integers-length, values-length}
-use Rattle.reports.proofs.Markings.{verdict-returned}
 use Rattle.reports.proofs.Cases.{KeyCase, KeyPasses, shownLine, sheetA, wide, halvedBelow, oneHalf, seenLate, unpaired}
 use Rattle.reports.proofs.Starred.{starred-pass}
 use Rattle.reports.proofs.Shown.{sumRule, wide-loose}
@@ -78,7 +77,7 @@ pub three-integers : {out : List ℕ} {end : ℕ} {out' : List ℕ} (p : WidePri
 three-integers p =
     let e : p .reply ≡ Marked 3 (Loose sumRule) = p .judged .reply ∙ wide-loose in
     let t = p .judged .accepted .0 (ap isTextMarked e) in
-    let shown = p .shown .loose-shown t sumRule (verdict-returned e) in
+    let shown = p .judged .judged t .means .loose (ap textNumber e) .1 in
     let c : 3 ∷ [] ≡ t .of-sheet .count ∷ [] = sym (ap textCounts e) ∙ p .judged .counts t in
     let n : 3 ≡ t .of-sheet .count = cc in
     omega (arith, shown .there)

@@ -10,7 +10,7 @@ use lib.ListN.{length, take}
 use Rattle.words.specs.Change.{wordAt}
 use Rattle.places.specs.Numbering.{blockStart}
 use Rattle.rules.specs.Hidden.{hiddenIn}
-use Rattle.rules.specs.Limits.{maxBound}
+use Rattle.rules.specs.declared.paper.Paper.the-variants.{Sheet}
 use Rattle.rules.specs.Meaning.{names}
 use Rattle.tables.specs.Places.{ruleAt}
 use Rattle.tables.specs.Tables.{hasRule}
@@ -19,12 +19,12 @@ use Rattle.tables.proofs.Tests.{clash}
 use Rattle.keys.proofs.Several.{key-visible}
 use Rattle.lines.specs.Spelling.{writtenRules}
 use Rattle.reading.specs.Texts.{Contents}
-use Rattle.reading.specs.Meaning.{Spells}
+use Rattle.reading.specs.Meaning.{Spells, contentsLimit}
 use Rattle.writing.specs.Writing.{writtenOf, rulesAt, tableRules, writtenText}
 use Rattle.writing.proofs.Meanings.{written-rule, front-word}
 use Rattle.writing.proofs.Back.{spells-within}
 use Rattle.scripts.specs.Meaning.{setIn, tableIn}
-use Rattle.scripts.proofs.Sheets.{keyIn, Sheet, key-bounds}
+use Rattle.scripts.proofs.Sheets.{keyIn, FineSheet, key-bounds}
 
 -- ---- every line is fine
 
@@ -33,8 +33,8 @@ abbrev pub keyContents : Contents → Contents
 keyContents c = record { count = c .count; hiddens = c .hiddens; written = tableRules (c .count) (keyIn c) }
 
 -- the key's text spells them
-pub key-spells : (c : Contents) → Sheet c → Spells (maxBound * 2 ^ length (c .hiddens)) (writtenText (c .count) (setIn c) (keyIn c)) (keyContents c)
-key-spells c s = rw (s .back) at (spells-within (c .count) (setIn c) (keyIn c) (s .some) (s .most) (maxBound * 2 ^ length (c .hiddens)) (key-bounds c s))
+pub key-spells : (c : Contents) → FineSheet c → Spells (contentsLimit Sheet c * 2 ^ length (c .hiddens)) (writtenText (c .count) (setIn c) (keyIn c)) (keyContents c)
+key-spells c s = rw (s .back) at (spells-within (c .count) (setIn c) (keyIn c) (s .some) (s .most) (contentsLimit Sheet c * 2 ^ length (c .hiddens)) (key-bounds c s))
 
 -- ---- no rule names a hidden quantity
 
@@ -68,7 +68,7 @@ table-spares n hidden t v q h = words-spare q 0 (take (blockStart n) t) each
         rw (zero-add k, w .2) (spared k (record { inside = w .0; there = w .1; rule = rw (w .2) at e }) (names q (ruleIn t k)) refl)
 
 -- so none of a key's does
-pub key-spares : (c : Contents) → Sheet c → (q : ℕ) → hiddenIn (setIn c) q ≡ true → NoneNames q (writtenRules (tableRules (c .count) (keyIn c)))
+pub key-spares : (c : Contents) → FineSheet c → (q : ℕ) → hiddenIn (setIn c) q ≡ true → NoneNames q (writtenRules (tableRules (c .count) (keyIn c)))
 key-spares c s = table-spares (c .count) hidden (keyIn c) (key-visible hidden (c .count) (tableIn c) (omega (arith, s .size)))
   where
     hidden : ℕ → Bool

@@ -16,18 +16,21 @@ use Rattle.numerals.specs.Bytes.{newline, comma}
 use Rattle.numerals.specs.Decimal.{signedDecimal}
 use Rattle.rules.specs.declared.rule.Rule.{Rule}
 use Rattle.rules.specs.declared.refusal.Refusal.{Refusal}
-use Rattle.rules.specs.Limits.{maxQuantities, maxBound}
+use Rattle.rules.specs.declared.paper.Paper.the-variants.{Sheet}
+use Rattle.rules.specs.Limits.{maxQuantities}
+use Rattle.rules.specs.Refusal.{refusalLine}
 use Rattle.tables.specs.Meaning.{ruleIn, Solutions, WordsWithin}
 use Rattle.tables.proofs.Places.{ruleAt-bound, ruleAt-hasPlace}
 use Rattle.marking.specs.declared.verdict.Verdict.{Verdict}
 use Rattle.marking.specs.Meaning.{FirstBroken, ValuesWithin}
 use Rattle.reading.specs.Texts.{Contents}
+use Rattle.reading.specs.Meaning.{contentsLimit}
 use Rattle.writing.specs.Writing.{ruleLineText}
 use Rattle.writing.proofs.Lines.{word-short, line-short}
 use Rattle.scripts.specs.declared.reply.Subject.{Subject}
 use Rattle.scripts.specs.declared.reply.Subject.the-variants.{Sheet as OfSheet, Script as OfScript, Both as OfBoth}
-use Rattle.scripts.proofs.Sheets.{Sheet, limit-most}
-use Rattle.reports.specs.Refusals.{lineOf, numberText, whereText}
+use Rattle.scripts.proofs.Sheets.{FineSheet, limit-most}
+use Rattle.reports.specs.Refusals.{numberText, whereText}
 use Rattle.reports.specs.Marks.{
   verdictKey,
   valuesKey,
@@ -196,7 +199,7 @@ broken-short {n} {rules} {paper} {r} B f h g w =
     rw (f .is) (line-short n 20 (ruleIn rules k) h (ruleAt-hasPlace n k (wordAt rules k) (p .inside)) (rw (ruleAt-bound k (wordAt rules k)) width))
 
 -- the bounds of a sheet's key are words
-pub key-words : (c : Contents) → Sheet c → maxBound * 2 ^ length (c .hiddens) < 2 ^ 63
+pub key-words : (c : Contents) → FineSheet c → contentsLimit Sheet c * 2 ^ length (c .hiddens) < 2 ^ 63
 key-words c s = omega (arith, limit-most c s)
 
 -- the name of a paper has at most 6 bytes
@@ -205,7 +208,7 @@ name-short OfSheet = omega arith
 name-short OfScript = omega arith
 name-short OfBoth = omega arith
 
--- the text of a refusal whose line has at most four digits has at most 33 bytes
-pub refused-short : (p : Subject) (f : Refusal) → lineOf f < 10 ^ 4 → length (refusedMarkText p f) ≤ 33
+-- the text of a refusal whose line has at most four digits has at most 34 bytes
+pub refused-short : (p : Subject) (f : Refusal) → refusalLine f < 10 ^ 4 → length (refusedMarkText p f) ≤ 34
 refused-short p f h =
     omega (arith, refused-length p f, refusal-parts f, refusal-width 3 f h, word-length paperKey (paperName p), name-short p)

@@ -8,18 +8,16 @@ use Prim.Native.Nat.{ℕ, _≤_}
 use native.Mathlib.Omega.{arith}
 use lib.ListN.{length, drop, length-append}
 use lib.Seq.{length-take-le}
+use Rattle.rules.specs.declared.paper.Paper.the-variants.{Sheet}
 use Rattle.rules.specs.declared.refusal.Refusal.{Refusal}
 use Rattle.rules.specs.declared.refusal.Refusal.the-variants.{NoAssignment}
-use Rattle.rules.specs.Limits.{maxBound, maxText}
 use Rattle.rules.specs.Meaning.{Assignment}
 use Rattle.keys.specs.Keys.{refuted}
 use Rattle.numerals.specs.Writing.{Spliced}
 use Rattle.numerals.proofs.Splices.{splice-start}
 use Rattle.lines.specs.Lines.{Judged, accepted, refused}
-use Rattle.lines.specs.Spelling.{lineWithin}
-use Rattle.lines.proofs.SetMembers.{list-members}
 use Rattle.reading.specs.Texts.{Contents}
-use Rattle.reading.specs.Meaning.{Spells, rulesOf, FailsFor, Means}
+use Rattle.reading.specs.Meaning.{Reads, rulesOf, FailsFor}
 use Rattle.reading.specs.Reading.{checkText}
 use Rattle.writing.specs.Writing.{tableRules, writtenText}
 use Rattle.writing.specs.Promises.{maxWritten}
@@ -28,9 +26,9 @@ use Rattle.reports.specs.Refusals.{refusalText}
 use Rattle.reports.specs.Reports.{tableReport, reportOf, keyReport}
 use Rattle.reports.specs.Meaning.{KeyText, Unmet}
 use Rattle.reports.specs.Promises.{KeyPrinted}
-use Rattle.reading.proofs.Means.{text-means}
+use Rattle.reading.proofs.Means.{Means, text-means, reads-check}
 use Rattle.scripts.specs.Meaning.{setIn, tableIn}
-use Rattle.scripts.proofs.Sheets.{keyIn, Sheet, fine-sheet, sheet-refuted, sheet-unmet, sheet-met, key-length, key-meaning, key-text-length}
+use Rattle.scripts.proofs.Sheets.{keyIn, FineSheet, fine-table, sheet-refuted, sheet-unmet, sheet-met, key-length, key-meaning, key-text-length, key-text-short}
 use Rattle.reports.proofs.KeyTexts.{key-spells, key-spares}
 use Rattle.reports.proofs.Refusals.{refusal-width}
 use Rattle.reports.proofs.Telling.{refusal-same, fails-number, text-unlike}
@@ -49,7 +47,7 @@ unfolding tableReport
 report-key c e = rw e
 
 -- never longer than the longest text written
-pub table-length : (c : Contents) → Sheet c → length (tableReport (c .count) (setIn c) (tableIn c)) ≤ maxWritten
+pub table-length : (c : Contents) → FineSheet c → length (tableReport (c .count) (setIn c) (tableIn c)) ≤ maxWritten
 unfolding tableReport
 table-length c s = go (refuted (c .count) (tableIn c))
   where
@@ -60,63 +58,63 @@ table-length c s = go (refuted (c .count) (tableIn c))
 -- ---- of a text
 
 -- it is refused: the refusal
-pub report-refused : (s : List ℕ) (f : Refusal) → FailsFor s f → keyReport s ≡ refusalText f
+pub report-refused : (s : List ℕ) (f : Refusal) → FailsFor Sheet s f → keyReport s ≡ refusalText f
 unfolding keyReport reportOf
-report-refused s f h = rw (text-means s (refused f) .1 h)
+report-refused s f h = rw (text-means Sheet s (refused f) .1 h)
 
 -- it is accepted: what is printed of its table
-pub report-accepted : (s : List ℕ) (c : Contents) → length s ≤ maxText → Spells maxBound s c
+pub report-accepted : (s : List ℕ) (c : Contents) → Reads Sheet s c
     → keyReport s ≡ tableReport (c .count) (setIn c) (tableIn c)
 unfolding keyReport reportOf
-report-accepted s c l p = rw (text-means s (accepted c []) .1 (l, p, refl))
+report-accepted s c p = rw (reads-check Sheet s c p)
 
 -- no integers meet its rules: 5
-report-none : (s : List ℕ) (c : Contents) → length s ≤ maxText → Spells maxBound s c → ((σ : Assignment) → rulesOf c σ → ⊥)
+report-none : (s : List ℕ) (c : Contents) → Reads Sheet s c → ((σ : Assignment) → rulesOf c σ → ⊥)
     → keyReport s ≡ refusalText NoAssignment
-report-none s c l p none = report-accepted s c l p ∙ report-five c (sheet-refuted c (fine-sheet c (p .fine)) none)
+report-none s c p none = report-accepted s c p ∙ report-five c (sheet-refuted c (fine-table Sheet c (p .spelled .fine)) none)
 
 -- some do: the text of its key
-pub report-some : (s : List ℕ) (c : Contents) → length s ≤ maxText → Spells maxBound s c → (σ : Assignment) → rulesOf c σ → KeyText c (keyReport s)
-unfolding lineWithin
-report-some s c l p σ₀ m =
-    let t = fine-sheet c (p .fine) in
-    let members = list-members (c .count) (c .hiddens) (p .fine .1 .0 .formed) (p .fine .1 .0 .within) in
+pub report-some : (s : List ℕ) (c : Contents) → Reads Sheet s c → (σ : Assignment) → rulesOf c σ → KeyText c (keyReport s)
+report-some s c p σ₀ m =
+    let t = fine-table Sheet c (p .spelled .fine) in
+    let e = report-accepted s c p ∙ report-key c (sheet-met c t σ₀ m) in
     record {
       key = tableRules (c .count) (keyIn c);
-      spelled = rw (report-accepted s c l p ∙ report-key c (sheet-met c t σ₀ m)) (key-spells c t);
-      visible = λ q e. key-spares c t q (members q ∙ e);
+      spelled = rw e (key-spells c t);
+      visible = λ q h. key-spares c t q (t .members q ∙ h);
       meaning = λ σ.
           let w = table-meaning (c .count) (keyIn c) (omega (arith, key-length c t)) σ in
           let k = key-meaning c t σ₀ m σ in
           (λ a. k .0 (w .1 a), λ a. w .0 (k .1 a));
+      short = rw e (key-text-short c t);
     }
 
 -- what is printed is a refusal's text: it is the text's own, or 5 and no integers meet its rules
-report-tells : (s : List ℕ) (f : Refusal) → keyReport s ≡ refusalText f → FailsFor s f ⊎ ((f ≡ NoAssignment) × Unmet s)
+report-tells : (s : List ℕ) (f : Refusal) → keyReport s ≡ refusalText f → FailsFor Sheet s f ⊎ ((f ≡ NoAssignment) × Unmet s)
 unfolding keyReport reportOf
-report-tells s f = go (checkText s) (text-means s (checkText s) .0 refl)
+report-tells s f = go (checkText Sheet s) (text-means Sheet s (checkText Sheet s) .0 refl)
   where
-    table : (c : Contents) → length s ≤ maxText → Spells maxBound s c → (b : Bool) → refuted (c .count) (tableIn c) ≡ b
+    table : (c : Contents) → Reads Sheet s c → (b : Bool) → refuted (c .count) (tableIn c) ≡ b
         → tableReport (c .count) (setIn c) (tableIn c) ≡ refusalText f → (f ≡ NoAssignment) × Unmet s
-    table c l p true h e = (
-      sym (refusal-same NoAssignment f (omega arith) (sym (report-five c h) ∙ e)),
-      record { contents = c; small = l; spelled = p; none = sheet-unmet c (fine-sheet c (p .fine)) h },
+    table c p true h e = (
+      sym (refusal-same NoAssignment f (λ z. omega arith) (sym (report-five c h) ∙ e)),
+      record { contents = c; reads = p; none = sheet-unmet c (fine-table Sheet c (p .spelled .fine)) h },
     )
-    table c l p false h e = absurd (text-unlike (c .count) (setIn c) (keyIn c) f (sym (report-key c h) ∙ e))
+    table c p false h e = absurd (text-unlike (c .count) (setIn c) (keyIn c) f (sym (report-key c h) ∙ e))
 
-    go : (j : Judged Contents) → Means s j → reportOf j ≡ refusalText f → FailsFor s f ⊎ ((f ≡ NoAssignment) × Unmet s)
-    go (accepted c u) m e = inr (table c (m .0) (m .1) (refuted (c .count) (tableIn c)) refl e)
-    go (refused g) m e = inl (subst (FailsFor s) (refusal-same g f (fails-number s g m) e) m)
+    go : (j : Judged Contents) → Means Sheet s j → reportOf j ≡ refusalText f → FailsFor Sheet s f ⊎ ((f ≡ NoAssignment) × Unmet s)
+    go (accepted c u) m e = inr (table c (m .0) (refuted (c .count) (tableIn c)) refl e)
+    go (refused g) m e = inl (subst (FailsFor Sheet s) (refusal-same g f (fails-number Sheet s g m .1) e) m)
 
 -- a refusal other than 5, exactly when the text is refused for it
-pub refused-exactly : (s : List ℕ) (f : Refusal) → (f ≡ NoAssignment → ⊥) → (keyReport s ≡ refusalText f) ↔ FailsFor s f
+pub refused-exactly : (s : List ℕ) (f : Refusal) → (f ≡ NoAssignment → ⊥) → (keyReport s ≡ refusalText f) ↔ FailsFor Sheet s f
 refused-exactly s f other = (λ e. ⊎-elim (λ h. h) (λ u. absurd (other (u .0))) (report-tells s f e), report-refused s f)
 
 -- 5, exactly when the text is accepted and no integers meet its rules
 pub five-exactly : (s : List ℕ) → (keyReport s ≡ refusalText NoAssignment) ↔ Unmet s
 five-exactly s = (
-  λ e. ⊎-elim (λ h. absurd h) (λ u. u .1) (report-tells s NoAssignment e),
-  λ u. report-none s (u .contents) (u .small) (u .spelled) (u .none),
+  λ e. ⊎-elim (λ h. absurd (fails-number Sheet s NoAssignment h .0 refl)) (λ u. u .1) (report-tells s NoAssignment e),
+  λ u. report-none s (u .contents) (u .reads) (u .none),
 )
 
 -- the record of the contract, where the text printed is known

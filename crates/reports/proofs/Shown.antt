@@ -9,6 +9,8 @@ use lib.Dec.{T}
 use lib.IntN.{ℤ, pos, negℤ}
 use lib.Signed.{leZ, leZ-yes}
 use Rattle.integers.specs.Bound.{Within}
+use Rattle.rules.specs.declared.paper.Paper.{Paper}
+use Rattle.rules.specs.declared.paper.Paper.the-variants.{Sheet, Script}
 use Rattle.rules.specs.declared.rule.Rule.{Rule}
 use Rattle.rules.specs.Hidden.{hiddenIn, setOf}
 use Rattle.rules.specs.Meaning.{literalValue}
@@ -19,24 +21,23 @@ use Rattle.tables.proofs.Tests.{clash}
 use Rattle.elimination.specs.Magnitude.{valueLimit}
 use Rattle.marking.specs.declared.verdict.Verdict.the-variants.{Loose, Tight}
 use Rattle.marking.specs.Meaning.{ValuesWithin, LooseShown, TightShown}
-use Rattle.marking.proofs.Carried.{loose-shown-alike, tight-shown-alike}
 use Rattle.numerals.specs.Bytes.{bytes}
 use Rattle.lines.specs.Spelling.{Term, one, two, writtenRule}
-use Rattle.lines.specs.Lines.{Judged, accepted, refused}
+use Rattle.lines.specs.Lines.{accepted}
 use Rattle.reading.specs.Texts.{Contents}
-use Rattle.reading.specs.Meaning.{rulesOf}
+use Rattle.reading.specs.Meaning.{Reads, rulesOf}
 use Rattle.reading.specs.Reading.{checkText}
-use Rattle.reading.proofs.Means.{spelled-check}
+use Rattle.reading.proofs.Means.{reads-same}
 use Rattle.reading.proofs.Frauds.{contentsA}
 use Rattle.scripts.specs.declared.reply.TextMarking.the-variants.{Marked}
-use Rattle.scripts.specs.Replies.{textNumber, textValues}
-use Rattle.scripts.specs.Meaning.{Reads}
+use Rattle.scripts.specs.Replies.{textNumber, textRule}
+use Rattle.scripts.proofs.Judging.{accepted-reads}
 use Rattle.reports.proofs.Cases.{MayShow, sheetA, wide, narrow, replyFor, reckoning}
 
 -- ---- what the texts write
 
 -- sheet A
-pub sheet-writes : checkText (bytes (sheetA .sheet)) ≡ accepted contentsA []
+pub sheet-writes : checkText Sheet (bytes (sheetA .sheet)) ≡ accepted contentsA []
 unfolding reckoning
 sheet-writes = refl
 
@@ -51,7 +52,7 @@ third = record { negative = false; quantity = 3 }
 abbrev pub contentsWide : Contents
 contentsWide = record { count = 3; hiddens = 2 ∷ []; written = one first (pos 3) ∷ [] }
 
-pub wide-writes : checkText (bytes (wide .script)) ≡ accepted contentsWide []
+pub wide-writes : checkText Script (bytes (wide .script)) ≡ accepted contentsWide []
 unfolding reckoning
 wide-writes = refl
 
@@ -59,7 +60,7 @@ wide-writes = refl
 abbrev pub contentsNarrow : Contents
 contentsNarrow = record { count = 3; hiddens = 2 ∷ []; written = one first (pos 2) ∷ two first third (pos 5) ∷ [] }
 
-pub narrow-writes : checkText (bytes (narrow .script)) ≡ accepted contentsNarrow []
+pub narrow-writes : checkText Script (bytes (narrow .script)) ≡ accepted contentsNarrow []
 unfolding reckoning
 narrow-writes = refl
 
@@ -137,31 +138,22 @@ narrow-shown = record {
 
 -- ---- so *mark* may print both
 
--- the contents that an answer has, sheet A's where it has none
-abbrev contentsIn : Judged Contents → Contents
-contentsIn (accepted c u) = c
-contentsIn (refused f) = contentsA
-
 -- a text is read in one way
-one-reading : {s : List ℕ} {c d : Contents} → checkText s ≡ accepted c [] → Reads s d → d ≡ c
-one-reading {s} {c} {d} e r = ap contentsIn (sym (spelled-check s d (r .small) (r .spelled)) ∙ e)
+one-reading : (paper : Paper) {s : List ℕ} {c d : Contents} → checkText paper s ≡ accepted c [] → Reads paper s d → d ≡ c
+one-reading paper {s} {c} {d} e r = reads-same paper s d c r (accepted-reads paper e)
 
 -- (0, 0, 6) for the script that is too wide
 pub wide-may-show : MayShow wide zero-zero-six
 unfolding setOf
-wide-may-show = record {
-  loose-shown = λ t rule e.
-      rw (one-reading sheet-writes (t .sheet-reads), one-reading wide-writes (t .script-reads))
-      (loose-shown-alike sumRule rule (sym (ap textValues wide-loose) ∙ e .1) 3 (hiddenIn 2) _ _ _ wide-shown);
-  tight-shown = λ t rule e. absurd (omega (arith, sym (e .0) ∙ ap textNumber wide-loose));
-}
+wide-may-show t = (
+  λ e. rw (one-reading Sheet sheet-writes (t .sheet-reads), one-reading Script wide-writes (t .script-reads), ap textRule wide-loose) wide-shown,
+  λ e. absurd (omega (arith, sym e ∙ ap textNumber wide-loose)),
+)
 
 -- (3, 1, 0) for the one that is too narrow
 pub narrow-may-show : MayShow narrow three-one-zero
 unfolding setOf
-narrow-may-show = record {
-  loose-shown = λ t rule e. absurd (omega (arith, sym (e .0) ∙ ap textNumber narrow-tight));
-  tight-shown = λ t rule e.
-      rw (one-reading sheet-writes (t .sheet-reads), one-reading narrow-writes (t .script-reads))
-      (tight-shown-alike lowRule rule (sym (ap textValues narrow-tight) ∙ e .1) 3 (hiddenIn 2) _ _ _ narrow-shown);
-}
+narrow-may-show t = (
+  λ e. absurd (omega (arith, sym e ∙ ap textNumber narrow-tight)),
+  λ e. rw (one-reading Sheet sheet-writes (t .sheet-reads), one-reading Script narrow-writes (t .script-reads), ap textRule narrow-tight) narrow-shown,
+)

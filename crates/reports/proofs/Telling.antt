@@ -1,13 +1,15 @@
 -- A report tells its kind: the text of a refusal tells its number and line, and no key's text is one. Assumes nothing.
-use mathlib.Core.Path.{_≡_, refl, sym, _∙_, ap, ap₂}
+use mathlib.Core.Path.{_≡_, refl, sym, _∙_, ap}
+use mathlib.Core.Logic.{inl, inr}
 use mathlib.Core.List.{List, [], _∷_, _++_, append-assoc, append-nil}
-use Prim.Native.Nat.{ℕ, zero, suc, _≤_}
+use Prim.Native.Nat.{ℕ}
 use native.Mathlib.Omega.{arith}
 use lib.IntN.{ℤ}
 use lib.ListN.{getD}
 use Rattle.rules.specs.declared.refusal.Refusal.{Refusal}
-use Rattle.rules.specs.declared.refusal.Refusal.the-variants.{Size, Malformed, OutOfLimit, Cancelling, NoAssignment, TooShort, Mismatch}
-use Rattle.rules.specs.Refusal.{refusalNumber}
+use Rattle.rules.specs.declared.paper.Paper.{Paper}
+use Rattle.rules.specs.Refusal.{refusalNumber, refusalLine}
+use Rattle.rules.proofs.Refusals.{same-refusal-line}
 use Rattle.numerals.specs.Bytes.{newline}
 use Rattle.numerals.specs.Decimal.{decimal}
 use Rattle.numerals.specs.Parsing.{parsed}
@@ -15,9 +17,9 @@ use Rattle.lines.specs.Lines.{countLine}
 use Rattle.lines.specs.Spelling.{lineText}
 use Rattle.lines.proofs.Spellings.{count-complete}
 use Rattle.reading.specs.Texts.{linesText, headerText, sheetText}
-use Rattle.reading.specs.Meaning.{FailsFor}
+use Rattle.reading.specs.Meaning.{LineFails, malformed-at, outside-at, cancels-at, FailsFor}
 use Rattle.writing.specs.Writing.{writtenText, countText}
-use Rattle.reports.specs.Refusals.{refusedKey, lineKey, lineOf, refusalText}
+use Rattle.reports.specs.Refusals.{refusedKey, lineKey, refusalText}
 
 -- ---- the number and the line
 
@@ -37,51 +39,24 @@ number-same : (key : List ℕ) (v w : ℕ) (t u : List ℕ) → countText key v 
 number-same key v w t u e = parsed-same (sym (number-read key v t) ∙ ap (countLine key) e ∙ number-read key w u)
 
 -- a refusal's text tells both
-text-tells : (f g : Refusal) → refusalText f ≡ refusalText g → (refusalNumber f ≡ refusalNumber g) × (lineOf f ≡ lineOf g)
+text-tells : (f g : Refusal) → refusalText f ≡ refusalText g → (refusalNumber f ≡ refusalNumber g) × (refusalLine f ≡ refusalLine g)
 unfolding refusalText
 text-tells f g e =
-    let first = number-same refusedKey (refusalNumber f) (refusalNumber g) (countText lineKey (lineOf f)) (countText lineKey (lineOf g)) e in
-    let second = number-same lineKey (lineOf f) (lineOf g) [] []
-    (append-nil (countText lineKey (lineOf f)) ∙ first .1 ∙ sym (append-nil (countText lineKey (lineOf g)))) in
+    let first = number-same refusedKey (refusalNumber f) (refusalNumber g) (countText lineKey (refusalLine f)) (countText lineKey (refusalLine g)) e in
+    let second = number-same lineKey (refusalLine f) (refusalLine g) [] []
+    (append-nil (countText lineKey (refusalLine f)) ∙ first .1 ∙ sym (append-nil (countText lineKey (refusalLine g)))) in
     (first .0, second .0)
 
--- ---- the refusal
-
--- the refusal of a number up to 5 and a line
-unfoldable refusalOf : ℕ → ℕ → Refusal
-refusalOf zero line = Mismatch
-refusalOf (suc zero) line = Size
-refusalOf (suc (suc zero)) line = Malformed line
-refusalOf (suc (suc (suc zero))) line = OutOfLimit line
-refusalOf (suc (suc (suc (suc zero)))) line = Cancelling line
-refusalOf (suc (suc (suc (suc (suc k))))) line = NoAssignment
-
--- it is the one whose number and line they are
-refusal-of : (f : Refusal) → refusalNumber f ≤ 5 → refusalOf (refusalNumber f) (lineOf f) ≡ f
-unfolding refusalOf
-refusal-of Size h = refl
-refusal-of (Malformed line) h = refl
-refusal-of (OutOfLimit line) h = refl
-refusal-of (Cancelling line) h = refl
-refusal-of NoAssignment h = refl
-refusal-of (TooShort needed) h = let z : ⊥ = omega arith in absurd z
-refusal-of Mismatch h = let z : ⊥ = omega arith in absurd z
-
--- so the text tells a refusal whose number is up to 5
-pub refusal-same : (f g : Refusal) → refusalNumber f ≤ 5 → refusalText f ≡ refusalText g → f ≡ g
-refusal-same f g h e =
-    let t = text-tells f g e in
-    sym (refusal-of f h) ∙ ap₂ refusalOf (t .0) (t .1) ∙ refusal-of g (omega (arith, t .0))
+-- so it tells a refusal whose number is not 6, which has a length beside it that is not printed
+pub refusal-same : (f g : Refusal) → (refusalNumber f ≡ 6 → ⊥) → refusalText f ≡ refusalText g → f ≡ g
+refusal-same f g h e = let t = text-tells f g e in same-refusal-line f g h (t .0) (t .1)
 
 -- as a text's own refusals have
-pub fails-number : (s : List ℕ) (f : Refusal) → FailsFor s f → refusalNumber f ≤ 5
-fails-number s Size h = omega arith
-fails-number s (Malformed line) h = omega arith
-fails-number s (OutOfLimit line) h = omega arith
-fails-number s (Cancelling line) h = omega arith
-fails-number s NoAssignment h = absurd h
-fails-number s (TooShort needed) h = absurd h
-fails-number s Mismatch h = absurd h
+pub fails-number : (paper : Paper) (s : List ℕ) (f : Refusal) → FailsFor paper s f → (refusalNumber f ≡ 5 → ⊥) × (refusalNumber f ≡ 6 → ⊥)
+fails-number paper s f (inl x) = let n = ap refusalNumber (x .1) in (λ e. omega arith, λ e. omega arith)
+fails-number paper s f (inr (l, malformed-at line m x)) = let n = ap refusalNumber x in (λ e. omega arith, λ e. omega arith)
+fails-number paper s f (inr (l, outside-at line m x)) = let n = ap refusalNumber x in (λ e. omega arith, λ e. omega arith)
+fails-number paper s f (inr (l, cancels-at line m x)) = let n = ap refusalNumber x in (λ e. omega arith, λ e. omega arith)
 
 -- ---- no key's text is a refusal's
 

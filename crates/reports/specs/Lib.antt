@@ -1,7 +1,8 @@
--- What the crate's contracts cite. Refusals, Reports and Marks are the steps: what the programs print; Meaning is what to believe; Promises are the contracts'
--- records.
+-- What the crate's contracts cite. Meaning is what to believe of a key's text; Promises are the records of what the programs print; Refusals, Reports and Marks are the
+-- steps: the bytes. Inner is what the functions inside ask.
 pub mod Refusals
 pub mod Reports
 pub mod Marks
 pub mod Meaning
 pub mod Promises
+pub mod Inner

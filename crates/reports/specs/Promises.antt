@@ -1,34 +1,24 @@
--- What the functions ask and promise: a sheet's table, and what is printed for a text, byte by byte and by what it means.
+-- What the programs' functions promise: what is printed for a text, byte by byte and by what it means.
 use mathlib.Core.Path.{_≡_}
 use mathlib.Core.Logic.{_↔_}
 use mathlib.Core.List.{List, _++_}
 use Prim.Native.Nat.{ℕ, _≤_}
 use lib.IntN.{ℤ}
 use lib.ListN.{length, take, drop}
+use Rattle.rules.specs.declared.paper.Paper.the-variants.{Sheet}
 use Rattle.rules.specs.declared.refusal.Refusal.{Refusal}
 use Rattle.rules.specs.declared.refusal.Refusal.the-variants.{NoAssignment}
-use Rattle.rules.specs.Hidden.{setOf}
-use Rattle.rules.specs.Limits.{maxQuantities, maxBound, maxText}
+use Rattle.rules.specs.Limits.{maxQuantities}
 use Rattle.rules.specs.Meaning.{Assignment}
-use Rattle.tables.specs.Tables.{tableOf}
-use Rattle.lines.specs.Spelling.{writtenRules}
 use Rattle.reading.specs.Texts.{Contents}
-use Rattle.reading.specs.Meaning.{FineLines, Spells, rulesOf, FailsFor}
+use Rattle.reading.specs.Meaning.{Reads, rulesOf, FailsFor}
 use Rattle.scripts.specs.declared.reply.TextMarking.{TextMarking}
-use Rattle.scripts.specs.Marking.{ownLengths}
-use Rattle.scripts.specs.Promises.{TextsJudged, TextsShown}
+use Rattle.scripts.specs.Promises.{TextsJudged}
+use Rattle.scripts.specs.Meaning.{ownLengths}
 use Rattle.reports.specs.Refusals.{refusalText}
 use Rattle.reports.specs.Marks.{markText}
 use Rattle.reports.specs.Reports.{keyReport}
 use Rattle.reports.specs.Meaning.{KeyText, Unmet}
-
--- n, a hidden set and a table are those of a sheet whose lines are fine
-pub record SheetTable (n set : ℕ) (table : List ℤ) : Type 0 where
-  pub contents : Contents
-  pub fine : FineLines maxBound contents
-  pub counts : n ≡ contents .count
-  pub hides : set ≡ setOf (contents .hiddens)
-  pub holds : table ≡ tableOf (contents .count) (writtenRules (contents .written))
 
 -- what is printed for the text s: its refusal, exactly when it is refused; 5, exactly when it is accepted and no integers satisfy its rules; and the text
 -- of its key if some do
@@ -38,9 +28,9 @@ pub record KeyPrinted (s : List ℕ) (out : List ℕ) (end : ℕ) (out' : List �
   -- so many bytes are there; both follow from the above, and are stated so that the proof that Rattle makes of `&out[..end]` finds them
   pub room : end ≤ length out'
   pub front : end ≡ length (take end out')
-  pub refused : (f : Refusal) → (f ≡ NoAssignment → ⊥) → (keyReport s ≡ refusalText f) ↔ FailsFor s f
+  pub refused : (f : Refusal) → (f ≡ NoAssignment → ⊥) → (keyReport s ≡ refusalText f) ↔ FailsFor Sheet s f
   pub five : (keyReport s ≡ refusalText NoAssignment) ↔ Unmet s
-  pub some : (c : Contents) → length s ≤ maxText → Spells maxBound s c → (σ : Assignment) → rulesOf c σ → KeyText c (keyReport s)
+  pub some : (c : Contents) → Reads Sheet s c → (σ : Assignment) → rulesOf c σ → KeyText c (keyReport s)
 
 -- ---- *mark*
 
@@ -48,8 +38,7 @@ pub record KeyPrinted (s : List ℕ) (out : List ℕ) (end : ℕ) (out' : List �
 pub record MarkPrinted (sheet script out : List ℕ) (end : ℕ) (out' : List ℕ) : Type 0 where
   pub reply : TextMarking
   pub values : List ℤ
-  pub judged : TextsJudged sheet script (ownLengths maxQuantities) reply
-  pub shown : TextsShown sheet script (ownLengths maxQuantities) reply values
+  pub judged : TextsJudged sheet script (ownLengths maxQuantities) reply values
   pub count : end ≡ length (markText reply values)
   pub bytes : out' ≡ markText reply values ++ drop (length (markText reply values)) out
   -- so many bytes are there, as in `KeyPrinted`

@@ -3,6 +3,7 @@ use mathlib.Core.Bool.{cond}
 use mathlib.Core.List.{List}
 use Prim.Native.Nat.{ℕ}
 use lib.IntN.{ℤ}
+use Rattle.rules.specs.declared.paper.Paper.the-variants.{Sheet}
 use Rattle.rules.specs.declared.refusal.Refusal.the-variants.{NoAssignment}
 use Rattle.rules.specs.Hidden.{hiddenIn, setOf}
 use Rattle.tables.specs.Tables.{tableOf}
@@ -24,4 +25,4 @@ reportOf (refused r) = refusalText r
 
 -- of a text
 unfoldable pub keyReport : List ℕ → List ℕ
-keyReport s = reportOf (checkText s)
+keyReport s = reportOf (checkText Sheet s)

@@ -18,7 +18,8 @@ ghost use Rattle.numerals.specs.Writing.{Spliced};
 ghost use Rattle.writing.specs.Writing.{writtenText};
 ghost use Rattle.writing.specs.Promises.{maxWritten};
 ghost use Rattle.reports.specs.Reports.{tableReport};
-ghost use Rattle.reports.specs.Promises.{SheetTable, KeyPrinted};
+ghost use Rattle.reports.specs.Promises.{KeyPrinted};
+ghost use Rattle.reports.specs.Inner.{SheetTable};
 
 // Bytes enough for whatever is printed: 119 for a text's header, and 33 for each rule.
 pub const ROOM: usize = 119 + 33 * Sheet::MAX_RULES;

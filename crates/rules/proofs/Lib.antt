@@ -5,4 +5,5 @@ pub mod Sets
 pub mod Refusals
 pub mod Literals
 pub mod Meanings
+mod Limits
 mod Examples

@@ -7,7 +7,7 @@ use lib.IntN.{ℤ, pos, natAbs}
 use lib.ListN.{getD}
 use Rattle.rules.specs.declared.refusal.Refusal.{Refusal}
 use Rattle.rules.specs.declared.refusal.Refusal.the-variants.{Size, Malformed, OutOfLimit, Cancelling, NoAssignment, TooShort, Mismatch}
-use Rattle.rules.specs.Refusal.{Beside, nothing-beside, line-beside, length-beside, besideValues, besideValue, refusalNumber, refusalBeside, refusalValue, Returned, refusedAs}
+use Rattle.rules.specs.Refusal.{Beside, nothing-beside, line-beside, length-beside, besideValues, besideValue, refusalNumber, refusalBeside, refusalValue, refusalLine, Returned, refusedAs}
 
 -- the refusal of a number and a value
 unfoldable refusalFor : ℕ → ℕ → Refusal
@@ -62,3 +62,18 @@ refusal-number f e = omega (arith, refusal-between f, e)
 
 pub refusal-below : (f : Refusal) → refusalNumber f < 100
 refusal-below f = refusal-between f .1
+
+-- what stands beside a number other than 6 is a line, or nothing
+pub line-beside-it : (f : Refusal) → (refusalNumber f ≡ 6 → ⊥) → refusalLine f ≡ refusalValue f
+line-beside-it Size h = refl
+line-beside-it (Malformed line) h = refl
+line-beside-it (OutOfLimit line) h = refl
+line-beside-it (Cancelling line) h = refl
+line-beside-it NoAssignment h = refl
+line-beside-it (TooShort needed) h = absurd (h refl)
+line-beside-it Mismatch h = refl
+
+-- so two refusals with the same number, which is not 6, and the same line are the same
+pub same-refusal-line : (f g : Refusal) → (refusalNumber f ≡ 6 → ⊥) → refusalNumber f ≡ refusalNumber g → refusalLine f ≡ refusalLine g → f ≡ g
+same-refusal-line f g h e d =
+    same-refusal-value f g e (sym (line-beside-it f h) ∙ d ∙ line-beside-it g (λ z. h (e ∙ z)))

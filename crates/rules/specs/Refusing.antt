@@ -5,7 +5,6 @@ use mathlib.Core.Logic.{_⊎_}
 use Rattle.rules.specs.declared.refusal.Refusal.{Refusal}
 
 infixr 5 _or_then_
-
 -- what is needed: a condition, or else this refusal, and then the rest; or nothing more
 pub data Needs : Type 1 where
   passed : Needs

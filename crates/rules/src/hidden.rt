@@ -5,11 +5,14 @@ ghost use Rattle.rules.specs.Hidden.{hiddenIn, bitOf};
 ghost use Rattle.rules.specs.Limits.{maxQuantities};
 ghost use Rattle.rules.specs.Promises.{InRange};
 
+// A set of quantities.
+pub type Set = u32;
+
 // The bits of a set's type.
 const BITS: usize = 32;
 
 // Whether the set has quantity `q`; 0 and numbers past the set's bits are in none.
-pub fn is_hidden(set: u32, q: usize) -> bool
+pub fn is_hidden(set: Set, q: usize) -> bool
     ensures { λ r. ⌜ r ≡ hiddenIn set q ⌝ }
 {
     if q == 0 {
@@ -23,7 +26,7 @@ pub fn is_hidden(set: u32, q: usize) -> bool
 }
 
 // The set of quantity `q` alone.
-pub fn bit(q: usize) -> u32
+pub fn bit(q: usize) -> Set
     requires { ⌜ (1 ≤ q) × (q ≤ maxQuantities) ⌝ }
     ensures { λ r. ⌜ r ≡ bitOf q ⌝ }
 {
@@ -32,7 +35,7 @@ pub fn bit(q: usize) -> u32
 }
 
 // Whether the set has no quantity past `n`; where `n` is at least the number of bits every set is so.
-pub fn is_within(set: u32, n: usize) -> bool
+pub fn is_within(set: Set, n: usize) -> bool
     ensures { λ r. ⌜ InRange n set r ⌝ }
 {
     if BITS <= n {

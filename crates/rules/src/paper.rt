@@ -1,4 +1,5 @@
 // The papers of an exam and the limit of their bounds.
+use crate::hidden::Set;
 use crate::sheet::Sheet;
 ghost use mathlib.Core.Path.{_≡_};
 ghost use lib.IntN.{pos};
@@ -11,7 +12,7 @@ pub enum Paper {
 }
 
 // The largest magnitude of a bound on a paper over `n` quantities with a hidden set in its header.
-pub fn bound_limit(paper: Paper, n: usize, hidden: u32) -> i64
+pub fn bound_limit(paper: Paper, n: usize, hidden: Set) -> i64
     ensures { λ r. ⌜ r ≡ pos (boundLimit paper n hidden) ⌝ }
 {
     Sheet::MAX_BOUND

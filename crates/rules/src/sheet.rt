@@ -1,4 +1,5 @@
 // The sheet type and its limits, each spelled here and in specs/Limits.antt, tied by `constants`.
+use crate::hidden::Set;
 ghost use mathlib.Core.Path.{_≡_};
 ghost use Rattle.rules.specs.Limits.{maxQuantities, maxBound, maxRules, noRule, maxText};
 ghost use lib.IntN.{pos};
@@ -6,7 +7,7 @@ ghost use lib.IntN.{pos};
 // The sheet type, whose associated constants are the limits. Calls hand its two parts on as numbers, as document 01 lends them.
 pub struct Sheet {
     pub quantities: usize,
-    pub hidden: u32,
+    pub hidden: Set,
 }
 
 impl Sheet {

@@ -5,9 +5,10 @@ use mathlib.Core.Logic.{_↔_, inl, inr}
 use Prim.Native.Nat.{ℕ}
 use lib.IntN.{ℤ}
 use Rattle.rules.specs.declared.rule.Rule.{Rule}
+use Rattle.rules.specs.Hidden.{hiddenIn}
 use Rattle.rules.specs.Meaning.{Assignment}
 use Rattle.tables.specs.Meaning.{Solutions, joined, SheetAllows, Breaks, assignmentOf}
-use Rattle.marking.specs.Meaning.{AllowSame, IsLoose, IsNarrow, ByDemand, ByVisible, FirstBroken, LooseRule, LooseShown, TightShown}
+use Rattle.marking.specs.Meaning.{AllowSame, IsLoose, IsNarrow, ByDemand, ByVisible, FirstBroken, LooseRule, LooseShown, TightShown, VerdictMeans}
 
 -- two papers are satisfied by the same assignments
 abbrev pub Alike : Solutions → Solutions → Type 0
@@ -49,7 +50,7 @@ module _ {A B C D : Solutions} (hidden : ℕ → Bool) (h : Alike A B) (g : Alik
   }
 
 -- a number is that of the same verdict
-pub alike-demand : {A B C D : Solutions} (hidden : ℕ → Bool) (number : ℕ) → Alike A B → Alike C D → ByDemand hidden A C number → ByDemand hidden B D number
+alike-demand : {A B C D : Solutions} (hidden : ℕ → Bool) (number : ℕ) → Alike A B → Alike C D → ByDemand hidden A C number → ByDemand hidden B D number
 alike-demand hidden number h g d =
     let h' = alike-back h in
     let g' = alike-back g in
@@ -63,7 +64,7 @@ alike-demand hidden number h g d =
     }
 
 -- an assignment is its visible integers to the other papers too
-pub alike-visible : {A B C D : Solutions} (n : ℕ) (hidden : ℕ → Bool) → Alike A B → Alike C D → ByVisible n hidden A C → ByVisible n hidden B D
+alike-visible : {A B C D : Solutions} (n : ℕ) (hidden : ℕ → Bool) → Alike A B → Alike C D → ByVisible n hidden A C → ByVisible n hidden B D
 alike-visible n hidden h g v = record {
   script-visible = λ σ τ s a. g τ .0 (v .script-visible σ τ s (g σ .1 a));
   sheet-visible = λ σ τ s a. allows hidden h τ (v .sheet-visible σ τ s (allows hidden (alike-back h) σ a));
@@ -72,7 +73,7 @@ alike-visible n hidden h g v = record {
 -- ---- the rule that is carried
 
 -- the first broken rule is the same, which is a tight verdict's
-pub alike-broken : {A B : Solutions} (n : ℕ) (rules : List ℤ) (r : Rule) → Alike A B → FirstBroken n rules A r → FirstBroken n rules B r
+alike-broken : {A B : Solutions} (n : ℕ) (rules : List ℤ) (r : Rule) → Alike A B → FirstBroken n rules A r → FirstBroken n rules B r
 alike-broken n rules r h f = record {
   place = f .place;
   is = f .is;
@@ -84,7 +85,7 @@ alike-broken n rules r h f = record {
 }
 
 -- a loose verdict's
-pub alike-loose-rule : {A B : Solutions} (hidden : ℕ → Bool) (n : ℕ) (sheet : List ℤ) (r : Rule) → Alike A B
+alike-loose-rule : {A B : Solutions} (hidden : ℕ → Bool) (n : ℕ) (sheet : List ℤ) (r : Rule) → Alike A B
     → LooseRule hidden n sheet A r → LooseRule hidden n sheet B r
 alike-loose-rule hidden n sheet r h (inl f) = inl f
 alike-loose-rule hidden n sheet r h (inr f) = inr (f .0, alike-broken n _ r h (f .1))
@@ -92,7 +93,7 @@ alike-loose-rule hidden n sheet r h (inr f) = inr (f .0, alike-broken n _ r h (f
 -- ---- the assignment that shows it
 
 -- for loose
-pub alike-loose-shown : {A B C D : Solutions} (n : ℕ) (hidden : ℕ → Bool) (r : Rule) (values : List ℤ) → Alike A B → Alike C D
+alike-loose-shown : {A B C D : Solutions} (n : ℕ) (hidden : ℕ → Bool) (r : Rule) (values : List ℤ) → Alike A B → Alike C D
     → LooseShown n hidden A C r values → LooseShown n hidden B D r values
 alike-loose-shown n hidden r values h g s = record {
   allowed = g (assignmentOf values) .0 (s .allowed);
@@ -104,7 +105,7 @@ alike-loose-shown n hidden r values h g s = record {
 }
 
 -- for tight
-pub alike-tight-shown : {A B C D : Solutions} (n : ℕ) (hidden : ℕ → Bool) (r : Rule) (values : List ℤ) → Alike A B → Alike C D
+alike-tight-shown : {A B C D : Solutions} (n : ℕ) (hidden : ℕ → Bool) (r : Rule) (values : List ℤ) → Alike A B → Alike C D
     → TightShown n hidden A C r values → TightShown n hidden B D r values
 alike-tight-shown n hidden r values h g s = record {
   complete = h (joined hidden (assignmentOf values) (assignmentOf values)) .0 (s .complete);
@@ -112,4 +113,16 @@ alike-tight-shown n hidden r values h g s = record {
   breaks = s .breaks;
   there = s .there;
   range = s .range;
+}
+
+-- ---- all that a verdict means
+
+pub alike-means : {A B C D : Solutions} (n set : ℕ) (sheet script : List ℤ) (number : ℕ) (r : Rule) (values : List ℤ) → Alike A B → Alike C D
+    → VerdictMeans n set A C sheet script number r values → VerdictMeans n set B D sheet script number r values
+alike-means n set sheet script number r values h g m = record {
+  demand = alike-demand (hiddenIn set) number h g (m .demand);
+  visibles = alike-visible n (hiddenIn set) h g (m .visibles);
+  key = m .key;
+  loose = λ e. let x = m .loose e in (alike-loose-rule (hiddenIn set) n sheet r g (x .0), alike-loose-shown n (hiddenIn set) r values h g (x .1));
+  tight = λ e. let x = m .tight e in (alike-broken n script r h (x .0), alike-tight-shown n (hiddenIn set) r values h g (x .1));
 }

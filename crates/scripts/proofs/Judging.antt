@@ -1,131 +1,214 @@
--- Two texts are refused for one reason at most, which names one paper, and not where they are accepted; so a reply that has its reason is judged as promised.
--- Assumes nothing.
-use mathlib.Core.Path.{_≡_, refl, sym, _∙_, ap, subst, subst₂}
-use mathlib.Core.Bool.{false}
+-- Two texts are refused exactly for document 01's reasons, which name one paper, and marked exactly where they are accepted. Assumes nothing.
+use mathlib.Core.Path.{_≡_, refl, sym, _∙_, ap}
+use mathlib.Core.Bool.{true, false}
 use mathlib.Core.List.{List, [], _∷_}
-use mathlib.Core.Logic.{_⊎_, inl, inr}
+use mathlib.Core.Logic.{_↔_, _⊎_, inl, inr}
 use Prim.Native.Nat.{ℕ}
+use native.Mathlib.Omega.{arith}
 use lib.IntN.{ℤ}
+use Rattle.rules.specs.declared.paper.Paper.{Paper}
+use Rattle.rules.specs.declared.paper.Paper.the-variants.{Sheet, Script}
 use Rattle.rules.specs.declared.refusal.Refusal.{Refusal}
-use Rattle.rules.specs.declared.refusal.Refusal.the-variants.{Mismatch}
-use Rattle.rules.specs.Refusal.{refusalNumber, refusalValues, integersOf}
-use Rattle.tables.proofs.Tests.{clash}
-use Rattle.marking.proofs.Carried.{refusal-same}
-use Rattle.lines.specs.Lines.{refused}
+use Rattle.rules.specs.Refusal.{refusalNumber, Returned, refusedAs}
+use Rattle.rules.specs.Refusing.{RefusedBy, AllMet}
+use Rattle.rules.proofs.Refusals.{same-refusal}
+use Rattle.tables.specs.declared.reply.Reply.{Reply}
+use Rattle.tables.specs.declared.reply.Reply.the-variants.{Done}
+use Rattle.tables.specs.declared.reply.Reply.the-variants.{Refused as NotDone}
+use Rattle.tables.proofs.Tests.{clash, refused-done}
+use Rattle.marking.specs.declared.verdict.Verdict.{Verdict}
+use Rattle.marking.proofs.Carried.{verdict-from}
+use Rattle.lines.specs.Lines.{Judged, accepted, refused}
 use Rattle.reading.specs.Texts.{Contents}
-use Rattle.reading.specs.Meaning.{FailsFor}
-use Rattle.reading.proofs.Means.{text-means, spelled-check}
+use Rattle.reading.specs.Meaning.{Reads, Readable, LineFails, malformed-at, outside-at, cancels-at, FailsFor}
+use Rattle.reading.specs.Reading.{checkText}
+use Rattle.reading.proofs.Means.{text-means, reads-check, reads-same}
 use Rattle.reading.proofs.RuleLines.{not-accepted}
 use Rattle.scripts.specs.declared.room.Lengths.{Lengths}
 use Rattle.scripts.specs.declared.reply.Subject.{Subject}
-use Rattle.scripts.specs.declared.reply.Subject.the-variants.{Sheet, Script, Both}
-use Rattle.scripts.specs.declared.reply.TextMarking.the-variants.{Refused}
-use Rattle.scripts.specs.Replies.{textNumber, textValues, textSubjects, TextReturned}
-use Rattle.scripts.specs.Meaning.{Reads, Matches, Room, AcceptedPair, ShortIn, PairFails, RefusedPair}
-use Rattle.scripts.specs.Marking.{textsReply, countIn}
-use Rattle.scripts.specs.Promises.{TextsJudged, TextsShown}
-use Rattle.scripts.proofs.Rooms.{short-same, short-no-room}
+use Rattle.scripts.specs.declared.reply.Subject.the-variants.{Both}
+use Rattle.scripts.specs.declared.reply.Subject.the-variants.{Sheet as OfSheet}
+use Rattle.scripts.specs.declared.reply.Subject.the-variants.{Script as OfScript}
+use Rattle.scripts.specs.declared.reply.TextMarking.{TextMarking}
+use Rattle.scripts.specs.declared.reply.TextMarking.the-variants.{Marked, Refused}
+use Rattle.scripts.specs.Replies.{textsReturned, textNumber, textRule, textCounts, textSubjects, isTextMarked}
+use Rattle.scripts.specs.Meaning.{pairNeeds, AcceptedPair, PairFails, RefusedPair}
+use Rattle.scripts.specs.Marking.{pairChecks, markedOr, pairReply, textsReply, countIn}
+use Rattle.scripts.specs.Promises.{PairJudged, TextsJudged}
+use Rattle.scripts.proofs.Rooms.{pair-tied}
 
 -- ---- one text
 
--- a text has one contents
-pub same-contents : (s : List ℕ) (c d : Contents) → Reads s c → Reads s d → c ≡ d
-same-contents s c d p q = let e = spelled-check s c (p .small) (p .spelled) in let f = spelled-check s d (q .small) (q .spelled) in cc
-
 -- its n
-pub reads-count : (s : List ℕ) (c : Contents) → Reads s c → countIn s ≡ c .count
-reads-count s c p = rw (spelled-check s c (p .small) (p .spelled))
+pub reads-count : (s : List ℕ) (c : Contents) → Reads Sheet s c → countIn s ≡ c .count
+reads-count s c p = rw (reads-check Sheet s c p)
 
--- a text that is fine does not fail
-reads-or-fails : (s : List ℕ) (c : Contents) (f : Refusal) → Reads s c → FailsFor s f → ⊥
-reads-or-fails s c f p h = not-accepted (sym (text-means s (refused f) .1 h) ∙ spelled-check s c (p .small) (p .spelled))
+-- a text whose lines are accepted reads so
+pub accepted-reads : (paper : Paper) {s : List ℕ} {c : Contents} {u : List ℕ} → checkText paper s ≡ accepted c u → Reads paper s c
+accepted-reads paper {s} {c} {u} e = text-means paper s (accepted c u) .0 e .0
 
--- it fails for one reason
-fails-same : (s : List ℕ) (f g : Refusal) → FailsFor s f → FailsFor s g → f ≡ g
-fails-same s f g h k = let e = text-means s (refused f) .1 h in let d = text-means s (refused g) .1 k in cc
+-- a text that is refused fails so, for no other reason, and is not fine
+module _ (paper : Paper) (s : List ℕ) (g : Refusal) (e : checkText paper s ≡ refused g) where
+  refused-fails : FailsFor paper s g
+  refused-fails = text-means paper s (refused g) .0 e
 
--- ---- two refusals
+  fails-one : (f : Refusal) → FailsFor paper s f → f ≡ g
+  fails-one f h = let d = sym (text-means paper s (refused f) .1 h) ∙ e in cc
 
--- a refusal that is returned by the number, values and paper of another is that one
-pub returned-same : (p q : Subject) (f g : Refusal) → TextReturned (Refused p f) (refusalNumber g) (integersOf (refusalValues g)) (q ∷ []) → (p ≡ q) × (f ≡ g)
-returned-same p q f g e = (same-paper (e .2), refusal-same f g (e .0) (e .1))
+  refused-reads {ℓ} : {X : Type ℓ} (c : Contents) → Reads paper s c → X
+  refused-reads c p = not-accepted (sym e ∙ reads-check paper s c p)
+
+-- one that is accepted does not fail
+accepted-fails {ℓ} : {X : Type ℓ} (paper : Paper) (s : List ℕ) (c : Contents) (u : List ℕ) (f : Refusal) → checkText paper s ≡ accepted c u → FailsFor paper s f → X
+accepted-fails paper s c u f e h = not-accepted (sym (text-means paper s (refused f) .1 h) ∙ e)
+
+-- ---- replies
+
+-- a refusal as it is returned, with its paper
+pub returned-refused : (r : TextMarking) (p : Subject) (f : Refusal) → ((textsReturned r ≡ refusedAs f) × (textSubjects r ≡ p ∷ [])) ↔ (r ≡ Refused p f)
+returned-refused r p f = (go r, λ e. (ap textsReturned e, ap textSubjects e))
   where
-    same-paper : p ∷ [] ≡ q ∷ [] → p ≡ q
-    same-paper e = cc
+    go : (r : TextMarking) → (textsReturned r ≡ refusedAs f) × (textSubjects r ≡ p ∷ []) → r ≡ Refused p f
+    go (Marked n v) e = let z : _≡_ {A = ℕ} 0 1 = let y = e .1 in cc in absurd (omega arith)
+    go (Refused q g) e = let a = same-refusal g f (e .0) in let b : q ≡ p = let y = e .1 in cc in rw (a, b)
+
+-- the reply of two fine texts is refused as their checks are, both papers being named
+marked-refused : (a : Reply) (n : ℕ) (v : Verdict) (p : Subject) (f : Refusal) → markedOr a n v ≡ Refused p f → (p ≡ Both) × (a ≡ NotDone f)
+marked-refused Done n v p f e = let z : _≡_ {A = ℕ} 0 1 = cc in absurd (omega arith)
+marked-refused (NotDone g) n v p f e = let x : p ≡ Both = cc in let y : g ≡ f = cc in (x, rw y)
+
+marked-done : (a : Reply) (n : ℕ) (v : Verdict) → (isTextMarked (markedOr a n v) ≡ true) ↔ (a ≡ Done)
+marked-done Done n v = (λ e. refl, λ e. refl)
+marked-done (NotDone f) n v = (λ e. clash e refl, λ e. absurd (refused-done e))
 
 -- ---- two texts
 
 module _ (sheet script : List ℕ) (lent : Lengths) where
-  -- both texts are fine, and then refused for one reason
-  pair-same : (f g : Refusal) → PairFails sheet script lent f → PairFails sheet script lent g → f ≡ g
-  pair-same f g p q = go (p .fails) (q .fails)
-    where
-      n : ℕ
-      n = p .of-sheet .count
+  -- two texts that are fine have no other contents
+  module _ (c d : Contents) (u w : List ℕ) (e : checkText Sheet sheet ≡ accepted c u) (h : checkText Script script ≡ accepted d w) where
+    sheet-reads : Reads Sheet sheet c
+    sheet-reads = accepted-reads Sheet e
 
-      same : q .of-sheet .count ≡ p .of-sheet .count
-      same = ap (λ (c : Contents). c .count) (same-contents sheet (q .of-sheet) (p .of-sheet) (q .sheet-reads) (p .sheet-reads))
+    script-reads : Reads Script script d
+    script-reads = accepted-reads Script h
 
-      go : ShortIn n lent f ⊎ (Room n lent × (Matches (p .of-sheet) (p .of-script) → ⊥) × (f ≡ Mismatch))
-          → ShortIn (q .of-sheet .count) lent g
-          ⊎ (Room (q .of-sheet .count) lent × (Matches (q .of-sheet) (q .of-script) → ⊥) × (g ≡ Mismatch)) → f ≡ g
-      go (inl h) (inl k) = short-same n lent f g h (rw same at k)
-      go (inl h) (inr k) = absurd (short-no-room n lent f h (rw same at (k .0)))
-      go (inr h) (inl k) = absurd (short-no-room n lent g (rw same at k) (h .0))
-      go (inr h) (inr k) = h .2 ∙ sym (k .2)
+    fails-same : (f : Refusal) → PairFails sheet script lent f ↔ RefusedBy (pairNeeds c d lent) f
+    fails-same f = (
+      λ x. rw (reads-same Sheet sheet (x .of-sheet) c (x .sheet-reads) sheet-reads, reads-same Script script (x .of-script) d (x .script-reads) script-reads)
+          at (x .fails),
+      λ x. record { of-sheet = c; of-script = d; sheet-reads = sheet-reads; script-reads = script-reads; fails = x },
+    )
 
-  -- and not accepted
-  pair-refused : (f : Refusal) → PairFails sheet script lent f → AcceptedPair sheet script lent → ⊥
-  pair-refused f p t = go (p .fails)
-    where
-      same : t .of-sheet ≡ p .of-sheet
-      same = same-contents sheet (t .of-sheet) (p .of-sheet) (t .sheet-reads) (p .sheet-reads)
+    met-same : AcceptedPair sheet script lent ↔ AllMet (pairNeeds c d lent)
+    met-same = (
+      λ x. rw (reads-same Sheet sheet (x .of-sheet) c (x .sheet-reads) sheet-reads, reads-same Script script (x .of-script) d (x .script-reads) script-reads)
+          at (x .met),
+      λ x. record { of-sheet = c; of-script = d; sheet-reads = sheet-reads; script-reads = script-reads; met = x },
+    )
 
-      go : ShortIn (p .of-sheet .count) lent f ⊎ (Room (p .of-sheet .count) lent × (Matches (p .of-sheet) (p .of-script) → ⊥) × (f ≡ Mismatch)) → ⊥
-      go (inl h) = short-no-room (p .of-sheet .count) lent f h (subst (λ (c : Contents). Room (c .count) lent) same (t .room))
-      go (inr h) =
-          h .1 (subst₂ Matches same (same-contents script (t .of-script) (p .of-script) (t .script-reads) (p .script-reads)) (t .matches))
+  refused-reason : (j : Judged Contents) → checkText Sheet sheet ≡ j → (k : Judged Contents) → checkText Script script ≡ k
+      → (p : Subject) (f : Refusal) → pairReply j k lent ≡ Refused p f → RefusedPair sheet script lent p f
+  unfolding pairReply
+  refused-reason (refused g) e k h p f d =
+      let x : p ≡ OfSheet = cc in let y : f ≡ g = cc in rw (x, y) (refused-fails Sheet sheet g e)
+  refused-reason (accepted c u) e (refused g) h p f d =
+      let x : p ≡ OfScript = cc in let y : f ≡ g = cc in
+      rw (x, y) (record { contents = c; reads = accepted-reads Sheet e }, refused-fails Script script g h)
+  refused-reason (accepted c u) e (accepted i w) h p f d =
+      let m = marked-refused (pairChecks c i lent) (c .count) _ p f d in
+      let t = pair-tied c i (accepted-reads Sheet e .spelled .fine) (accepted-reads Script h .spelled .fine) lent in
+      rw (m .0) (fails-same c i u w e h f .1 (t .refuses f .0 (m .1)))
 
-  -- two refusals with their reasons are the same
-  refused-same : (p q : Subject) (f g : Refusal) → RefusedPair sheet script lent p f → RefusedPair sheet script lent q g → Refused p f ≡ Refused q g
-  refused-same Sheet Sheet f g h k = ap (Refused Sheet) (fails-same sheet f g h k)
-  refused-same Sheet Script f g h k = absurd (reads-or-fails sheet (k .0 .contents) f (k .0 .reads) h)
-  refused-same Sheet Both f g h k = absurd (reads-or-fails sheet (k .of-sheet) f (k .sheet-reads) h)
-  refused-same Script Sheet f g h k = absurd (reads-or-fails sheet (h .0 .contents) g (h .0 .reads) k)
-  refused-same Script Script f g h k = ap (Refused Script) (fails-same script f g (h .1) (k .1))
-  refused-same Script Both f g h k = absurd (reads-or-fails script (k .of-script) f (k .script-reads) (h .1))
-  refused-same Both Sheet f g h k = absurd (reads-or-fails sheet (h .of-sheet) g (h .sheet-reads) k)
-  refused-same Both Script f g h k = absurd (reads-or-fails script (h .of-script) g (h .script-reads) (k .1))
-  refused-same Both Both f g h k = ap (Refused Both) (pair-same f g h k)
+  reason-refused : (j : Judged Contents) → checkText Sheet sheet ≡ j → (k : Judged Contents) → checkText Script script ≡ k
+      → (p : Subject) (f : Refusal) → RefusedPair sheet script lent p f → pairReply j k lent ≡ Refused p f
+  unfolding pairReply
+  reason-refused (refused g) e k h OfSheet f x = rw (fails-one Sheet sheet g e f x)
+  reason-refused (refused g) e k h OfScript f x = refused-reads Sheet sheet g e (x .0 .contents) (x .0 .reads)
+  reason-refused (refused g) e k h Both f x = refused-reads Sheet sheet g e (x .of-sheet) (x .sheet-reads)
+  reason-refused (accepted c u) e (refused g) h OfSheet f x = accepted-fails Sheet sheet c u f e x
+  reason-refused (accepted c u) e (refused g) h OfScript f x = rw (fails-one Script script g h f (x .1))
+  reason-refused (accepted c u) e (refused g) h Both f x = refused-reads Script script g h (x .of-script) (x .script-reads)
+  reason-refused (accepted c u) e (accepted i w) h OfSheet f x = accepted-fails Sheet sheet c u f e x
+  reason-refused (accepted c u) e (accepted i w) h OfScript f x = accepted-fails Script script i w f h (x .1)
+  reason-refused (accepted c u) e (accepted i w) h Both f x =
+      let t = pair-tied c i (accepted-reads Sheet e .spelled .fine) (accepted-reads Script h .spelled .fine) lent in
+      rw (t .refuses f .1 (fails-same c i u w e h f .0 x))
 
-  -- texts that are accepted have no reason
-  pub refused-accepted : (p : Subject) (f : Refusal) → RefusedPair sheet script lent p f → AcceptedPair sheet script lent → ⊥
-  refused-accepted Sheet f h t = reads-or-fails sheet (t .of-sheet) f (t .sheet-reads) h
-  refused-accepted Script f h t = reads-or-fails script (t .of-script) f (t .script-reads) (h .1)
-  refused-accepted Both f h t = pair-refused f h t
+  accepted-met : (j : Judged Contents) → checkText Sheet sheet ≡ j → (k : Judged Contents) → checkText Script script ≡ k
+      → (isTextMarked (pairReply j k lent) ≡ true) ↔ AcceptedPair sheet script lent
+  unfolding pairReply
+  accepted-met (refused g) e k h = (λ d. clash d refl, λ x. refused-reads Sheet sheet g e (x .of-sheet) (x .sheet-reads))
+  accepted-met (accepted c u) e (refused g) h = (λ d. clash d refl, λ x. refused-reads Script script g h (x .of-script) (x .script-reads))
+  accepted-met (accepted c u) e (accepted i w) h =
+      let t = pair-tied c i (accepted-reads Sheet e .spelled .fine) (accepted-reads Script h .spelled .fine) lent in
+      let d = marked-done (pairChecks c i lent) (c .count) _ in
+      let s = met-same c i u w e h in
+      (λ x. s .1 (t .passes .0 (d .0 x)), λ x. d .1 (t .passes .1 (s .0 x)))
 
-  -- a refusal that has its reason is judged as promised,
-  pub refused-judged : (p : Subject) (f : Refusal) → textsReply sheet script lent ≡ Refused p f → RefusedPair sheet script lent p f
-      → TextsJudged sheet script lent (Refused p f)
-  refused-judged p f e why = record {
-    reply = sym e;
-    refused = λ q g. (
-      λ d. let s = returned-same p q f g d in subst₂ (RefusedPair sheet script lent) (s .0) (s .1) why,
-      λ h. let s = refused-same p q f g why h in (ap textNumber s, ap textValues s, ap textSubjects s),
-    );
-    accepted = (λ d. clash {b = false} d refl, λ t. absurd (refused-accepted p f why t));
-    counts = λ t. absurd (refused-accepted p f why t);
-    members = λ t. absurd (refused-accepted p f why t);
-    tables = λ t. absurd (refused-accepted p f why t);
-    demand = λ t. absurd (refused-accepted p f why t);
-    visibles = λ t. absurd (refused-accepted p f why t);
-    loose-rule = λ t rule d. absurd (refused-accepted p f why t);
-    tight-rule = λ t rule d. absurd (refused-accepted p f why t);
-  }
+  -- the n beside a verdict
+  counts-met : (j : Judged Contents) → checkText Sheet sheet ≡ j → (k : Judged Contents) → checkText Script script ≡ k
+      → (t : AcceptedPair sheet script lent) → textCounts (pairReply j k lent) ≡ t .of-sheet .count ∷ []
+  unfolding pairReply
+  counts-met (refused g) e k h x = refused-reads Sheet sheet g e (x .of-sheet) (x .sheet-reads)
+  counts-met (accepted c u) e (refused g) h x = refused-reads Script script g h (x .of-script) (x .script-reads)
+  counts-met (accepted c u) e (accepted i w) h x =
+      let t = pair-tied c i (accepted-reads Sheet e .spelled .fine) (accepted-reads Script h .spelled .fine) lent in
+      rw (t .passes .1 (met-same c i u w e h .0 x), reads-same Sheet sheet (x .of-sheet) c (x .sheet-reads) (accepted-reads Sheet e)) refl
 
-  -- and shows nothing
-  pub refused-shown : (p : Subject) (f : Refusal) (values : List ℤ) → RefusedPair sheet script lent p f → TextsShown sheet script lent (Refused p f) values
-  refused-shown p f values why = record {
-    loose-shown = λ t rule d. absurd (refused-accepted p f why t);
-    tight-shown = λ t rule d. absurd (refused-accepted p f why t);
+  -- ---- what the reply tells
+
+  pub texts-refused : (p : Subject) (f : Refusal) → (textsReply sheet script lent ≡ Refused p f) ↔ RefusedPair sheet script lent p f
+  unfolding textsReply
+  texts-refused p f =
+      (refused-reason (checkText Sheet sheet) refl (checkText Script script) refl p f, reason-refused (checkText Sheet sheet) refl (checkText Script script) refl p f)
+
+  pub texts-accepted : (isTextMarked (textsReply sheet script lent) ≡ true) ↔ AcceptedPair sheet script lent
+  unfolding textsReply
+  texts-accepted = accepted-met (checkText Sheet sheet) refl (checkText Script script) refl
+
+  texts-counts : (t : AcceptedPair sheet script lent) → textCounts (textsReply sheet script lent) ≡ t .of-sheet .count ∷ []
+  unfolding textsReply
+  texts-counts = counts-met (checkText Sheet sheet) refl (checkText Script script) refl
+
+  -- the reply to accepted texts is no refusal
+  pub refused-accepted {ℓ} : {X : Type ℓ} (p : Subject) (f : Refusal) → textsReply sheet script lent ≡ Refused p f → AcceptedPair sheet script lent → X
+  refused-accepted p f e t = let z : false ≡ true = rw e at (texts-accepted .1 t) in clash z refl
+
+  -- no text is refused with 5
+  line-never : (paper : Paper) (s : List ℕ) (f : Refusal) → FailsFor paper s f → (refusalNumber f ≡ 5) → ⊥
+  line-never paper s f (inl x) e = omega (arith, rw (x .1) at e)
+  line-never paper s f (inr (l, malformed-at line m d)) e = omega (arith, rw d at e)
+  line-never paper s f (inr (l, outside-at line m d)) e = omega (arith, rw d at e)
+  line-never paper s f (inr (l, cancels-at line m d)) e = omega (arith, rw d at e)
+
+  -- nor are two
+  pair-never : (c d : Contents) (f : Refusal) → RefusedBy (pairNeeds c d lent) f → (refusalNumber f ≡ 5) → ⊥
+  pair-never c d f (inl x) e = omega (arith, rw (x .1) at e)
+  pair-never c d f (inr (a, inl x)) e = omega (arith, rw (x .1) at e)
+  pair-never c d f (inr (a, inr (b, inl x))) e = omega (arith, rw (x .1) at e)
+  pair-never c d f (inr (a, inr (b, inr (g, inl x)))) e = omega (arith, rw (x .1) at e)
+  pair-never c d f (inr (a, inr (b, inr (g, inr (h, inl x))))) e = omega (arith, rw (x .1) at e)
+  pair-never c d f (inr (a, inr (b, inr (g, inr (h, inr x))))) e = x .1
+
+  refused-never : (p : Subject) (f : Refusal) → RefusedPair sheet script lent p f → (refusalNumber f ≡ 5) → ⊥
+  refused-never OfSheet f x e = line-never Sheet sheet f x e
+  refused-never OfScript f x e = line-never Script script f (x .1) e
+  refused-never Both f x e = pair-never (x .of-sheet) (x .of-script) f (x .fails) e
+
+  texts-never : (r : TextMarking) → r ≡ textsReply sheet script lent → (textNumber r ≡ 5) → ⊥
+  texts-never (Marked n v) d e = omega (arith, verdict-from v)
+  texts-never (Refused p f) d e = refused-never p f (texts-refused p f .0 (sym d)) e
+
+  -- a reply with what a verdict means is judged as promised
+  pub texts-judged : (r : TextMarking) (values : List ℤ) → r ≡ textsReply sheet script lent
+      → ((t : AcceptedPair sheet script lent) → PairJudged t (textNumber r) (textRule r) values) → TextsJudged sheet script lent r values
+  texts-judged r values e j = record {
+    reply = e;
+    refused = λ p f. let w = returned-refused r p f in let t = texts-refused p f in
+        (λ x. t .0 (sym e ∙ w .0 x), λ x. w .1 (e ∙ t .1 x));
+    accepted = rw e texts-accepted;
+    never = texts-never r e;
+    count = reads-count sheet;
+    counts = λ t. rw e (texts-counts t);
+    judged = j;
   }

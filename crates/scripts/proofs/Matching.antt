@@ -1,6 +1,6 @@
 -- A script fits a sheet exactly where the two have one n and one hidden set and the rules of the script's table name visible quantities alone. Assumes nothing.
 use mathlib.Core.Path.{_≡_, refl, sym, _∙_}
-use mathlib.Core.Bool.{Bool, true, false, cond, _||_}
+use mathlib.Core.Bool.{Bool, true, false, cond, not, _||_}
 use mathlib.Core.List.{List, [], _∷_}
 use mathlib.Core.Logic.{_↔_}
 use Prim.Native.Nat.{ℕ, _≤_, _<_}
@@ -8,7 +8,7 @@ use native.Mathlib.Omega.{arith}
 use lib.Dec.{eqb}
 use lib.IntN.{ℤ, pos}
 use lib.ListN.{length, length-replicate, getD-replicate}
-use borrow.Author.Tests.{eqb-true, eqb-false}
+use borrow.Author.Tests.{eqb-true, eqb-false, eq-eqb}
 use Rattle.integers.specs.Bound.{half, smaller}
 use Rattle.integers.proofs.Parts.{smaller-right}
 use Rattle.words.specs.Change.{wordAt, lowered}
@@ -16,27 +16,31 @@ use Rattle.words.proofs.Change.{lowered-length, lowered-same, lowered-other}
 use Rattle.places.specs.Numbering.{blockStart}
 use Rattle.rules.specs.declared.rule.Rule.{Rule}
 use Rattle.rules.specs.declared.rule.Rule.the-variants.{One, Two, Nothing}
-use Rattle.rules.specs.Hidden.{hiddenIn, isListed}
-use Rattle.rules.specs.Limits.{maxBound, noRule}
+use Rattle.rules.specs.declared.paper.Paper.{Paper}
+use Rattle.rules.specs.declared.paper.Paper.the-variants.{Sheet, Script}
+use Rattle.rules.specs.Hidden.{hiddenIn}
+use Rattle.rules.specs.Limits.{noRule}
 use Rattle.rules.specs.Literal.{quantityOf}
 use Rattle.rules.specs.Meaning.{boundOf, names}
 use Rattle.rules.specs.Steps.{halvedOf}
 use Rattle.tables.specs.declared.reply.Reply.the-variants.{Done}
-use Rattle.tables.specs.Places.{ruleAt, placeOf, findPlace, HasPlace}
-use Rattle.tables.specs.Tables.{hasRule, emptyTable, ruleReply, putAt, putHalved, putRule, putAll, AllAccepted, tableOf}
+use Rattle.tables.specs.Places.{ruleAt, findPlace, HasPlace}
+use Rattle.tables.specs.Tables.{hasRule, emptyTable, ruleReply, putAt, putHalved, putRule, putAll, tableOf}
 use Rattle.tables.specs.Meaning.{HoldsRule, NoneNames, NamesVisible}
-use Rattle.tables.proofs.Tests.{clash}
-use Rattle.tables.proofs.Places.{hasPlace-below, found-two, names-bound, place-names}
+use Rattle.tables.proofs.Tests.{clash, both-true}
+use Rattle.tables.proofs.Places.{placeOf, hasPlace-below, found-two, names-bound, place-names}
 use Rattle.tables.proofs.Putting.{different-quantities, one-accepted, two-accepted}
-use Rattle.tables.proofs.Lists.{put-length}
-use Rattle.lines.specs.Spelling.{lineWithin, writtenRules}
-use Rattle.lines.proofs.SetMembers.{list-members}
+use Rattle.tables.proofs.Lists.{AllAccepted, put-length}
+use Rattle.lines.specs.Spelling.{writtenRules}
 use Rattle.reading.specs.Texts.{Contents}
-use Rattle.reading.specs.Meaning.{FineLines}
-use Rattle.reading.proofs.FineRules.{all-accepted}
+use Rattle.reading.specs.Meaning.{FineLines, contentsLimit}
+use Rattle.reading.proofs.FineRules.{contents-accepted}
+use Rattle.marking.specs.Marking.{tableNamesHidden}
+use Rattle.marking.proofs.Checking.{script-names}
 use Rattle.elimination.proofs.SumWords.{hasRule-mono}
 use Rattle.scripts.specs.Meaning.{setIn, tableIn, Matches}
-use Rattle.scripts.proofs.Sheets.{fine-sheet}
+use Rattle.scripts.specs.Marking.{sameHeaders, fitsSheet}
+use Rattle.scripts.proofs.Sheets.{fine-table}
 
 -- no rule of a table over n quantities names quantity q
 record Silent (n q : ℕ) (t : List ℤ) : Type 0 where
@@ -165,31 +169,50 @@ visible-silent n hidden t = (to, of)
 
 -- ---- two contents whose lines are fine
 
--- the hidden set of a fine text has the members of its list
-set-listed : (c : Contents) → FineLines maxBound c → (q : ℕ) → hiddenIn (setIn c) q ≡ isListed q (c .hiddens)
-unfolding lineWithin
-set-listed c f = list-members (c .count) (c .hiddens) (f .1 .0 .formed) (f .1 .0 .within)
+-- the table of contents names just what their rules do
+table-names : (paper : Paper) (c : Contents) → FineLines (contentsLimit paper c) c
+    → (q : ℕ) → Silent (c .count) q (tableIn c) ↔ NoneNames q (writtenRules (c .written))
+table-names paper c f q = table-silent (c .count) q (writtenRules (c .written)) (contents-accepted paper c f)
 
--- its table names just what its rules do
-table-names : (c : Contents) → FineLines maxBound c → (q : ℕ) → Silent (c .count) q (tableIn c) ↔ NoneNames q (writtenRules (c .written))
-table-names c f q = table-silent (c .count) q (writtenRules (c .written)) (all-accepted (c .count) (c .written) (f .1 .1 .1))
+module _ (c d : Contents) (f : FineLines (contentsLimit Sheet c) c) (g : FineLines (contentsLimit Script d) d) where
+  -- the table of a script that fits names visible quantities alone
+  matches-visible : Matches c d → NamesVisible (c .count) (hiddenIn (setIn c)) (tableIn d)
+  matches-visible m =
+      rw (← m .count) (visible-silent (d .count) (hiddenIn (setIn c)) (tableIn d) .1
+      (λ q e. table-names Script d g q .1 (m .visible q (sym (fine-table Sheet c f .members q) ∙ e))))
 
--- a script that fits has the sheet's hidden set
-pub matches-set : (c d : Contents) → Matches c d → setIn d ≡ setIn c
-matches-set c d m = rw (m .hiddens)
+  -- a script with the sheet's n and hidden set, whose table does so, fits
+  visible-matches : d .count ≡ c .count → setIn d ≡ setIn c → NamesVisible (c .count) (hiddenIn (setIn c)) (tableIn d) → Matches c d
+  visible-matches n s v = record {
+    count = n;
+    hiddens = sym (fine-table Script d g .back) ∙ rw (n, s) (fine-table Sheet c f .back);
+    visible = λ q e.
+        table-names Script d g q .0 (visible-silent (d .count) (hiddenIn (setIn c)) (tableIn d) .0 (rw (← n) at v) q (fine-table Sheet c f .members q ∙ e));
+  }
 
--- and its table names visible quantities alone
-pub matches-visible : (c d : Contents) → FineLines maxBound c → FineLines maxBound d → Matches c d
-    → NamesVisible (c .count) (hiddenIn (setIn c)) (tableIn d)
-matches-visible c d f g m =
-    rw (← m .count) (visible-silent (d .count) (hiddenIn (setIn c)) (tableIn d) .1
-    (λ q e. table-names d g q .1 (m .visible q (sym (set-listed c f q) ∙ e))))
+  -- so the test whether a script fits tells it
+  pub fits-matches : (fitsSheet c d ≡ true) ↔ Matches c d
+  fits-matches = (to, of)
+    where
+      headed : sameHeaders (c .count) (setIn c) (d .count) (setIn d) ≡ true → (d .count ≡ c .count) × (setIn d ≡ setIn c)
+      headed e =
+          let p = both-true (eqb (c .count) (d .count)) (eqb (setIn c) (setIn d)) e in
+          (sym (eqb-true (c .count) (d .count) (p .0)), sym (eqb-true (setIn c) (setIn d) (p .1)))
 
--- a script with the sheet's n and hidden set, whose table does so, fits
-pub visible-matches : (c d : Contents) → FineLines maxBound c → FineLines maxBound d → d .count ≡ c .count → setIn d ≡ setIn c
-    → NamesVisible (c .count) (hiddenIn (setIn c)) (tableIn d) → Matches c d
-visible-matches c d f g n s v = record {
-  count = n;
-  hiddens = sym (fine-sheet d g .back) ∙ rw (n, s) (fine-sheet c f .back);
-  visible = λ q e. table-names d g q .0 (visible-silent (d .count) (hiddenIn (setIn c)) (tableIn d) .0 (rw (← n) at v) q (set-listed c f q ∙ e));
-}
+      room : d .count ≡ c .count → blockStart (c .count) ≤ length (tableIn d)
+      room e = rw (fine-table Script d g .size, e) (omega arith)
+
+      to : fitsSheet c d ≡ true → Matches c d
+      to e =
+          let p = both-true (sameHeaders (c .count) (setIn c) (d .count) (setIn d)) (not (tableNamesHidden (hiddenIn (setIn c)) (c .count) (tableIn d))) e in
+          let h = headed (p .0) in
+          visible-matches (h .0) (h .1) (script-names (c .count) (setIn c) (tableIn c) (tableIn d) (room (h .0)) .0 (p .1))
+
+      of : Matches c d → fitsSheet c d ≡ true
+      of m =
+          let s : setIn d ≡ setIn c = rw (m .hiddens) in
+          rw (
+            eq-eqb (c .count) (d .count) (sym (m .count)),
+            eq-eqb (setIn c) (setIn d) (sym s),
+            script-names (c .count) (setIn c) (tableIn c) (tableIn d) (room (m .count)) .1 (matches-visible m),
+          )

@@ -1,46 +1,50 @@
--- With tables and a workspace for every sheet, marking two texts is refused with 6 exactly for the assignment, and never with 5. Assumes nothing.
-use mathlib.Core.Path.{_≡_, refl, ap}
+-- With tables and a workspace for every sheet, marking two texts is refused with 6 exactly for the assignment. Assumes nothing.
+use mathlib.Core.Path.{_≡_, refl, sym, _∙_, ap}
 use mathlib.Core.Bool.{Bool, true, false}
-use mathlib.Core.Logic.{_⊎_, inl, inr}
+use mathlib.Core.Logic.{inl, inr}
 use mathlib.Core.List.{List}
 use Prim.Native.Nat.{ℕ, _≤_, _<_}
 use native.Mathlib.Omega.{arith}
 use lib.IntN.{ℤ}
 use lib.Dec.{ltb}
 use lib.ListN.{length}
-use borrow.Author.Tests.{ltb-true, ltb-false}
+use borrow.Author.Tests.{ltb-true, ltb-false, le-leb}
 use Rattle.places.specs.Numbering.{blockStart}
+use Rattle.rules.specs.declared.paper.Paper.{Paper}
+use Rattle.rules.specs.declared.paper.Paper.the-variants.{Sheet, Script}
 use Rattle.rules.specs.declared.refusal.Refusal.{Refusal}
-use Rattle.rules.specs.declared.refusal.Refusal.the-variants.{Size, Malformed, OutOfLimit, Cancelling, NoAssignment, TooShort, Mismatch}
+use Rattle.rules.specs.declared.refusal.Refusal.the-variants.{TooShort}
 use Rattle.rules.specs.Limits.{maxQuantities}
 use Rattle.rules.specs.Refusal.{refusalNumber, refusalValue}
+use Rattle.rules.specs.Refusing.{RefusedBy}
 use Rattle.tables.proofs.Sizes.{small-start}
 use Rattle.marking.specs.Meaning.{workspaceSize}
 use Rattle.marking.proofs.Carried.{verdict-from}
 use Rattle.lines.specs.Lines.{Judged, accepted, refused}
 use Rattle.reading.specs.Reading.{checkText}
 use Rattle.reading.specs.Texts.{Contents}
-use Rattle.reading.specs.Meaning.{FailsFor}
+use Rattle.reading.specs.Meaning.{Readable, malformed-at, outside-at, cancels-at, FailsFor}
 use Rattle.scripts.specs.declared.reply.Subject.{Subject}
-use Rattle.scripts.specs.declared.reply.Subject.the-variants.{Sheet, Script, Both}
+use Rattle.scripts.specs.declared.reply.Subject.the-variants.{Both}
+use Rattle.scripts.specs.declared.reply.Subject.the-variants.{Sheet as OfSheet}
+use Rattle.scripts.specs.declared.reply.Subject.the-variants.{Script as OfScript}
 use Rattle.scripts.specs.declared.reply.TextMarking.{TextMarking}
 use Rattle.scripts.specs.declared.reply.TextMarking.the-variants.{Marked, Refused}
 use Rattle.scripts.specs.Replies.{textNumber, textValue}
-use Rattle.scripts.specs.Meaning.{Readable, Matches, Room, ShortIn, RefusedPair}
-use Rattle.scripts.specs.Marking.{countIn, ownLengths}
+use Rattle.scripts.specs.Meaning.{ownLengths, pairNeeds, RefusedPair}
+use Rattle.scripts.specs.Marking.{roomChecks, pairChecks, pairReply, textsReply, countIn}
 use Rattle.scripts.specs.Promises.{TextsJudged, TextsMarked, MarkedInOwnRoom}
-use Rattle.scripts.proofs.Sheets.{fine-sheet}
-use Rattle.scripts.proofs.Judging.{reads-count}
-use Rattle.scripts.proofs.Promised.{accepted-reads}
+use Rattle.scripts.proofs.Sheets.{fine-table}
+use Rattle.scripts.proofs.Judging.{reads-count, accepted-reads, texts-refused}
 
 -- ---- the sheet's n
 
 -- a text with an n is fine
-counted-reads : (s : List ℕ) → 0 < countIn s → Readable s
-counted-reads s h = go (checkText s) refl
+counted-reads : (s : List ℕ) → 0 < countIn s → Readable Sheet s
+counted-reads s h = go (checkText Sheet s) refl
   where
-    go : (j : Judged Contents) → checkText s ≡ j → Readable s
-    go (accepted c u) e = record { contents = c; reads = accepted-reads e }
+    go : (j : Judged Contents) → checkText Sheet s ≡ j → Readable Sheet s
+    go (accepted c u) e = record { contents = c; reads = accepted-reads Sheet e }
     go (refused f) e = let z : countIn s ≡ 0 = rw e refl in absurd (omega arith)
 
 -- n is at most 32
@@ -50,98 +54,95 @@ count-most s = go (ltb 0 (countIn s)) refl
     go : (b : Bool) → ltb 0 (countIn s) ≡ b → countIn s ≤ maxQuantities
     go true e =
         let t = counted-reads s (ltb-true 0 (countIn s) e) in
-        rw (reads-count s (t .contents) (t .reads)) (fine-sheet (t .contents) (t .reads .spelled .fine) .most)
+        rw (reads-count s (t .contents) (t .reads)) (fine-table Sheet (t .contents) (t .reads .spelled .fine) .most)
     go false e = omega (arith, ltb-false 0 (countIn s) e)
 
--- ---- 5 and 6
+-- ---- 6
 
--- what is lent for the largest n is long enough for every sheet
-short-values : (n k : ℕ) (f : Refusal) → n ≤ maxQuantities → ShortIn n (ownLengths k) f → (k < n) × (f ≡ TooShort n)
+-- what is lent for the largest n is long enough for every sheet, so 6 is for the assignment
+short-values : (c d : Contents) (k : ℕ) (f : Refusal) → c .count ≤ maxQuantities → RefusedBy (pairNeeds c d (ownLengths k)) f → refusalNumber f ≡ 6
+    → (k < c .count) × (f ≡ TooShort (c .count))
 unfolding blockStart
-short-values n k f h (inl p) = absurd (omega (arith, small-start n h, p .0))
-short-values n k f h (inr (inl p)) = absurd (omega (arith, small-start n h, p .1))
-short-values n k f h (inr (inr (inl p))) = absurd (omega (arith, small-start n h, p .2))
-short-values n k f h (inr (inr (inr p))) = (p .3, p .4)
-
--- so an assignment that is too short is the first
-values-short : (n k : ℕ) → n ≤ maxQuantities → k < n → ShortIn n (ownLengths k) (TooShort n)
-unfolding blockStart
-values-short n k h l = let s = small-start n h in inr (inr (inr (omega (arith, s), omega (arith, s), omega (arith, s), l, refl)))
-
--- no 5; and 6 for k words of an assignment, with the length needed, where the script is fine and they are too few
-abbrev Rarely : List ℕ → List ℕ → ℕ → Refusal → Type 0
-Rarely sheet script k f =
-    ((refusalNumber f ≡ 5) → ⊥) × ((refusalNumber f ≡ 6) → Readable script × (k < countIn sheet) × (f ≡ TooShort (countIn sheet)))
-
--- a text is refused by itself with no 5 and no 6
-text-rarely : (sheet script : List ℕ) (k : ℕ) (s : List ℕ) (f : Refusal) → FailsFor s f → Rarely sheet script k f
-text-rarely sheet script k s Size a = (λ e. omega arith, λ e. absurd (omega arith))
-text-rarely sheet script k s (Malformed l) a = (λ e. omega arith, λ e. absurd (omega arith))
-text-rarely sheet script k s (OutOfLimit l) a = (λ e. omega arith, λ e. absurd (omega arith))
-text-rarely sheet script k s (Cancelling l) a = (λ e. omega arith, λ e. absurd (omega arith))
-text-rarely sheet script k s NoAssignment a = absurd a
-text-rarely sheet script k s (TooShort m) a = absurd a
-text-rarely sheet script k s Mismatch a = absurd a
-
--- so two texts are refused by themselves, for the assignment, or with 7
-refused-rarely : (sheet script : List ℕ) (k : ℕ) (p : Subject) (f : Refusal) → RefusedPair sheet script (ownLengths k) p f → Rarely sheet script k f
-refused-rarely sheet script k Sheet f a = text-rarely sheet script k sheet f a
-refused-rarely sheet script k Script f a = text-rarely sheet script k script f (a .1)
-refused-rarely sheet script k Both f a = go (a .fails)
+short-values c d k f h (inl x) e = absurd (x .0 (omega (arith, small-start (c .count) h)))
+short-values c d k f h (inr (a, inl x)) e = absurd (x .0 (omega (arith, small-start (c .count) h)))
+short-values c d k f h (inr (a, inr (b, inl x))) e = absurd (x .0 (omega (arith, small-start (c .count) h)))
+short-values c d k f h (inr (a, inr (b, inr (g, inl x)))) e = (go (ltb k (c .count)) refl, x .1)
   where
-    c : Contents
-    c = a .of-sheet
+    go : (b : Bool) → ltb k (c .count) ≡ b → k < c .count
+    go true z = ltb-true k (c .count) z
+    go false z = absurd (x .0 (ltb-false k (c .count) z))
+short-values c d k f h (inr (a, inr (b, inr (g, inr (i, inl x))))) e = absurd (omega (arith, rw (x .1) at e))
+short-values c d k f h (inr (a, inr (b, inr (g, inr (i, inr x))))) e = absurd (x .1)
 
-    n : countIn sheet ≡ c .count
-    n = reads-count sheet c (a .sheet-reads)
+-- an assignment that is too short is the first
+values-short : (c d : Contents) (k : ℕ) → c .count ≤ maxQuantities → k < c .count → RefusedBy (pairNeeds c d (ownLengths k)) (TooShort (c .count))
+unfolding blockStart
+values-short c d k h l =
+    let s = small-start (c .count) h in
+    inr (omega (arith, s), inr (omega (arith, s), inr (omega (arith, s), inl (λ g. omega arith, refl))))
 
-    go : ShortIn (c .count) (ownLengths k) f ⊎ (Room (c .count) (ownLengths k) × (Matches c (a .of-script) → ⊥) × (f ≡ Mismatch))
-        → Rarely sheet script k f
-    go (inl b) =
-        let s = short-values (c .count) k f (fine-sheet c (a .sheet-reads .spelled .fine) .most) b in
-        (λ e. omega (arith, ap refusalNumber (s .1)), λ e. (record { contents = a .of-script; reads = a .script-reads }, rw n (s .0), rw n (s .1)))
-    go (inr b) = (λ e. omega (arith, ap refusalNumber (b .2)), λ e. absurd (omega (arith, ap refusalNumber (b .2))))
+-- no text is refused by itself with 6
+line-long : (paper : Paper) (s : List ℕ) (f : Refusal) → FailsFor paper s f → (refusalNumber f ≡ 6) → ⊥
+line-long paper s f (inl x) e = omega (arith, rw (x .1) at e)
+line-long paper s f (inr (l, malformed-at line m d)) e = omega (arith, rw d at e)
+line-long paper s f (inr (l, outside-at line m d)) e = omega (arith, rw d at e)
+line-long paper s f (inr (l, cancels-at line m d)) e = omega (arith, rw d at e)
 
--- neither is a verdict's number one of these
 module _ (sheet script : List ℕ) (k : ℕ) where
-  never-five : (r : TextMarking) → TextsJudged sheet script (ownLengths k) r → (textNumber r ≡ 5) → ⊥
-  never-five (Marked n v) j e = omega (arith, verdict-from v)
-  never-five (Refused p f) j e = refused-rarely sheet script k p f (j .refused p f .0 (refl, refl, refl)) .0 e
+  refused-six : (p : Subject) (f : Refusal) → RefusedPair sheet script (ownLengths k) p f → refusalNumber f ≡ 6
+      → Readable Script script × (k < countIn sheet) × (refusalValue f ≡ countIn sheet)
+  refused-six OfSheet f x e = absurd (line-long Sheet sheet f x e)
+  refused-six OfScript f x e = absurd (line-long Script script f (x .1) e)
+  refused-six Both f x e =
+      let c = x .of-sheet in
+      let s = short-values c (x .of-script) k f (fine-table Sheet c (x .sheet-reads .spelled .fine) .most) (x .fails) e in
+      let n : countIn sheet ≡ c .count = reads-count sheet c (x .sheet-reads) in
+      (record { contents = x .of-script; reads = x .script-reads }, rw n (s .0), ap refusalValue (s .1) ∙ sym n)
 
-  six-short : (r : TextMarking) → TextsJudged sheet script (ownLengths k) r → textNumber r ≡ 6
-      → Readable script × (k < countIn sheet) × (textValue r ≡ countIn sheet)
-  six-short (Marked n v) j e = absurd (omega (arith, verdict-from v))
-  six-short (Refused p f) j e =
-      let s = refused-rarely sheet script k p f (j .refused p f .0 (refl, refl, refl)) .1 e in
-      (s .0, s .1, ap refusalValue (s .2))
+  six-short : (r : TextMarking) → r ≡ textsReply sheet script (ownLengths k) → textNumber r ≡ 6
+      → Readable Script script × (k < countIn sheet) × (textValue r ≡ countIn sheet)
+  six-short (Marked n v) d e = absurd (omega (arith, verdict-from v))
+  six-short (Refused p f) d e = refused-six p f (texts-refused sheet script (ownLengths k) p f .0 (sym d)) e
 
-  short-six : (r : TextMarking) → TextsJudged sheet script (ownLengths k) r → Readable script → k < countIn sheet → textNumber r ≡ 6
-  short-six r j d h =
+  short-six : (r : TextMarking) → r ≡ textsReply sheet script (ownLengths k) → Readable Script script → k < countIn sheet → textNumber r ≡ 6
+  short-six r e d h =
       let c = counted-reads sheet (omega arith) in
-      let n = reads-count sheet (c .contents) (c .reads) in
-      let most = fine-sheet (c .contents) (c .reads .spelled .fine) .most in
-      j .refused Both (TooShort (c .contents .count)) .1 record {
+      let n : countIn sheet ≡ c .contents .count = reads-count sheet (c .contents) (c .reads) in
+      let most = fine-table Sheet (c .contents) (c .reads .spelled .fine) .most in
+      ap textNumber (e ∙ texts-refused sheet script (ownLengths k) Both (TooShort (c .contents .count)) .1 record {
         of-sheet = c .contents;
         of-script = d .contents;
         sheet-reads = c .reads;
         script-reads = d .reads;
-        fails = inl (values-short (c .contents .count) k most (omega (arith, n)));
-      } .0
+        fails = values-short (c .contents) (d .contents) k most (omega (arith, n));
+      })
+
+-- how many words of an assignment are lent does not matter where they are enough, or where the script is not fine
+pub same-reply : (sheet script : List ℕ) (k m : ℕ) → (Readable Script script → countIn sheet ≤ k) → (Readable Script script → countIn sheet ≤ m)
+    → textsReply sheet script (ownLengths k) ≡ textsReply sheet script (ownLengths m)
+unfolding textsReply pairReply pairChecks roomChecks
+same-reply sheet script k m h g = go (checkText Sheet sheet) refl (checkText Script script) refl
+  where
+    go : (x : Judged Contents) → checkText Sheet sheet ≡ x → (y : Judged Contents) → checkText Script script ≡ y
+        → pairReply x y (ownLengths k) ≡ pairReply x y (ownLengths m)
+    go (refused f) e y d = refl
+    go (accepted c u) e (refused f) d = refl
+    go (accepted c u) e (accepted i w) d =
+        let r : Readable Script script = record { contents = i; reads = accepted-reads Script d } in
+        let n : countIn sheet ≡ c .count = reads-count sheet c (accepted-reads Sheet e) in
+        rw (le-leb (c .count) k (rw n at (h r)), le-leb (c .count) m (rw n at (g r)))
 
 -- marking with so much lent promises this
 pub own-marked : {sheet script : List ℕ} {a b w v : List ℤ} {r : TextMarking} {a' b' w' v' : List ℤ} → TextsMarked sheet script a b w v r a' b' w' v'
     → length a ≡ blockStart maxQuantities → length b ≡ blockStart maxQuantities → length w ≡ workspaceSize maxQuantities
     → MarkedInOwnRoom sheet script v r v'
-own-marked {sheet} {script} {v = v} {r = r} m e f g =
-    let j : TextsJudged sheet script (ownLengths (length v)) r = rw (e, f, g) at (m .judged) in
-    let six = six-short sheet script (length v) r j in
+own-marked {sheet} {script} {v = v} {r = r} {v' = v'} m e f g =
+    let j : TextsJudged sheet script (ownLengths (length v)) r v' = rw (e, f, g) at (m .judged) in
+    let six = six-short sheet script (length v) r (j .reply) in
     record {
-      count = m .count;
       judged = j;
-      shown = rw (e, f, g) at (m .shown);
       written = m .written;
-      never = never-five sheet script (length v) r j;
-      short = (λ x. let s = six x in (s .0, s .1), λ s. short-six sheet script (length v) r j (s .0) (s .1));
+      short = (λ x. let s = six x in (s .0, s .1), λ s. short-six sheet script (length v) r (j .reply) (s .0) (s .1));
       needed = λ x. six x .2;
       most = count-most sheet;
     }

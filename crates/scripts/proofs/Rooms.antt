@@ -1,158 +1,201 @@
--- What the first checks of two texts that are fine answer: 6 for what is lent, 7 for the headers. Assumes nothing.
-use mathlib.Core.Path.{_≡_, refl, sym, _∙_, subst}
-use mathlib.Core.Bool.{Bool, true, false, cond, _&&_, and-false}
-use mathlib.Core.Logic.{_⊎_, inl, inr}
-use Prim.Native.Nat.{ℕ}
-use lib.Dec.{ltb, eqb}
-use borrow.Author.Tests.{ltb-true, ltb-false, lt-ltb, le-ltb, eqb-true, eq-eqb, ne-eqb}
+-- What two fine texts need of what is lent and of each other: the checks are these needs in their order, and those made before the tables are filled are their first.
+-- Assumes nothing.
+use mathlib.Core.Path.{_≡_, refl, sym, _∙_}
+use mathlib.Core.Bool.{Bool, true, false, not, _&&_, and-false}
+use mathlib.Core.Logic.{_↔_}
+use mathlib.Core.List.{List}
+use Prim.Native.Nat.{ℕ, _≤_, _<_}
+use lib.Dec.{leb, eqb}
+use borrow.Author.Tests.{le-leb, lt-leb, eqb-true, eq-eqb, ne-eqb}
 use Rattle.places.specs.Numbering.{blockStart}
+use Rattle.rules.specs.declared.paper.Paper.the-variants.{Sheet, Script}
 use Rattle.rules.specs.declared.refusal.Refusal.{Refusal}
 use Rattle.rules.specs.declared.refusal.Refusal.the-variants.{TooShort, Mismatch}
+use Rattle.rules.specs.Hidden.{hiddenIn}
+use Rattle.rules.specs.Refusing.{Needs, passed, _or_then_}
 use Rattle.tables.specs.declared.reply.Reply.{Reply}
-use Rattle.tables.specs.declared.reply.Reply.the-variants.{Done}
-use Rattle.tables.specs.declared.reply.Reply.the-variants.{Refused as NotDone}
-use Rattle.tables.proofs.Tests.{refused-done, clash, both-true}
-use Rattle.tables.specs.Replies.{andThen, lengthReply}
+use Rattle.tables.specs.declared.reply.Reply.the-variants.{Done, Refused}
+use Rattle.tables.specs.Replies.{check}
+use Rattle.tables.proofs.Tests.{both-true, clash, refused-done}
+use Rattle.tables.proofs.Refusing.{Tied, tied-done, tied-more, Before, before-none, before-more, refusal-in}
+use Rattle.keys.proofs.Checking.{length-test}
 use Rattle.marking.specs.Meaning.{workspaceSize}
+use Rattle.marking.specs.Marking.{tableNamesHidden}
+use Rattle.reading.specs.Texts.{Contents}
+use Rattle.reading.specs.Meaning.{FineLines, contentsLimit}
 use Rattle.scripts.specs.declared.room.Lengths.{Lengths}
-use Rattle.scripts.specs.Meaning.{Room, ShortIn}
-use Rattle.scripts.specs.Marking.{roomChecks, headersReply, firstChecks}
+use Rattle.scripts.specs.Meaning.{setIn, tableIn, pairNeeds}
+use Rattle.scripts.specs.Marking.{roomChecks, sameHeaders, fitsSheet, pairChecks}
+use Rattle.scripts.specs.Inner.{firstChecks}
+use Rattle.scripts.proofs.Matching.{fits-matches}
 
--- ---- 6
-
--- what the answer to the lengths tells
-abbrev RoomTells : ℕ → Lengths → Reply → Type 0
-RoomTells n lent Done = Room n lent
-RoomTells n lent (NotDone f) = ShortIn n lent f
+-- what is lent has words enough for n quantities
+pub record Room (n : ℕ) (lent : Lengths) : Type 0 where
+  pub sheet-room : blockStart n ≤ lent .sheet
+  pub script-room : blockStart n ≤ lent .script
+  pub workspace-room : workspaceSize n ≤ lent .workspace
+  pub values-room : n ≤ lent .values
 
 module _ (n : ℕ) (lent : Lengths) where
-  -- it tells which of what is lent is too short, or that nothing is
-  room-tells : RoomTells n lent (roomChecks n lent)
-  unfolding roomChecks lengthReply andThen
-  room-tells = go (ltb a (blockStart n)) refl (ltb b (blockStart n)) refl (ltb w (workspaceSize n)) refl (ltb v n) refl
-    where
-      a : ℕ
-      a = lent .sheet
+  -- the needs of what is lent, and then others
+  abbrev roomNeeds : Needs → Needs
+  roomNeeds rest =
+      (blockStart n ≤ lent .sheet) or TooShort (blockStart n) then
+      (blockStart n ≤ lent .script) or TooShort (blockStart n) then
+      (workspaceSize n ≤ lent .workspace) or TooShort (workspaceSize n) then
+      (n ≤ lent .values) or TooShort n then
+      rest
 
-      b : ℕ
-      b = lent .script
+  room-tied : (rest : Needs) (next : Reply) → Tied rest next → Tied (roomNeeds rest) (roomChecks n lent next)
+  unfolding roomChecks
+  room-tied rest next t =
+      tied-more _ _ _ _ _ (length-test (blockStart n) (lent .sheet)) (λ a.
+      tied-more _ _ _ _ _ (length-test (blockStart n) (lent .script)) (λ b.
+      tied-more _ _ _ _ _ (length-test (workspaceSize n) (lent .workspace)) (λ c.
+      tied-more _ _ _ _ _ (length-test n (lent .values)) (λ d. t))))
 
-      w : ℕ
-      w = lent .workspace
+  -- the last of the checks, the last two and the last three
+  abbrev valuesCheck : Reply → Reply
+  valuesCheck next = check (leb n (lent .values)) (TooShort n) next
 
-      v : ℕ
-      v = lent .values
+  abbrev workspaceCheck : Reply → Reply
+  workspaceCheck next = check (leb (workspaceSize n) (lent .workspace)) (TooShort (workspaceSize n)) (valuesCheck next)
 
-      enough : ℕ → Bool → Reply
-      enough needed short = cond short (NotDone (TooShort needed)) Done
+  abbrev scriptCheck : Reply → Reply
+  scriptCheck next = check (leb (blockStart n) (lent .script)) (TooShort (blockStart n)) (workspaceCheck next)
 
-      go : (p : Bool) → ltb a (blockStart n) ≡ p → (q : Bool) → ltb b (blockStart n) ≡ q → (s : Bool) → ltb w (workspaceSize n) ≡ s → (t : Bool) → ltb v n ≡ t
-          → RoomTells n lent (andThen (enough (blockStart n) p) (andThen (enough (blockStart n) q) (andThen (enough (workspaceSize n) s) (enough n t))))
-      go true d q e s f t g = inl (ltb-true a (blockStart n) d, refl)
-      go false d true e s f t g = inr (inl (ltb-false a (blockStart n) d, ltb-true b (blockStart n) e, refl))
-      go false d false e true f t g =
-          inr (inr (inl (ltb-false a (blockStart n) d, ltb-false b (blockStart n) e, ltb-true w (workspaceSize n) f, refl)))
-      go false d false e false f true g =
-          inr (inr (inr (ltb-false a (blockStart n) d, ltb-false b (blockStart n) e, ltb-false w (workspaceSize n) f, ltb-true v n g, refl)))
-      go false d false e false f false g = record {
-        sheet-room = ltb-false a (blockStart n) d;
-        script-room = ltb-false b (blockStart n) e;
-        workspace-room = ltb-false w (workspaceSize n) f;
-        values-room = ltb-false v n g;
-      }
+  room-before : Before (roomChecks n lent)
+  unfolding roomChecks
+  room-before =
+      before-more (leb (blockStart n) (lent .sheet)) (TooShort (blockStart n)) scriptCheck
+      (before-more (leb (blockStart n) (lent .script)) (TooShort (blockStart n)) workspaceCheck
+      (before-more (leb (workspaceSize n) (lent .workspace)) (TooShort (workspaceSize n)) valuesCheck
+      (before-more (leb n (lent .values)) (TooShort n) (λ next. next) before-none)))
 
-  -- done, there is room
-  pub done-room : roomChecks n lent ≡ Done → Room n lent
-  done-room e = subst (RoomTells n lent) e room-tells
+  -- ---- each answer of the program
 
-  -- refused, something is too short
-  refused-short : (f : Refusal) → roomChecks n lent ≡ NotDone f → ShortIn n lent f
-  refused-short f e = subst (RoomTells n lent) e room-tells
+  pub sheet-short : lent .sheet < blockStart n → Refused (TooShort (blockStart n)) ≡ roomChecks n lent Done
+  unfolding roomChecks
+  sheet-short h = rw (lt-leb (blockStart n) (lent .sheet) h)
 
-  -- where there is room the lengths are done
-  pub room-done : Room n lent → roomChecks n lent ≡ Done
-  unfolding roomChecks lengthReply andThen
-  room-done r =
+  pub script-short : blockStart n ≤ lent .sheet → lent .script < blockStart n → Refused (TooShort (blockStart n)) ≡ roomChecks n lent Done
+  unfolding roomChecks
+  script-short a h = rw (le-leb (blockStart n) (lent .sheet) a, lt-leb (blockStart n) (lent .script) h)
+
+  pub workspace-short : blockStart n ≤ lent .sheet → blockStart n ≤ lent .script → lent .workspace < workspaceSize n
+      → Refused (TooShort (workspaceSize n)) ≡ roomChecks n lent Done
+  unfolding roomChecks
+  workspace-short a b h =
+      rw (le-leb (blockStart n) (lent .sheet) a, le-leb (blockStart n) (lent .script) b, lt-leb (workspaceSize n) (lent .workspace) h)
+
+  pub values-short : blockStart n ≤ lent .sheet → blockStart n ≤ lent .script → workspaceSize n ≤ lent .workspace → lent .values < n
+      → Refused (TooShort n) ≡ roomChecks n lent Done
+  unfolding roomChecks
+  values-short a b c h =
       rw (
-        le-ltb (lent .sheet) (blockStart n) (r .sheet-room),
-        le-ltb (lent .script) (blockStart n) (r .script-room),
-        le-ltb (lent .workspace) (workspaceSize n) (r .workspace-room),
-        le-ltb (lent .values) n (r .values-room),
+        le-leb (blockStart n) (lent .sheet) a,
+        le-leb (blockStart n) (lent .script) b,
+        le-leb (workspaceSize n) (lent .workspace) c,
+        lt-leb n (lent .values) h,
       )
 
-  -- where something is too short they are refused so
-  pub short-refused : (f : Refusal) → ShortIn n lent f → roomChecks n lent ≡ NotDone f
-  unfolding roomChecks lengthReply andThen
-  short-refused f (inl h) = rw (lt-ltb (lent .sheet) (blockStart n) (h .0), h .1)
-  short-refused f (inr (inl h)) =
-      rw (le-ltb (lent .sheet) (blockStart n) (h .0), lt-ltb (lent .script) (blockStart n) (h .1), h .2)
-  short-refused f (inr (inr (inl h))) =
+  pub room-roomy : Room n lent → Done ≡ roomChecks n lent Done
+  unfolding roomChecks
+  room-roomy r =
       rw (
-        le-ltb (lent .sheet) (blockStart n) (h .0),
-        le-ltb (lent .script) (blockStart n) (h .1),
-        lt-ltb (lent .workspace) (workspaceSize n) (h .2),
-        h .3,
-      )
-  short-refused f (inr (inr (inr h))) =
-      rw (
-        le-ltb (lent .sheet) (blockStart n) (h .0),
-        le-ltb (lent .script) (blockStart n) (h .1),
-        le-ltb (lent .workspace) (workspaceSize n) (h .2),
-        lt-ltb (lent .values) n (h .3),
-        h .4,
+        le-leb (blockStart n) (lent .sheet) (r .sheet-room),
+        le-leb (blockStart n) (lent .script) (r .script-room),
+        le-leb (workspaceSize n) (lent .workspace) (r .workspace-room),
+        le-leb n (lent .values) (r .values-room),
       )
 
-  -- so there is not both
-  pub short-no-room : (f : Refusal) → ShortIn n lent f → Room n lent → ⊥
-  short-no-room f h r = refused-done (sym (short-refused f h) ∙ room-done r)
+  -- ---- the checks before the tables are filled
 
-  -- and one refusal alone
-  pub short-same : (f g : Refusal) → ShortIn n lent f → ShortIn n lent g → f ≡ g
-  short-same f g h k = let e : NotDone f ≡ NotDone g = sym (short-refused f h) ∙ short-refused g k in cc
+  module _ (set script-n script-set : ℕ) where
+    pub room-refused : (r : Reply) (f : Refusal) → r ≡ roomChecks n lent Done → r ≡ Refused f → r ≡ firstChecks n set script-n script-set lent
+    unfolding firstChecks
+    room-refused r f e d = d ∙ sym (room-before .stands f (sym e ∙ d) (check (sameHeaders n set script-n script-set) Mismatch Done))
 
--- ---- 7
+    headers-checked : (r : Reply) → r ≡ roomChecks n lent Done → r ≡ Done
+        → check (sameHeaders n set script-n script-set) Mismatch Done ≡ firstChecks n set script-n script-set lent
+    unfolding firstChecks
+    headers-checked r e d = sym (room-before .goes-on (sym e ∙ d) (check (sameHeaders n set script-n script-set) Mismatch Done))
 
-module _ (n set n' set' : ℕ) where
-  -- the same n and hidden set are done
-  pub same-headers : n ≡ n' → set ≡ set' → headersReply n set n' set' ≡ Done
-  unfolding headersReply
-  same-headers e d = rw (eq-eqb n n' e, eq-eqb set set' d)
+    module _ (r : Reply) (e : r ≡ roomChecks n lent Done) (d : r ≡ Done) where
+      pub headers-same : n ≡ script-n → set ≡ script-set → Done ≡ firstChecks n set script-n script-set lent
+      headers-same a b = rw (← headers-checked r e d, eq-eqb n script-n a, eq-eqb set script-set b)
 
-  -- another hidden set is refused
-  pub other-set : (set ≡ set' → ⊥) → headersReply n set n' set' ≡ NotDone Mismatch
-  unfolding headersReply
-  other-set h = rw (ne-eqb set set' h, and-false (eqb n n'))
+      pub headers-other-count : (n ≡ script-n → ⊥) → Refused Mismatch ≡ firstChecks n set script-n script-set lent
+      headers-other-count a = rw (← headers-checked r e d, ne-eqb n script-n a)
 
-  -- another n is
-  pub other-count : (n ≡ n' → ⊥) → headersReply n set n' set' ≡ NotDone Mismatch
-  unfolding headersReply
-  other-count h = rw (ne-eqb n n' h)
+      pub headers-other-set : (set ≡ script-set → ⊥) → Refused Mismatch ≡ firstChecks n set script-n script-set lent
+      headers-other-set a = rw (← headers-checked r e d, ne-eqb set script-set a, and-false (eqb n script-n))
 
-  -- the answer to the headers tells whether both are the same
-  abbrev HeadersTell : Reply → Type 0
-  HeadersTell Done = (n ≡ n') × (set ≡ set')
-  HeadersTell (NotDone f) = ((n ≡ n') × (set ≡ set') → ⊥) × (f ≡ Mismatch)
+    -- where they are done there is room, and the headers are the same
+    pub first-tells : firstChecks n set script-n script-set lent ≡ Done → Room n lent × (n ≡ script-n) × (set ≡ script-set)
+    unfolding firstChecks
+    first-tells e =
+        let t = room-tied ((sameHeaders n set script-n script-set ≡ true) or Mismatch then passed) (check (sameHeaders n set script-n script-set) Mismatch Done)
+        (tied-more _ _ _ _ _ (λ x. x, λ x. x) (λ x. tied-done)) in
+        go (t .passes .0 e)
+      where
+        go : (blockStart n ≤ lent .sheet) × ((blockStart n ≤ lent .script) × ((workspaceSize n ≤ lent .workspace)
+            × ((n ≤ lent .values) × ((sameHeaders n set script-n script-set ≡ true) × Unit {0}))))
+            → Room n lent × (n ≡ script-n) × (set ≡ script-set)
+        go (a, (b, (c, (d, (h, u))))) =
+            let p = both-true (eqb n script-n) (eqb set script-set) h in
+            (record { sheet-room = a; script-room = b; workspace-room = c; values-room = d }, eqb-true n script-n (p .0), eqb-true set script-set (p .1))
 
-  headers-tell : HeadersTell (headersReply n set n' set')
-  unfolding headersReply
-  headers-tell = go (eqb n n' && eqb set set') refl
-    where
-      go : (b : Bool) → (eqb n n' && eqb set set') ≡ b → HeadersTell (cond b Done (NotDone Mismatch))
-      go true d = let p = both-true (eqb n n') (eqb set set') d in (eqb-true n n' (p .0), eqb-true set set' (p .1))
-      go false d = (λ s. clash (rw (eq-eqb n n' (s .0), eq-eqb set set' (s .1))) d, refl)
+-- ---- two texts that are fine by themselves
 
--- ---- both
+-- they are refused by the first need that is not met
+pub pair-tied : (c d : Contents) → FineLines (contentsLimit Sheet c) c → FineLines (contentsLimit Script d) d → (lent : Lengths)
+    → Tied (pairNeeds c d lent) (pairChecks c d lent)
+unfolding pairChecks
+pair-tied c d f g lent = room-tied (c .count) lent _ _ (tied-more _ _ _ _ _ (fits-matches c d f g) (λ m. tied-done))
 
--- what the answer to both tells
-abbrev pub FirstTell : ℕ → ℕ → ℕ → ℕ → Lengths → Reply → Type 0
-FirstTell n set n' set' lent Done = Room n lent × (n ≡ n') × (set ≡ set')
-FirstTell n set n' set' lent (NotDone f) = ShortIn n lent f ⊎ (Room n lent × ((n ≡ n') × (set ≡ set') → ⊥) × (f ≡ Mismatch))
-
-pub first-tell : (n set n' set' : ℕ) (lent : Lengths) → FirstTell n set n' set' lent (firstChecks n set n' set' lent)
-unfolding firstChecks andThen
-first-tell n set n' set' lent = go (roomChecks n lent) refl (headersReply n set n' set') (headers-tell n set n' set')
+-- a refusal before the tables are filled is the whole's
+pub first-refused : (c d : Contents) (lent : Lengths) (f : Refusal) → firstChecks (c .count) (setIn c) (d .count) (setIn d) lent ≡ Refused f
+    → pairChecks c d lent ≡ Refused f
+unfolding firstChecks pairChecks
+first-refused c d lent f e = go (roomChecks (c .count) lent Done) refl
   where
-    go : (r : Reply) → roomChecks n lent ≡ r → (h : Reply) → HeadersTell n set n' set' h → FirstTell n set n' set' lent (andThen r h)
-    go (NotDone f) e h t = inl (refused-short n lent f e)
-    go Done e Done t = (done-room n lent e, t .0, t .1)
-    go Done e (NotDone f) t = inr (done-room n lent e, t .0, t .1)
+    same : Bool
+    same = sameHeaders (c .count) (setIn c) (d .count) (setIn d)
+
+    named : Bool
+    named = not (tableNamesHidden (hiddenIn (setIn c)) (c .count) (tableIn d))
+
+    b : Before (roomChecks (c .count) lent)
+    b = room-before (c .count) lent
+
+    headers : (s : Bool) → check s Mismatch Done ≡ Refused f → check (s && named) Mismatch Done ≡ Refused f
+    headers true h = absurd (refused-done (sym h))
+    headers false h = h
+
+    go : (r : Reply) → roomChecks (c .count) lent Done ≡ r → roomChecks (c .count) lent (check (same && named) Mismatch Done) ≡ Refused f
+    go Done h = b .goes-on h _ ∙ headers same (sym (b .goes-on h (check same Mismatch Done)) ∙ e)
+    go (Refused g) h = b .stands g h _ ∙ sym (b .stands g h (check same Mismatch Done)) ∙ e
+
+-- and where they are done, the script's names decide
+pub first-done : (c d : Contents) (lent : Lengths) → firstChecks (c .count) (setIn c) (d .count) (setIn d) lent ≡ Done
+    → pairChecks c d lent ≡ check (not (tableNamesHidden (hiddenIn (setIn c)) (c .count) (tableIn d))) Mismatch Done
+unfolding firstChecks pairChecks
+first-done c d lent e = go (roomChecks (c .count) lent Done) refl
+  where
+    same : Bool
+    same = sameHeaders (c .count) (setIn c) (d .count) (setIn d)
+
+    named : Bool
+    named = not (tableNamesHidden (hiddenIn (setIn c)) (c .count) (tableIn d))
+
+    b : Before (roomChecks (c .count) lent)
+    b = room-before (c .count) lent
+
+    headers : (s : Bool) → check s Mismatch Done ≡ Done → check (s && named) Mismatch Done ≡ check named Mismatch Done
+    headers true h = refl
+    headers false h = absurd (refused-done h)
+
+    go : (r : Reply) → roomChecks (c .count) lent Done ≡ r → roomChecks (c .count) lent (check (same && named) Mismatch Done) ≡ check named Mismatch Done
+    go Done h = b .goes-on h _ ∙ headers same (sym (b .goes-on h (check same Mismatch Done)) ∙ e)
+    go (Refused g) h = absurd (refused-done (sym (b .stands g h (check same Mismatch Done)) ∙ e))

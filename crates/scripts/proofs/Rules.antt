@@ -1,71 +1,74 @@
--- The rules that a text writes, where its lines are fine: their table means what they say, and its bounds are in the sheet's limit. Assumes nothing.
-use mathlib.Core.Path.{_≡_, refl}
+-- The rules that a text writes, where its lines are fine: their table holds them, and its bounds are in the paper's limit. Assumes nothing.
+use mathlib.Core.Path.{_≡_, refl, sym, _∙_, ap}
 use mathlib.Core.Bool.{true, _&&_}
-use mathlib.Core.List.{List, [], _∷_}
-use mathlib.Core.Logic.{_↔_}
+use mathlib.Core.List.{List, [], _∷_, _++_, append-nil}
 use Prim.Native.Nat.{ℕ, suc}
 use native.Mathlib.Omega.{arith}
 use lib.Dec.{leb}
 use lib.IntN.{ℤ, pos, negsuc, natAbs}
 use lib.ListN.{getD-replicate}
+use lib.Seq.{drop-nil}
 use borrow.Author.Tests.{leb-true}
 use Rattle.integers.specs.Bound.{Within}
 use Rattle.integers.proofs.Parts.{positivePart, negativePart}
 use Rattle.integers.proofs.Within.{within-of}
 use Rattle.places.specs.Numbering.{blockStart}
-use Rattle.rules.specs.Limits.{maxBound, noRule}
-use Rattle.rules.specs.Meaning.{Assignment, boundOf}
+use Rattle.rules.specs.declared.paper.Paper.{Paper}
+use Rattle.rules.specs.Limits.{noRule}
+use Rattle.rules.specs.Meaning.{boundOf}
 use Rattle.rules.proofs.Meanings.{ruleOf-bound}
 use Rattle.tables.specs.Tables.{hasRule, emptyTable, putRule, putAll, tableOf}
-use Rattle.tables.specs.Meaning.{Satisfies, MeetsAll, WordsWithin}
+use Rattle.tables.specs.Meaning.{WordsWithin}
 use Rattle.tables.proofs.Tests.{both-true, clash}
-use Rattle.tables.proofs.Limits.{wordsInLimit-within}
-use Rattle.tables.proofs.Lists.{tableOf-meaning}
-use Rattle.keys.specs.Keys.{inSheetLimit}
+use Rattle.tables.proofs.Lists.{tableOf-meaning, tableOf-smallest}
 use Rattle.lines.specs.Spelling.{Written, one, two, rule, quantityWithin, lineWithin, signedQuantity, writtenRule, writtenRules}
-use Rattle.reading.specs.Texts.{ruleLines}
-use Rattle.reading.specs.Meaning.{Fine, AllFine}
-use Rattle.reading.proofs.FineRules.{all-accepted}
+use Rattle.reading.specs.Texts.{Contents, ruleLines}
+use Rattle.reading.specs.Meaning.{Fine, AllFine, FineLines, contentsLimit}
+use Rattle.reading.specs.Promises.{TableRead}
+use Rattle.reading.proofs.FineRules.{contents-accepted}
+use Rattle.scripts.specs.Meaning.{tableIn}
 use Rattle.marking.proofs.Puts.{put-within}
 
--- the table of fine rules means what they say
-pub rules-meaning : (n : ℕ) (ws : List Written) → AllFine n maxBound (ruleLines ws)
-    → (σ : Assignment) → Satisfies n (tableOf n (writtenRules ws)) σ ↔ MeetsAll σ (writtenRules ws)
-rules-meaning n ws f σ = tableOf-meaning n (writtenRules ws) σ (all-accepted n ws f)
+-- the table of fine rules holds the smallest bounds and means what they say
+pub rules-held : (paper : Paper) (c : Contents) → FineLines (contentsLimit paper c) c → TableRead c [] (tableIn c)
+rules-held paper c f = record {
+  filled = sym (ap (λ (t : List ℤ). tableIn c ++ t) (drop-nil (blockStart (c .count))) ∙ append-nil (tableIn c));
+  smallest = λ k h. tableOf-smallest (c .count) (writtenRules (c .written)) k h;
+  meaning = λ σ. tableOf-meaning (c .count) (writtenRules (c .written)) σ (contents-accepted paper c f);
+}
 
 -- ---- a fine rule's bound
 
 -- a bound that passes its test
-bound-within : (c : ℤ) → leb (natAbs c) maxBound ≡ true → Within (pos maxBound) c
+bound-within : (limit : ℕ) (c : ℤ) → leb (natAbs c) limit ≡ true → Within (pos limit) c
 unfolding positivePart negativePart
-bound-within (pos v) e = within-of (omega (arith, leb-true v maxBound e)) (omega arith)
-bound-within (negsuc v) e = within-of (omega arith) (omega (arith, leb-true (suc v) maxBound e))
+bound-within limit (pos v) e = within-of (omega (arith, leb-true v limit e)) (omega arith)
+bound-within limit (negsuc v) e = within-of (omega arith) (omega (arith, leb-true (suc v) limit e))
 
 -- so the bound of a fine rule is in the limit
-rule-within : (n : ℕ) (w : Written) → Fine n maxBound (rule w) → Within (pos maxBound) (boundOf (writtenRule w))
+rule-within : (n limit : ℕ) (w : Written) → Fine n limit (rule w) → Within (pos limit) (boundOf (writtenRule w))
 unfolding lineWithin writtenRule
-rule-within n (one x c) f =
-    let p = both-true (quantityWithin n (x .quantity)) (leb (natAbs c) maxBound) (f .within) in
-    rw (ruleOf-bound (signedQuantity x) (pos 0) c) (bound-within c (p .1))
-rule-within n (two x y c) f =
-    let p = both-true (quantityWithin n (x .quantity) && quantityWithin n (y .quantity)) (leb (natAbs c) maxBound) (f .within) in
-    rw (ruleOf-bound (signedQuantity x) (signedQuantity y) c) (bound-within c (p .1))
+rule-within n limit (one x c) f =
+    let p = both-true (quantityWithin n (x .quantity)) (leb (natAbs c) limit) (f .within) in
+    rw (ruleOf-bound (signedQuantity x) (pos 0) c) (bound-within limit c (p .1))
+rule-within n limit (two x y c) f =
+    let p = both-true (quantityWithin n (x .quantity) && quantityWithin n (y .quantity)) (leb (natAbs c) limit) (f .within) in
+    rw (ruleOf-bound (signedQuantity x) (signedQuantity y) c) (bound-within limit c (p .1))
 
 -- ---- the table's bounds
 
 -- rule by rule
-all-within : (n m : ℕ) (t : List ℤ) (ws : List Written) → WordsWithin m (pos maxBound) t → AllFine n maxBound (ruleLines ws)
-    → WordsWithin m (pos maxBound) (putAll t (writtenRules ws))
+all-within : (n limit m : ℕ) (t : List ℤ) (ws : List Written) → WordsWithin m (pos limit) t → AllFine n limit (ruleLines ws)
+    → WordsWithin m (pos limit) (putAll t (writtenRules ws))
 unfolding putAll
-all-within n m t [] b f = b
-all-within n m t (w ∷ ws) b f = all-within n m (putRule t (writtenRule w)) ws (put-within m maxBound t (writtenRule w) b (rule-within n w (f .0))) (f .1)
+all-within n limit m t [] b f = b
+all-within n limit m t (w ∷ ws) b f =
+    all-within n limit m (putRule t (writtenRule w)) ws (put-within m limit t (writtenRule w) b (rule-within n limit w (f .0))) (f .1)
 
 -- from no rules on
-empty-within : (n : ℕ) → WordsWithin (blockStart n) (pos maxBound) (emptyTable n)
-empty-within n = record { each = λ k a l e. clash {b = hasRule noRule} (rw (getD-replicate (blockStart n) k noRule (pos 0) a) at e) refl }
+empty-within : (n limit : ℕ) → WordsWithin (blockStart n) (pos limit) (emptyTable n)
+empty-within n limit = record { each = λ k a l e. clash {b = hasRule noRule} (rw (getD-replicate (blockStart n) k noRule (pos 0) a) at e) refl }
 
--- so all bounds are in the sheet's limit
-pub read-within : (n : ℕ) (ws : List Written) → AllFine n maxBound (ruleLines ws) → inSheetLimit n (tableOf n (writtenRules ws)) ≡ true
-read-within n ws f =
-    wordsInLimit-within (blockStart n) (pos maxBound) (tableOf n (writtenRules ws)) .1
-    (all-within n (blockStart n) (emptyTable n) ws (empty-within n) f)
+-- so all bounds are in the limit
+pub read-within : (n limit : ℕ) (ws : List Written) → AllFine n limit (ruleLines ws) → WordsWithin (blockStart n) (pos limit) (tableOf n (writtenRules ws))
+read-within n limit ws f = all-within n limit (blockStart n) (emptyTable n) ws (empty-within n limit) f

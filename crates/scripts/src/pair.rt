@@ -4,13 +4,15 @@ use crate::room;
 use crate::room::Lengths;
 use reading::check;
 use reading::check::Checked;
+use rules::paper::Paper;
 use rules::refusal::Refusal;
 use tables::reply::Reply;
 ghost use mathlib.Core.Path.{_≡_};
 ghost use Prim.Native.Nat.{_≤_};
+ghost use Rattle.rules.specs.declared.paper.Paper.the-variants.{Sheet, Script};
 ghost use Rattle.rules.specs.Limits.{maxQuantities};
 ghost use Rattle.reading.specs.Reading.{checkText, checkedOf};
-ghost use Rattle.scripts.specs.Marking.{firstChecks, checkedPair};
+ghost use Rattle.scripts.specs.Inner.{firstChecks, checkedPair};
 
 pub enum PairChecked {
     // n and the hidden set of both, and of each the number of its rules and the cursor at which their lines begin
@@ -47,9 +49,9 @@ fn check_fit(n: usize, hidden: u32, script_n: usize, script_hidden: u32, lent: L
 
 // Checks two texts and what is lent for them; the first check that fails refuses them.
 pub(crate) fn check_pair(sheet: &[u8], script: &[u8], lent: Lengths) -> PairChecked
-    ensures { λ r. ⌜ r ≡ checkedPair (checkedOf (checkText (now (sheet .entry)))) (checkedOf (checkText (now (script .entry)))) lent ⌝ }
+    ensures { λ r. ⌜ r ≡ checkedPair (checkedOf (checkText Sheet (now (sheet .entry)))) (checkedOf (checkText Script (now (script .entry)))) lent ⌝ }
 {
-    match check::check(sheet) {
+    match check::check(sheet, Paper::Sheet) {
         Checked::Refused { refusal } => PairChecked::Refused {
             paper: Subject::Sheet,
             refusal,
@@ -59,7 +61,7 @@ pub(crate) fn check_pair(sheet: &[u8], script: &[u8], lent: Lengths) -> PairChec
             hidden,
             rules,
             body,
-        } => match check::check(script) {
+        } => match check::check(script, Paper::Script) {
             Checked::Refused { refusal } => PairChecked::Refused {
                 paper: Subject::Script,
                 refusal,

@@ -4,7 +4,8 @@ use marking::verdict::Verdict;
 use rules::refusal;
 use rules::refusal::Refusal;
 ghost use mathlib.Core.Path.{_≡_};
-ghost use Rattle.scripts.specs.Replies.{textNumber, textValue, paperNumber, textPaper, markedTexts};
+ghost use Rattle.scripts.specs.Replies.{textNumber, textValue, paperNumber, textPaper};
+ghost use Rattle.scripts.specs.Inner.{markedTexts};
 
 // Which paper a refusal is about.
 pub enum Subject {

@@ -4,6 +4,7 @@ use tables::reply::Reply;
 use tables::table;
 ghost use mathlib.Core.Path.{_≡_};
 ghost use Prim.Native.Nat.{_≤_};
+ghost use Rattle.tables.specs.declared.reply.Reply.the-variants.{Done};
 ghost use Rattle.rules.specs.Limits.{maxQuantities};
 ghost use Rattle.scripts.specs.Marking.{roomChecks};
 
@@ -18,7 +19,7 @@ pub struct Lengths {
 // The first refusal of what is lent for `n` quantities, or done: the sheet's table, then the script's, the workspace, the assignment.
 pub(crate) fn check_room(n: usize, lent: Lengths) -> Reply
     requires { ⌜ (1 ≤ n) × (n ≤ maxQuantities) ⌝ }
-    ensures { λ r. ⌜ r ≡ roomChecks n lent ⌝ }
+    ensures { λ r. ⌜ r ≡ roomChecks n lent Done ⌝ }
 {
     let m = table::size(n);
     if lent.sheet < m {

@@ -6,6 +6,7 @@ use crate::reply::TextMarking;
 use crate::room::Lengths;
 use marking::mark;
 use reading::fill;
+use rules::paper::Paper;
 use tables::table;
 ghost use Rattle.scripts.specs.Promises.{TextsMarked};
 
@@ -37,8 +38,16 @@ pub fn mark_texts(
             script_rules,
             script_body,
         } => {
-            fill::fill(sheet, n, rules, body, sheet_table);
-            fill::fill(script, n, script_rules, script_body, script_table);
+            fill::fill(sheet, Paper::Sheet, n, hidden, rules, body, sheet_table);
+            fill::fill(
+                script,
+                Paper::Script,
+                n,
+                hidden,
+                script_rules,
+                script_body,
+                script_table,
+            );
             let m = table::size(n);
             let marking = mark::mark(
                 n,

@@ -10,6 +10,8 @@ pub mod Replies
 pub mod Putting
 pub mod Without
 pub mod Clearing
+pub mod Needed
 pub mod Lists
 pub mod Promised
 pub mod SheetA
+mod Examples

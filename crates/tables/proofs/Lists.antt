@@ -21,11 +21,17 @@ use Rattle.rules.specs.declared.rule.Rule.{Rule}
 use Rattle.rules.specs.Limits.{noRule}
 use Rattle.rules.specs.Meaning.{Assignment, boundOf}
 use Rattle.rules.specs.Steps.{halvedOf}
+use Rattle.tables.specs.declared.reply.Reply.the-variants.{Done}
 use Rattle.tables.specs.Places.{findPlace}
-use Rattle.tables.specs.Tables.{hasRule, emptyTable, putAt, putHalved, putRule, putAll, AllAccepted, tableOf, isAt, smallestAt}
+use Rattle.tables.specs.Tables.{hasRule, emptyTable, ruleReply, putAt, putHalved, putRule, putAll, tableOf, isAt, smallestAt}
 use Rattle.tables.specs.Meaning.{Satisfies, MeetsAll}
 use Rattle.tables.proofs.Tests.{clash}
 use Rattle.tables.proofs.Putting.{accepted-put}
+
+-- every rule of a list is accepted for n quantities
+abbrev pub AllAccepted : ℕ → List Rule → Type 0
+AllAccepted n [] = Unit {0}
+AllAccepted n (r ∷ rs) = (ruleReply n (halvedOf r) ≡ Done) × AllAccepted n rs
 
 at-length : (t : List ℤ) (k : Place) (w : ℤ) → length (putAt t k w) ≡ length t
 unfolding putAt

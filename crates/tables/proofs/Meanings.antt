@@ -10,10 +10,10 @@ use lib.ListN.{length}
 use Rattle.words.specs.Change.{wordAt}
 use Rattle.rules.specs.declared.rule.Rule.{Rule}
 use Rattle.rules.specs.Meaning.{Assignment, Meets, boundOf, names}
-use Rattle.tables.specs.Places.{placeOf, HasPlace}
+use Rattle.tables.specs.Places.{HasPlace}
 use Rattle.tables.specs.Tables.{hasRule}
 use Rattle.tables.specs.Meaning.{HoldsRule, ruleIn, Satisfies, joined, Solutions, SheetAllows, ScriptAllows, SameVisible, NamesVisible}
-use Rattle.tables.proofs.Places.{ruleAt-bound, ruleAt-place, ruleAt-hasPlace, hasPlace-below, hasPlace-names}
+use Rattle.tables.proofs.Places.{placeOf, ruleAt-bound, ruleAt-place, ruleAt-hasPlace, hasPlace-below, hasPlace-names}
 use Rattle.tables.proofs.Values.{place-value, meets-at, meets-named}
 
 -- the same, term by term: an assignment satisfies a table where it meets every rule that has a place in it and whose bound is the

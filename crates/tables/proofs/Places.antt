@@ -1,22 +1,29 @@
 -- Places and terms go together one by one: each term of one or two different quantities of 1 to n has a place below 2n², and each such place is that of
 -- exactly one, which is `ruleAt`. Assumes nothing.
-use mathlib.Core.Path.{_≡_, refl, _∙_, ap}
+use mathlib.Core.Path.{_≡_, refl, sym, _∙_, ap}
 use mathlib.Core.Bool.{Bool, true, false, cond, _||_, or-true, or-comm}
-use mathlib.Core.Logic.{_⊎_, inl, inr}
+use mathlib.Core.Logic.{_↔_, _⊎_, inl, inr}
 use Prim.Native.Nat.{ℕ, suc, _+_, _*_, _/_, _<_, _≤_}
 use native.Mathlib.Omega.{arith}
 use lib.Dec.{ltb, eqb}
 use lib.IntN.{ℤ}
-use borrow.Author.Tests.{ltb-true, ltb-false, lt-ltb, le-ltb, eqb-true, eq-eqb, ne-eqb}
-use Rattle.places.specs.declared.Place.the-variants.{At}
-use Rattle.places.specs.Numbering.{blockStart, placeOfPair, placeOfTwo, findTwo, blockOf, offsetOf, isOne, higherAt, lowerAt}
+use borrow.Author.Tests.{ltb-true, ltb-false, lt-ltb, le-ltb, eqb-true, eqb-false, eq-eqb, ne-eqb}
+use Rattle.places.specs.declared.Place.{Place}
+use Rattle.places.specs.declared.Place.the-variants.{At, Nowhere}
+use Rattle.places.specs.Numbering.{blockStart, placeOfOne, placeOfPair, placeOfTwo, findTwo, blockOf, offsetOf, isOne, higherAt, lowerAt}
 use Rattle.places.proofs.Numbering.{block-ends, one-below, pair-below, one-isOne, one-higher, pair-isOne, pair-higher, pair-lower, higher-half, at-one, at-lower, at-pair, at-below}
 use Rattle.rules.specs.declared.rule.Rule.{Rule}
 use Rattle.rules.specs.declared.rule.Rule.the-variants.{One, Two, Nothing}
 use Rattle.rules.specs.Literal.{quantityOf}
 use Rattle.rules.specs.Meaning.{boundOf, names}
 use Rattle.rules.specs.Steps.{inOrder}
-use Rattle.tables.specs.Places.{ruleAt, placeOf, findPlace, HasPlace}
+use Rattle.tables.specs.Places.{ruleAt, findPlace, HasPlace}
+
+-- the place of a term of one quantity, or of two different ones
+unfoldable pub placeOf : Rule → ℕ
+placeOf (One x c) = placeOfOne x
+placeOf (Two x y c) = placeOfTwo x y
+placeOf (Nothing c) = 0
 
 -- ---- each place is that of a term
 
@@ -81,6 +88,61 @@ hasPlace-found n (Nothing c) u = absurd u
 pub ruleAt-found : (k : ℕ) (c : ℤ) → findPlace (ruleAt k c) ≡ At k
 ruleAt-found k c =
     hasPlace-found (suc (blockOf k)) (ruleAt k c) (ruleAt-hasPlace (suc (blockOf k)) k c (block-ends k)) ∙ ap At (ruleAt-place k c)
+
+-- ---- what it tells where a rule is found
+
+at-nowhere : {k : ℕ} → At k ≡ Nowhere → ⊥
+at-nowhere e = let z : _≡_ {A = ℕ} 0 1 = cc in omega arith
+
+-- as many quantities as a rule's literals need
+abbrev enough : Rule → ℕ
+enough (One x c) = suc x
+enough (Two x y c) = suc (x + y)
+enough (Nothing c) = 0
+
+-- a rule that is found somewhere has a place in some table
+found-hasPlace : (r : Rule) (k : ℕ) → findPlace r ≡ At k → HasPlace (enough r) r
+unfolding findPlace findTwo
+found-hasPlace (One x c) k e = omega arith
+found-hasPlace (Two x y c) k e = go (eqb (x / 2) (y / 2)) refl e
+  where
+    go : (b : Bool) → eqb (x / 2) (y / 2) ≡ b → cond b Nowhere (At (placeOfTwo x y)) ≡ At k → HasPlace (suc (x + y)) (Two x y c)
+    go true d f = absurd (at-nowhere (sym f))
+    go false d f = (omega arith, omega arith, λ q. eqb-false (x / 2) (y / 2) d (omega arith))
+found-hasPlace (Nothing c) k e = absurd (at-nowhere (sym e))
+
+-- and is found at that place
+found-place : (r : Rule) (k : ℕ) → findPlace r ≡ At k → placeOf r ≡ k
+found-place r k e = let f = hasPlace-found (enough r) r (found-hasPlace r k e) in cc
+
+-- the rule there is the rule itself, the lower quantity first
+pub found-inOrder : (r : Rule) (k : ℕ) → findPlace r ≡ At k → ruleAt k (boundOf r) ≡ inOrder r
+found-inOrder r k e = rw (← found-place r k e) (ruleAt-inOrder (enough r) r (found-hasPlace r k e))
+
+inOrder-hasPlace : (n : ℕ) (r : Rule) → HasPlace n (inOrder r) → HasPlace n r
+unfolding inOrder
+inOrder-hasPlace n (One x c) u = u
+inOrder-hasPlace n (Two x y c) u = go (ltb x y) u
+  where
+    go : (b : Bool) → HasPlace n (cond b (Two x y c) (Two y x c)) → HasPlace n (Two x y c)
+    go true u = u
+    go false u = (u .1, u .0, λ e. u .2 (sym e))
+inOrder-hasPlace n (Nothing c) u = u
+
+-- the tables that have the place are those that have room for the rule
+pub found-inside : (r : Rule) (k : ℕ) → findPlace r ≡ At k → (n : ℕ) → (k < blockStart n) ↔ HasPlace n r
+found-inside r k e n = (
+  λ h. inOrder-hasPlace n r (rw (found-inOrder r k e) at (ruleAt-hasPlace n k (boundOf r) h)),
+  λ u. rw (found-place r k e) at (hasPlace-below n r u),
+)
+
+-- and a rule is found nowhere where no table has
+pub found-nowhere : (r : Rule) → (findPlace r ≡ Nowhere) ↔ ((n : ℕ) → HasPlace n r → ⊥)
+found-nowhere r = (λ e n u. at-nowhere (sym (hasPlace-found n r u) ∙ e), λ none. go none (findPlace r) refl)
+  where
+    go : ((n : ℕ) → HasPlace n r → ⊥) → (p : Place) → findPlace r ≡ p → p ≡ Nowhere
+    go none (At k) e = absurd (none (enough r) (found-hasPlace r k e))
+    go none Nowhere e = refl
 
 -- ---- which places name a quantity
 

@@ -1,6 +1,6 @@
 -- A rule put in: the table is satisfied afterwards exactly by what satisfied it before and meets the rule. Assumes nothing.
 use mathlib.Core.Path.{_≡_, refl, sym, subst}
-use mathlib.Core.Bool.{Bool, true, false, cond, _&&_}
+use mathlib.Core.Bool.{Bool, true, false, cond, not, _&&_}
 use mathlib.Core.List.{List}
 use mathlib.Core.Logic.{_↔_}
 use Prim.Native.Nat.{ℕ, _*_, _≤_, _<_}
@@ -9,7 +9,7 @@ use lib.Dec.{eqb, ltb}
 use lib.IntN.{ℤ, pos}
 use lib.ListN.{length}
 use lib.Signed.{_≤ℤ_, ltZ}
-use borrow.Author.Tests.{eqb-true, eqb-false, ltb-true}
+use borrow.Author.Tests.{eqb-true, eqb-false, ltb-true, not-true}
 use Rattle.integers.specs.Bound.{half, smaller}
 use Rattle.integers.proofs.Parts.{linear, ltZ-true, ltZ-false, smaller-left, smaller-right, smaller-either}
 use Rattle.words.specs.Change.{wordAt, lowered}
@@ -17,19 +17,20 @@ use Rattle.words.proofs.Change.{lowered-length, lowered-same, lowered-other}
 use Rattle.places.specs.Numbering.{blockStart}
 use Rattle.rules.specs.declared.rule.Rule.{Rule}
 use Rattle.rules.specs.declared.rule.Rule.the-variants.{One, Two, Nothing}
-use Rattle.rules.specs.declared.refusal.Refusal.the-variants.{OutOfLimit, NoAssignment}
+use Rattle.rules.specs.declared.refusal.Refusal.the-variants.{OutOfLimit, Cancelling, NoAssignment}
 use Rattle.rules.specs.Limits.{noRule}
 use Rattle.rules.specs.Literal.{quantityOf, negated}
 use Rattle.rules.specs.Meaning.{Assignment, Meets, termValue, boundOf}
 use Rattle.rules.specs.Steps.{halvedOf}
 use Rattle.rules.proofs.Meanings.{halved-meaning}
-use Rattle.tables.specs.declared.reply.Reply.the-variants.{Done, Refused}
-use Rattle.tables.specs.Places.{ruleAt, placeOf, findPlace, HasPlace}
+use Rattle.tables.specs.declared.reply.Reply.the-variants.{Done}
+use Rattle.tables.specs.Replies.{check}
+use Rattle.tables.specs.Places.{ruleAt, findPlace, HasPlace}
 use Rattle.tables.specs.Tables.{hasRule, ruleReply, putAt, putHalved, putRule}
 use Rattle.tables.specs.Meaning.{HoldsRule, ruleIn, Satisfies}
-use Rattle.tables.proofs.Places.{hasPlace-below, found-two}
+use Rattle.tables.proofs.Places.{placeOf, hasPlace-below, found-two}
 use Rattle.tables.proofs.Values.{place-value, meets-at, at-meets}
-use Rattle.tables.proofs.Tests.{passed, not-refused, both-true}
+use Rattle.tables.proofs.Tests.{passed, both-true}
 
 -- a word that is at most a rule's bound holds a rule
 rule-below : (a b : ℤ) → a ≤ℤ b → hasRule b ≡ true → hasRule a ≡ true
@@ -134,13 +135,13 @@ two-accepted n x y c e =
     let a = passed _ _ _ e in
     let p = both-true (ltb x (2 * n) && ltb y (2 * n)) (hasRule c) (a .0) in
     let q = both-true (ltb x (2 * n)) (ltb y (2 * n)) (p .0) in
-    (ltb-true x (2 * n) (q .0), ltb-true y (2 * n) (q .1), p .1, eqb-false y (negated x) (not-refused _ _ _ (a .1) .0))
+    (ltb-true x (2 * n) (q .0), ltb-true y (2 * n) (q .1), p .1, eqb-false y (negated x) (not-true _ (passed _ Done (Cancelling 0) (a .1) .0)))
 
 pub nothing-accepted : (n : ℕ) (c : ℤ) (σ : Assignment) → ruleReply n (Nothing c) ≡ Done → Meets σ (Nothing c)
 unfolding ruleReply
 nothing-accepted n c σ e =
-    let a = passed (hasRule c) (cond (ltZ c (pos 0)) (Refused NoAssignment) Done) (OutOfLimit 0) e in
-    record { met = omega (linear, ltZ-false c (pos 0) (not-refused (ltZ c (pos 0)) Done NoAssignment (a .1) .0)) }
+    let a = passed (hasRule c) (check (not (ltZ c (pos 0))) NoAssignment Done) (OutOfLimit 0) e in
+    record { met = omega (linear, ltZ-false c (pos 0) (not-true _ (passed _ Done NoAssignment (a .1) .0))) }
 
 -- ---- an accepted rule, put in
 

@@ -40,6 +40,20 @@ tied-more false P g needs r d t = record {
   passes = (λ e. absurd (refused-done e), λ x. clash (d .1 (x .0)) refl);
 }
 
+-- ---- checks, and then others
+
+-- checks before a reply: their refusal stands whatever follows, and where they are done what follows is the reply
+pub record Before (checks : Reply → Reply) : Type 0 where
+  pub stands : (f : Refusal) → checks Done ≡ Refused f → (next : Reply) → checks next ≡ Refused f
+  pub goes-on : checks Done ≡ Done → (next : Reply) → checks next ≡ next
+
+pub before-none : Before (λ next. next)
+before-none = record { stands = λ f e. absurd (refused-done (sym e)); goes-on = λ e next. refl }
+
+pub before-more : (b : Bool) (g : Refusal) (checks : Reply → Reply) → Before checks → Before (λ next. check b g (checks next))
+before-more true g checks p = p
+before-more false g checks p = record { stands = λ f e next. e; goes-on = λ e. absurd (refused-done e) }
+
 -- ---- as it is returned
 
 pub returned-refused : (r : Reply) (f : Refusal) → (replyReturned r ≡ refusedAs f) ↔ (r ≡ Refused f)

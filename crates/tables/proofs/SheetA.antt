@@ -13,9 +13,9 @@ use Rattle.rules.specs.declared.rule.Rule.{Rule}
 use Rattle.rules.specs.Hidden.{hiddenIn}
 use Rattle.rules.specs.Meaning.{Assignment, literalValue}
 use Rattle.rules.specs.Steps.{ruleOf, halvedOf}
-use Rattle.tables.specs.Tables.{AllAccepted, tableOf, ruleReply}
+use Rattle.tables.specs.Tables.{tableOf, ruleReply}
 use Rattle.tables.specs.Meaning.{Satisfies, MeetsAll, Solutions, joined, Completes, SheetAllows, ScriptAllows, ScriptForbids}
-use Rattle.tables.proofs.Lists.{tableOf-meaning}
+use Rattle.tables.proofs.Lists.{AllAccepted, tableOf-meaning}
 
 -- +1+2:5, +1-2:2, +3-2:0
 unfoldable pub rules : List Rule

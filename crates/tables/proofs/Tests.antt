@@ -20,10 +20,6 @@ pub passed : (b : Bool) (r : Reply) (f : Refusal) → cond b r (Refused f) ≡ D
 passed true r f e = (refl, e)
 passed false r f e = absurd (refused-done e)
 
-pub not-refused : (b : Bool) (r : Reply) (f : Refusal) → cond b (Refused f) r ≡ Done → (b ≡ false) × (r ≡ Done)
-not-refused true r f e = absurd (refused-done e)
-not-refused false r f e = (refl, e)
-
 pub both-true : (a b : Bool) → _&&_ a b ≡ true → (a ≡ true) × (b ≡ true)
 both-true true b e = (refl, e)
 both-true false b e = clash e refl

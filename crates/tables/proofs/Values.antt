@@ -13,8 +13,8 @@ use Rattle.rules.specs.declared.rule.Rule.the-variants.{One, Two, Nothing}
 use Rattle.rules.specs.Literal.{quantityOf}
 use Rattle.rules.specs.Meaning.{Assignment, literalValue, termValue, boundOf, Meets, names}
 use Rattle.rules.proofs.Meanings.{inOrder-term}
-use Rattle.tables.specs.Places.{ruleAt, placeOf, HasPlace}
-use Rattle.tables.proofs.Places.{ruleAt-bound, ruleAt-inOrder}
+use Rattle.tables.specs.Places.{ruleAt, HasPlace}
+use Rattle.tables.proofs.Places.{placeOf, ruleAt-bound, ruleAt-inOrder}
 
 pub ruleAt-value : (σ : Assignment) (k : ℕ) (c d : ℤ) → termValue σ (ruleAt k c) ≡ termValue σ (ruleAt k d)
 unfolding ruleAt

@@ -10,8 +10,11 @@ use Rattle.integers.specs.Bound.{Within}
 use Rattle.words.specs.Change.{wordAt}
 use Rattle.places.specs.Numbering.{blockStart}
 use Rattle.rules.specs.declared.rule.Rule.{Rule}
+use Rattle.rules.specs.declared.rule.Rule.the-variants.{One, Two, Nothing}
 use Rattle.rules.specs.Limits.{maxQuantities}
-use Rattle.rules.specs.Meaning.{Assignment, Meets, names}
+use Rattle.rules.specs.Literal.{negated}
+use Rattle.rules.specs.Meaning.{Assignment, Meets, boundOf, names}
+use Rattle.rules.specs.Steps.{halvedOf}
 use Rattle.tables.specs.Places.{ruleAt}
 use Rattle.tables.specs.Tables.{hasRule}
 
@@ -20,6 +23,22 @@ pub record TableSized (n words : ℕ) : Type 0 where
   pub some : 1 ≤ n
   pub most : n ≤ maxQuantities
   pub room : blockStart n ≤ words
+
+-- every quantity that a rule names is one of 1 to n, and its bound, a doubled term halved first, is not the no-rule word
+pub record RuleSized (n : ℕ) (r : Rule) : Type 0 where
+  pub quantities : (q : ℕ) → names q r ≡ true → (1 ≤ q) × (q ≤ n)
+  pub bound : hasRule (boundOf (halvedOf r)) ≡ true
+
+-- a rule's term is +q-q or -q+q
+abbrev pub Cancels : Rule → Type 0
+Cancels (One x c) = ⊥
+Cancels (Two x y c) = y ≡ negated x
+Cancels (Nothing c) = ⊥
+
+-- some integers meet a rule
+pub record Meetable (r : Rule) : Type 0 where
+  pub assignment : Assignment
+  pub meets : Meets assignment r
 
 -- place k of a table over n quantities holds a rule: it is one of the table's 2n² places, and its word is not the no-rule word
 pub record HoldsRule (n : ℕ) (t : List ℤ) (k : ℕ) : Type 0 where

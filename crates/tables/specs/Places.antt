@@ -8,17 +8,11 @@ use Rattle.rules.specs.declared.rule.Rule.the-variants.{One, Two, Nothing}
 use Rattle.rules.specs.Literal.{quantityOf}
 use Rattle.places.specs.declared.Place.{Place}
 use Rattle.places.specs.declared.Place.the-variants.{At, Nowhere}
-use Rattle.places.specs.Numbering.{placeOfOne, placeOfTwo, findTwo, isOne, higherAt, lowerAt}
+use Rattle.places.specs.Numbering.{placeOfOne, findTwo, isOne, higherAt, lowerAt}
 
 -- the rule of place k with the bound c, the lower quantity first
 unfoldable pub ruleAt : ℕ → ℤ → Rule
 ruleAt k c = cond (isOne k) (One (higherAt k) c) (Two (lowerAt k) (higherAt k) c)
-
--- the place of a term of one quantity, or of two different ones
-unfoldable pub placeOf : Rule → ℕ
-placeOf (One x c) = placeOfOne x
-placeOf (Two x y c) = placeOfTwo x y
-placeOf (Nothing c) = 0
 
 -- a rule has a place in a table over n quantities: it is of one of them, or of two different ones
 abbrev pub HasPlace : ℕ → Rule → Type 0

@@ -1,7 +1,6 @@
 -- The table's steps: its size, its empty form, a rule put in, a quantity's places cleared, and the test of its words.
-use mathlib.Core.Bool.{Bool, true, false, cond, _&&_}
+use mathlib.Core.Bool.{Bool, true, false, cond, not, _&&_}
 use mathlib.Core.List.{List, [], _∷_}
-use mathlib.Core.Path.{_≡_}
 use Prim.Native.Nat.{ℕ, zero, suc, _*_}
 use lib.Dec.{leb, ltb, eqb}
 use lib.IntN.{ℤ, pos, negℤ}
@@ -20,7 +19,8 @@ use Rattle.rules.specs.Literal.{negated}
 use Rattle.rules.specs.Meaning.{boundOf, names}
 use Rattle.rules.specs.Steps.{halvedOf}
 use Rattle.tables.specs.declared.reply.Reply.{Reply}
-use Rattle.tables.specs.declared.reply.Reply.the-variants.{Done, Refused}
+use Rattle.tables.specs.declared.reply.Reply.the-variants.{Done}
+use Rattle.tables.specs.Replies.{check}
 use Rattle.tables.specs.Places.{ruleAt, findPlace}
 
 -- the words of a table over n quantities, 2n²; none where n is outside its range
@@ -31,7 +31,9 @@ tableSize n = cond (leb 1 n && leb n maxQuantities) (blockStart n) 0
 unfoldable pub serves : ℕ → ℕ → Bool
 serves n words = ltb 0 (tableSize n) && leb (tableSize n) words
 
--- does a word hold a rule? Any word but the no-rule word does, which is the largest of 64 bits
+-- does a word hold a rule? Any word but the no-rule word does, which is the largest of 64 bits. It stands among the bounds: inside `withSum`, `paired`, `keyOf`,
+-- `refuted` and `tightened` a sum of 2⁶³ - 1 or more would silently be no rule. Where sums fit (`Fits`) none is so large. Where bounds are arbitrary these steps are
+-- never what anything means: a meaning compares integers, and adds no bounds
 abbrev pub hasRule : ℤ → Bool
 hasRule w = ltZ w noRule
 
@@ -39,19 +41,35 @@ hasRule w = ltZ w noRule
 abbrev pub emptyTable : ℕ → List ℤ
 emptyTable n = replicate (blockStart n) noRule
 
--- the reply to a halved rule for a table over n quantities. 3: a quantity past n, or the no-rule word as a bound, as the trivial rule has it;
--- 4: +q-q; 5: a bare 0 ≤ c with c below 0
+-- the reply to emptying a table of so many words
+abbrev pub emptyReply : ℕ → ℕ → Reply
+emptyReply n words = check (serves n words) Size Done
+
+-- a halved rule's quantities are all of 1 to n, and its bound is not the no-rule word, as that of the trivial rule is
+abbrev pub ruleFits : ℕ → Rule → Bool
+ruleFits n (One x c) = ltb x (2 * n) && hasRule c
+ruleFits n (Two x y c) = ltb x (2 * n) && ltb y (2 * n) && hasRule c
+ruleFits n (Nothing c) = hasRule c
+
+-- its term is +q-q or -q+q
+abbrev pub cancels : Rule → Bool
+cancels (One x c) = false
+cancels (Two x y c) = eqb y (negated x)
+cancels (Nothing c) = false
+
+-- it is a bare 0 ≤ c with c below 0
+abbrev pub isBareBelow : Rule → Bool
+isBareBelow (One x c) = false
+isBareBelow (Two x y c) = false
+isBareBelow (Nothing c) = ltZ c (pos 0)
+
+-- the reply to a halved rule for a table over n quantities: 3, 4, 5
 unfoldable pub ruleReply : ℕ → Rule → Reply
-ruleReply n (One x c) = cond (ltb x (2 * n) && hasRule c) Done (Refused (OutOfLimit 0))
-ruleReply n (Two x y c) =
-    cond (ltb x (2 * n) && ltb y (2 * n) && hasRule c)
-    (cond (eqb y (negated x)) (Refused (Cancelling 0)) Done)
-    (Refused (OutOfLimit 0))
-ruleReply n (Nothing c) = cond (hasRule c) (cond (ltZ c (pos 0)) (Refused NoAssignment) Done) (Refused (OutOfLimit 0))
+ruleReply n r = check (ruleFits n r) (OutOfLimit 0) (check (not (cancels r)) (Cancelling 0) (check (not (isBareBelow r)) NoAssignment Done))
 
 -- the reply to putting a rule into a table of so many words, a doubled term halved first
 unfoldable pub putReply : ℕ → ℕ → Rule → Reply
-putReply n words r = cond (serves n words) (ruleReply n (halvedOf r)) (Refused Size)
+putReply n words r = check (serves n words) Size (ruleReply n (halvedOf r))
 
 -- a word goes to a place by minimum
 unfoldable pub putAt : List ℤ → Place → ℤ → List ℤ
@@ -70,11 +88,6 @@ putRule t r = putHalved t (halvedOf r)
 unfoldable pub putAll : List ℤ → List Rule → List ℤ
 putAll t [] = t
 putAll t (r ∷ rs) = putAll (putRule t r) rs
-
--- every rule of a list is accepted for n quantities
-abbrev pub AllAccepted : ℕ → List Rule → Type 0
-AllAccepted n [] = Unit {0}
-AllAccepted n (r ∷ rs) = (ruleReply n (halvedOf r) ≡ Done) × AllAccepted n rs
 
 -- the empty table with a list of rules put in
 abbrev pub tableOf : ℕ → List Rule → List ℤ
@@ -98,9 +111,9 @@ clearing q k w = cond (names q (ruleAt k w)) noRule w
 unfoldable pub cleared : ℕ → ℕ → List ℤ → List ℤ
 cleared n q t = change (blockStart n) (clearing q) t
 
--- the reply to clearing quantity q. 3: it is none of 1 to n
+-- the reply to clearing quantity q, which has to be one of 1 to n
 unfoldable pub clearReply : ℕ → ℕ → ℕ → Reply
-clearReply n words q = cond (serves n words) (cond (leb 1 q && leb q n) Done (Refused (OutOfLimit 0))) (Refused Size)
+clearReply n words q = check (serves n words) Size (check (leb 1 q && leb q n) (OutOfLimit 0) Done)
 
 -- a word is no rule, or a bound of at most B in magnitude
 unfoldable pub inLimit : ℤ → ℤ → Bool

@@ -1,9 +1,7 @@
 // The rule of a place, and the place of a rule.
 use places::Place;
 use rules::rule::Rule;
-ghost use mathlib.Core.Path.{_≡_};
-ghost use Rattle.tables.specs.Places.{findPlace};
-ghost use Rattle.tables.specs.Promises.{AtPlace};
+ghost use Rattle.tables.specs.Promises.{AtPlace, Placed};
 
 // The rule of `place` with the bound given, the lower quantity first. Every place of a table has at most 32 bits.
 pub fn rule_at(place: u32, bound: i64) -> Rule
@@ -27,7 +25,7 @@ pub fn rule_at(place: u32, bound: i64) -> Rule
 
 // Where a rule's term stands; a doubled term, one that cancels and a bare rule have no place.
 pub fn place_of(rule: Rule) -> Place
-    ensures { λ r. ⌜ r ≡ findPlace rule ⌝ }
+    ensures { λ r. ⌜ Placed rule r ⌝ }
 {
     match rule {
         Rule::One { literal, bound: _ } => Place::At(places::of_one(literal)),

@@ -9,17 +9,21 @@ use native.Mathlib.Omega.{arith}
 use lib.IntN.{ℤ, pos, _+ℤ_}
 use lib.ListN.{length}
 use lib.Signed.{ltZ, _≤ℤ_, _<ℤ_}
-use Rattle.integers.proofs.Parts.{linear, positivePart, negativePart, parts-add, ltZ-true, ltZ-false}
+use Rattle.integers.specs.Bound.{Within}
+use Rattle.integers.proofs.Parts.{linear, positivePart, negativePart, parts-add, ltZ-true, ltZ-false, lt-ltZ}
 use Rattle.words.specs.Change.{wordAt}
 use Rattle.words.proofs.Change.{change-below}
-use Rattle.places.specs.Numbering.{blockStart, isOne, higherAt, lowerAt}
-use Rattle.places.proofs.Numbering.{at-lower, at-below}
-use Rattle.rules.specs.declared.rule.Rule.{Rule}
+use Rattle.places.specs.Numbering.{blockStart, placeOfOne, isOne, higherAt, lowerAt}
+use Rattle.places.proofs.Numbering.{one-below, at-lower, at-below}
+use Rattle.rules.specs.Limits.{noRule}
 use Rattle.rules.specs.Meaning.{Assignment, literalValue, Meets}
 use Rattle.tables.specs.Places.{ruleAt}
 use Rattle.tables.specs.Tables.{hasRule}
 use Rattle.tables.specs.Meaning.{Satisfies, Satisfiable, Breaks}
+use Rattle.tables.proofs.Tests.{clash}
+use Rattle.tables.proofs.Values.{meets-at, at-meets}
 use Rattle.elimination.specs.Hiding.{withSum, pairWord, loneWord}
+use Rattle.elimination.specs.Magnitude.{addLimit}
 use Rattle.elimination.proofs.TermWords.{lone-at, pair-at}
 use Rattle.elimination.proofs.SumWords.{hasRule-mono, withSum-word, withSum-sum, withSum-elim}
 use Rattle.keys.specs.Keys.{every, refuted}
@@ -27,10 +31,12 @@ use Rattle.keys.specs.Inner.{pairUpTo, clashUpTo, Fits}
 use Rattle.keys.proofs.Several.{refuted-false}
 use Rattle.keys.proofs.Fitting.{hide-ample}
 use Rattle.keys.proofs.Pairing.{pair-room, clash-unsatisfiable}
+use Rattle.keys.proofs.Growing.{pair-ample}
 use Rattle.keys.proofs.Deciding.{decides-refuted}
 use Rattle.tightening.specs.Tightening.{strengthening, strengthened, tightened}
+use Rattle.tightening.specs.Promises.{LeastBound}
 use Rattle.tightening.proofs.Lower.{clear-refuted}
-use Rattle.tightening.proofs.Reaching.{Reaches, paired-terms, lone-reached, pair-reached}
+use Rattle.tightening.proofs.ReachedBounds.{Reaches, paired-terms, lone-reached, pair-reached}
 
 -- ---- contradictions
 
@@ -67,30 +73,42 @@ strengthened-pair n u k l h e = strengthened-word n u k l h ∙ rw (e, pair-at u
 
 -- ---- least bounds
 
--- a word is the least bound of a term where all that satisfies a table keeps it, and every integer below it is passed
-least : (n : ℕ) (t : List ℤ) (w c : ℤ) (r : Rule) (value : Assignment → ℤ) → hasRule c ≡ true
-    → ((σ : Assignment) → Meets σ r ↔ (value σ ≤ℤ c))
+-- a word is the least bound of a term where all that satisfies a table keeps it, and every integer is passed that is below it, or any where it is no rule
+least-bound : (n : ℕ) (t : List ℤ) (k : ℕ) (w : ℤ) (value : Assignment → ℤ)
+    → ((c : ℤ) (σ : Assignment) → Meets σ (ruleAt k c) ↔ (value σ ≤ℤ c))
     → ((σ : Assignment) → Satisfies n t σ → hasRule w ≡ true → value σ ≤ℤ w)
-    → (c <ℤ w → Reaches n t value (c +ℤ pos 1))
-    → (c <ℤ w) ↔ Breaks (Satisfies n t) r
+    → ((c : ℤ) → (hasRule w ≡ true → c <ℤ w) → Reaches n t value (c +ℤ pos 1))
+    → LeastBound n t k w
 unfolding positivePart negativePart
-least n t w c r value held meaning kept passed = (to, λ b. of b (ltZ c w) refl)
+least-bound n t k w value meaning kept passed = record {
+  met = λ e σ s. meaning w σ .1 (kept σ s e);
+  smaller = λ e c l. broken c (λ d. l);
+  none = λ e c. broken c (λ d. clash d e);
+}
   where
-    to : c <ℤ w → Breaks (Satisfies n t) r
-    to l =
-        let p = passed l in
+    broken : (c : ℤ) → (hasRule w ≡ true → c <ℤ w) → Breaks (Satisfies n t) (ruleAt k c)
+    broken c l =
+        let p = passed c l in
         record {
           assignment = p .assignment;
           satisfies = p .satisfies;
-          broken = λ m. let h = meaning (p .assignment) .0 m in let g = p .reaches in omega (linear, parts-add c (pos 1));
+          broken = λ m. let h = meaning c (p .assignment) .0 m in let g = p .reaches in omega (linear, parts-add c (pos 1));
         }
 
-    of : Breaks (Satisfies n t) r → (b : Bool) → ltZ c w ≡ b → c <ℤ w
-    of b true e = omega (linear, ltZ-true c w e)
-    of b false e =
-        let l : w ≤ℤ c = omega (linear, ltZ-false c w e) in
-        let h = kept (b .assignment) (b .satisfies) (hasRule-mono w c l held) in
-        absurd (b .broken (meaning (b .assignment) .1 (omega linear)))
+-- so of the bounds that a table can hold the smaller ones are broken, and no others
+pub bound-least : (n : ℕ) (t : List ℤ) (k : ℕ) (w c : ℤ) → LeastBound n t k w → hasRule c ≡ true → (c <ℤ w) ↔ Breaks (Satisfies n t) (ruleAt k c)
+bound-least n t k w c b held = (to (hasRule w) refl, of (hasRule w) refl (ltZ c w) refl)
+  where
+    to : (h : Bool) → hasRule w ≡ h → c <ℤ w → Breaks (Satisfies n t) (ruleAt k c)
+    to true e l = b .smaller e c l
+    to false e l = b .none e c
+
+    of : (h : Bool) → hasRule w ≡ h → (l : Bool) → ltZ c w ≡ l → Breaks (Satisfies n t) (ruleAt k c) → c <ℤ w
+    of h e true d x = omega (linear, ltZ-true c w d)
+    of true e false d x =
+        let m = meets-at (x .assignment) k w (b .met e (x .assignment) (x .satisfies)) in
+        absurd (x .broken (at-meets (x .assignment) k c (omega (linear, ltZ-false c w d))))
+    of false e false d x = omega (linear, ltZ-false w noRule e, ltZ-true c noRule held)
 
 -- the rule of a place of one literal bounds it, and that of two their sum
 one-meaning : (σ : Assignment) (k : ℕ) (c : ℤ) → isOne k ≡ true → Meets σ (ruleAt k c) ↔ (literalValue σ (higherAt k) ≤ℤ c)
@@ -102,12 +120,16 @@ two-meaning : (σ : Assignment) (k : ℕ) (c : ℤ) → isOne k ≡ false
 unfolding ruleAt
 two-meaning σ k c e = rw e (λ m. m .met, λ h. record { met = h })
 
--- where pairing meets no contradiction, each word of the tightest table is the least bound of its term: smaller bounds are broken, and where the word is
--- no rule, every bound is
-pub tightened-least : (n : ℕ) (t : List ℤ) → Fits n t → clashUpTo false n n t ≡ false → (k : ℕ) → k < blockStart n → (c : ℤ) → hasRule c ≡ true
-    → (c <ℤ wordAt (tightened n t) k) ↔ Breaks (Satisfies n t) (ruleAt k c)
+-- two bounds that add have a sum that is a bound
+sum-rule : (a b : ℤ) → Within addLimit a → Within addLimit b → hasRule (a +ℤ b) ≡ true
+unfolding positivePart negativePart
+sum-rule a b h g = lt-ltZ (a +ℤ b) noRule (omega (linear, parts-add a b))
+
+-- where pairing meets no contradiction, each word of the tightest table is the least bound of its term
+pub tightened-least : (n : ℕ) (t : List ℤ) → Fits n t → clashUpTo false n n t ≡ false → (k : ℕ) → k < blockStart n
+    → LeastBound n t k (wordAt (tightened n t) k)
 unfolding tightened positivePart negativePart
-tightened-least n t f clear k h c held = go (isOne k) refl
+tightened-least n t f clear k h = go (isOne k) refl
   where
     u : List ℤ
     u = pairUpTo false n n t
@@ -127,21 +149,36 @@ tightened-least n t f clear k h c held = go (isOne k) refl
     s : Satisfies n t σ
     s = clear-satisfiable n t f clear .satisfies
 
-    next : (w : ℤ) → c <ℤ w → (c +ℤ pos 1) ≤ℤ w
-    next w l = omega (linear, parts-add c (pos 1))
+    room : blockStart n ≤ length u
+    room = pair-room false n n t (f .grows .room)
 
-    one : (c <ℤ loneWord u y) → Reaches n t (λ τ. literalValue τ y) (c +ℤ pos 1)
-    one l = lone-reached n t f y (c +ℤ pos 1) σ inside s (λ r. next (loneWord u y) l)
+    next : (c w : ℤ) → c <ℤ w → (c +ℤ pos 1) ≤ℤ w
+    next c w l = omega (linear, parts-add c (pos 1))
 
-    two : isOne k ≡ false → (c <ℤ withSum (loneWord u x) (loneWord u y) (pairWord u x y)) → Reaches n t (λ τ. literalValue τ x +ℤ literalValue τ y) (c +ℤ pos 1)
-    two e l =
+    one : (c : ℤ) → (hasRule (loneWord u y) ≡ true → c <ℤ loneWord u y) → Reaches n t (λ τ. literalValue τ y) (c +ℤ pos 1)
+    one c l = lone-reached n t f y (c +ℤ pos 1) σ inside s (λ r. next c (loneWord u y) (l r))
+
+    -- the bounds alone add, so their sum is a bound
+    adds : (z : ℕ) → z < 2 * n → hasRule (loneWord u z) ≡ true → Within addLimit (loneWord u z)
+    adds z i =
+        let p = one-below n z i in
+        pair-ample false n n t f (omega arith) .words .each (placeOfOne z) p (omega (arith, room))
+
+    w : ℤ
+    w = withSum (loneWord u x) (loneWord u y) (pairWord u x y)
+
+    two : isOne k ≡ false → (c : ℤ) → (hasRule w ≡ true → c <ℤ w) → Reaches n t (λ τ. literalValue τ x +ℤ literalValue τ y) (c +ℤ pos 1)
+    two e c l =
         let o = at-lower k e in
-        pair-reached n t f x y (c +ℤ pos 1) (omega (arith, inside)) inside (λ q. omega arith) σ s
-        (λ r. let g = withSum-word (loneWord u x) (loneWord u y) (pairWord u x y) in next (pairWord u x y) (omega linear))
-        (λ p q. let g = withSum-sum (loneWord u x) (loneWord u y) (pairWord u x y) p q in next (loneWord u x +ℤ loneWord u y) (omega linear))
+        let under : x < 2 * n = omega (arith, inside) in
+        pair-reached n t f x y (c +ℤ pos 1) under inside (λ q. omega arith) σ s
+        (λ r. let g = withSum-word (loneWord u x) (loneWord u y) (pairWord u x y) in
+        let d = l (hasRule-mono w (pairWord u x y) g r) in next c (pairWord u x y) (omega linear))
+        (λ p q. let g = withSum-sum (loneWord u x) (loneWord u y) (pairWord u x y) p q in
+        let d = l (hasRule-mono w (loneWord u x +ℤ loneWord u y) g (sum-rule (loneWord u x) (loneWord u y) (adds x under p) (adds y inside q))) in
+        next c (loneWord u x +ℤ loneWord u y) (omega linear))
 
-    kept : isOne k ≡ false → (τ : Assignment) → Satisfies n t τ → hasRule (withSum (loneWord u x) (loneWord u y) (pairWord u x y)) ≡ true
-        → (literalValue τ x +ℤ literalValue τ y) ≤ℤ withSum (loneWord u x) (loneWord u y) (pairWord u x y)
+    kept : isOne k ≡ false → (τ : Assignment) → Satisfies n t τ → hasRule w ≡ true → (literalValue τ x +ℤ literalValue τ y) ≤ℤ w
     kept e τ z =
         let m = paired-terms n t f τ z in
         let o = at-lower k e in
@@ -150,15 +187,11 @@ tightened-least n t f clear k h c held = go (isOne k) refl
         (λ p q r. let a = m .one x (omega arith, omega (arith, inside)) p in let b = m .one y (omega arith, inside) q in
         omega (linear, parts-add (literalValue τ x) (literalValue τ y), parts-add (loneWord u x) (loneWord u y)))
 
-    room : blockStart n ≤ length u
-    room = pair-room false n n t (f .grows .room)
-
-    go : (b : Bool) → isOne k ≡ b → (c <ℤ wordAt (strengthened n u) k) ↔ Breaks (Satisfies n t) (ruleAt k c)
+    go : (b : Bool) → isOne k ≡ b → LeastBound n t k (wordAt (strengthened n u) k)
     go true e =
         rw (strengthened-lone n u k room h e)
-        (least n t (loneWord u y) c (ruleAt k c) (λ τ. literalValue τ y) held (λ τ. one-meaning τ k c e)
+        (least-bound n t k (loneWord u y) (λ τ. literalValue τ y) (λ c τ. one-meaning τ k c e)
         (λ τ z. paired-terms n t f τ z .one y (omega arith, inside)) one)
     go false e =
         rw (strengthened-pair n u k room h e)
-        (least n t (withSum (loneWord u x) (loneWord u y) (pairWord u x y)) c (ruleAt k c) (λ τ. literalValue τ x +ℤ literalValue τ y) held
-        (λ τ. two-meaning τ k c e) (kept e) (two e))
+        (least-bound n t k w (λ τ. literalValue τ x +ℤ literalValue τ y) (λ c τ. two-meaning τ k c e) (kept e) (two e))

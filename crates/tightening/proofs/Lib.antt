@@ -2,7 +2,7 @@
 -- `tighten`.
 pub mod Lower
 pub mod Completing
-pub mod Reaching
+pub mod ReachedBounds
 pub mod Least
 pub mod Strengthening
 pub mod Promised

@@ -3,10 +3,11 @@ use mathlib.Core.Path.{_≡_, refl, sym, _∙_}
 use mathlib.Core.Bool.{Bool, true, false}
 use mathlib.Core.List.{List}
 use mathlib.Core.Logic.{_↔_}
-use Prim.Native.Nat.{ℕ}
+use Prim.Native.Nat.{ℕ, _<_}
 use native.Mathlib.Omega.{arith}
 use lib.IntN.{ℤ}
 use lib.ListN.{length, drop}
+use Rattle.words.specs.Change.{wordAt}
 use Rattle.words.proofs.Change.{change-length, change-drop}
 use Rattle.places.specs.Numbering.{blockStart}
 use Rattle.tables.specs.Meaning.{Unsatisfiable}
@@ -16,8 +17,9 @@ use Rattle.keys.specs.Inner.{pairUpTo, Fits, AllPaired}
 use Rattle.keys.proofs.Deciding.{refuted-exactly}
 use Rattle.keys.proofs.Growing.{pair-ample}
 use Rattle.tightening.specs.Tightening.{strengthened, tightened}
-use Rattle.tightening.specs.Promises.{Adding, Tightened}
-use Rattle.tightening.proofs.Least.{clash-refuted, tightened-least}
+use Rattle.tightening.specs.Promises.{LeastBound, Tightened}
+use Rattle.tightening.proofs.Least.{clash-refuted, bound-least, tightened-least}
+use Rattle.tightening.specs.Inner.{Adding}
 
 -- the words of a table paired without a contradiction add
 pub clear-adding : (n : ℕ) (t u : List ℤ) → Fits n t → AllPaired false n t false u → Adding n u
@@ -44,6 +46,7 @@ tightened-none n t u f p = record {
   none = answer-tells n t true f same;
   table = λ e. clash refl e;
   lent = p .lent;
+  bounds = λ e. clash refl e;
   least = λ e. clash refl e;
 }
   where
@@ -62,7 +65,8 @@ tightened-some n t u v f p e = record {
     rest = rw e (strengthen-rest n u ∙ p .lent .rest);
     kept = λ h. clash refl h;
   };
-  least = λ d. rw made (tightened-least n t f (sym (p .reply)));
+  bounds = λ d. bounds;
+  least = λ d k h c. bound-least n t k (wordAt v k) c (bounds k h);
 }
   where
     same : false ≡ refuted n t
@@ -70,3 +74,6 @@ tightened-some n t u v f p e = record {
 
     made : v ≡ strengthened n (pairUpTo false n n t)
     made = e ∙ rw (p .table refl)
+
+    bounds : (k : ℕ) → k < blockStart n → LeastBound n t k (wordAt v k)
+    bounds = rw made (tightened-least n t f (sym (p .reply)))

@@ -17,11 +17,11 @@ use Rattle.rules.specs.Limits.{maxQuantities, noRule}
 use Rattle.tables.specs.Tables.{hasRule}
 use Rattle.tables.proofs.Sizes.{small-square}
 use Rattle.elimination.specs.Hiding.{withSum, withHalf, loneWord, onOne, onTwo, pairing}
-use Rattle.elimination.specs.Promises.{Addable, Row, BlocksPaired}
 use Rattle.elimination.proofs.SumWords.{withSum-right}
 use Rattle.elimination.proofs.PairedWords.{pairing-one, pairing-two}
-use Rattle.tightening.specs.Tightening.{strengthening, strengthened, gatheringLone}
-use Rattle.tightening.specs.Promises.{Adding}
+use Rattle.elimination.specs.Inner.{Addable, Row, BlocksPaired}
+use Rattle.tightening.specs.Tightening.{strengthening, strengthened}
+use Rattle.tightening.specs.Inner.{Adding, gatheringLone}
 
 -- ---- the bounds of the literals alone
 

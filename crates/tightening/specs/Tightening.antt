@@ -1,5 +1,6 @@
 -- The tightest table of a table that some integers satisfy: each word is the least bound of its term. Every quantity is paired with all others and nothing is
--- cleared, then each term of two literals gets the sum of the two bounds alone.
+-- cleared, then each term of two literals gets the sum of the two bounds alone. In the field's terms this is the tight closure of integer octagons: A. Miné,
+-- 'The octagon abstract domain', 2006; R. Bagnara, P. M. Hill, E. Zaffanella, 'An improved tight closure algorithm for integer octagonal constraints', 2008.
 use mathlib.Core.Bool.{false, cond}
 use mathlib.Core.List.{List}
 use Prim.Native.Nat.{ℕ}
@@ -19,7 +20,3 @@ strengthened n t = change (blockStart n) (strengthening t) t
 -- the tightest table
 unfoldable pub tightened : ℕ → List ℤ → List ℤ
 tightened n t = strengthened n (pairUpTo false n n t)
-
--- as a change: the bounds of each literal alone
-abbrev pub gatheringLone : List ℤ → ℕ → ℤ → ℤ
-gatheringLone t x w = loneWord t x

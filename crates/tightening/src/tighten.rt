@@ -4,7 +4,8 @@ use rules::sheet::Sheet;
 ghost use mathlib.Core.Path.{_≡_};
 ghost use Rattle.keys.specs.Inner.{Fits};
 ghost use Rattle.tightening.specs.Tightening.{strengthened};
-ghost use Rattle.tightening.specs.Promises.{Adding, LoneGatherable, LoneGathered, Tightened};
+ghost use Rattle.tightening.specs.Promises.{Tightened};
+ghost use Rattle.tightening.specs.Inner.{Adding, LoneGatherable, LoneGathered};
 
 // The words of a row: one for each literal.
 const ROW: usize = 2 * Sheet::MAX_QUANTITIES;

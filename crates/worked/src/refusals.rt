@@ -3,6 +3,7 @@
 use crate::replies;
 use crate::sheet;
 use marking::mark;
+use rules::hidden::Set;
 use rules::sheet::Sheet;
 
 // The words of a table over 3 quantities.
@@ -26,7 +27,7 @@ pub(crate) fn run() {
 // Marks and prints the reply.
 fn mark(
     n: usize,
-    hidden: u32,
+    hidden: Set,
     paper: &[i64],
     script: &[i64],
     workspace: &mut [i64],
@@ -38,7 +39,7 @@ fn mark(
 }
 
 // Marks with enough lent for 3 quantities, after a heading.
-fn mark_after(heading: &[u8], n: usize, hidden: u32, paper: &[i64], script: &[i64]) {
+fn mark_after(heading: &[u8], n: usize, hidden: Set, paper: &[i64], script: &[i64]) {
     sheet::head(heading);
     let mut workspace = [0; WORKSPACE];
     let mut values = [7; 3];

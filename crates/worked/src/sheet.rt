@@ -1,5 +1,6 @@
 // The steps of an example: a heading, an empty table, rules put in, the key.
 use crate::printing;
+use rules::hidden::Set;
 use rules::rule::Rule;
 use rules::sheet::Sheet;
 ghost use mathlib.Core.Path.{_≡_};
@@ -48,7 +49,7 @@ pub(crate) fn print_reply(number: u32) {
 }
 
 // Replaces the table by its key and prints the reply, and the key's rules where there is one. The set has bit q - 1 for quantity q.
-pub(crate) fn key(n: usize, hidden: u32, table: &mut [i64]) {
+pub(crate) fn key(n: usize, hidden: Set, table: &mut [i64]) {
     let mut workspace = [0; PLACES];
     let reply = keys::key::key(n, hidden, table, &mut workspace);
     let number = reply.number();

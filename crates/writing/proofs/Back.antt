@@ -2,11 +2,11 @@
 -- words. Assumes nothing.
 use mathlib.Core.Path.{_≡_, refl}
 use mathlib.Core.Bool.{Bool, true, false, cond}
-use mathlib.Core.List.{List, [], _∷_, _++_}
+use mathlib.Core.List.{List, [], _∷_}
 use Prim.Native.Nat.{ℕ, suc, _+_, _*_, _^_, _≤_, _<_}
 use native.Mathlib.Omega.{arith}
 use lib.IntN.{ℤ, pos, negsuc, natAbs}
-use lib.ListN.{length, take, drop, length-take}
+use lib.ListN.{length, take, length-take}
 use lib.Signed.{mag}
 use borrow.Author.Tests.{le-leb, le-ltb, ne-eqb}
 use Rattle.integers.specs.Bound.{Within}
@@ -17,25 +17,26 @@ use Rattle.places.specs.Numbering.{blockStart}
 use Rattle.rules.specs.declared.rule.Rule.{Rule}
 use Rattle.rules.specs.declared.rule.Rule.the-variants.{One, Two, Nothing}
 use Rattle.rules.specs.Hidden.{setWithin}
-use Rattle.rules.specs.Limits.{maxQuantities, maxBound, maxRules}
+use Rattle.rules.specs.declared.paper.Paper.the-variants.{Sheet}
+use Rattle.rules.specs.Limits.{boundLimit, maxQuantities, maxRules}
 use Rattle.rules.specs.Literal.{quantityOf}
 use Rattle.rules.specs.Meaning.{boundOf}
 use Rattle.tables.specs.Places.{ruleAt, HasPlace}
 use Rattle.tables.specs.Tables.{hasRule}
 use Rattle.tables.specs.Meaning.{WordsWithin}
 use Rattle.tables.proofs.Places.{ruleAt-bound, ruleAt-hasPlace}
-use Rattle.tables.proofs.Sizes.{small-start}
 use Rattle.lines.specs.Spelling.{Written, rule, quantityWithin, lineWithin, cancelling}
 use Rattle.lines.specs.Lines.{accepted}
 use Rattle.reading.specs.declared.read.Reading.the-variants.{Accepted}
 use Rattle.reading.specs.Texts.{ruleLines}
-use Rattle.reading.specs.Meaning.{ruled, linesOf, Fine, AllFine, Spells, Means}
-use Rattle.reading.proofs.Means.{text-means}
+use Rattle.reading.specs.Meaning.{ruled, linesOf, Fine, AllFine, Spells, Reads}
+use Rattle.reading.proofs.Means.{reads-check}
 use Rattle.reading.specs.Reading.{checkText, replyTo, readReply, filled, readTable}
 use Rattle.writing.specs.Writing.{writtenOf, rulesAt, tableRules, hiddenList, contentsOf, writtenText}
+use Rattle.writing.specs.Promises.{ReadBack}
 use Rattle.writing.proofs.Meanings.{front-word, Clean, table-back, AreWords}
 use Rattle.writing.proofs.Members.{hidden-increasing, hidden-within, hidden-back}
-use Rattle.writing.proofs.Lengths.{rules-count, longest-sheet}
+use Rattle.writing.proofs.Lengths.{rules-most, sheet-limit, longest-sheet}
 
 -- ---- rules
 
@@ -100,7 +101,7 @@ module _ (n set : ℕ) (t : List ℤ) (some : 1 ≤ n) (most : n ≤ maxQuantiti
   )
     where
       few : length (tableRules n t) ≤ maxRules
-      few = omega (arith, rules-count 0 (take (blockStart n) t), length-take (blockStart n) t, small-start n most)
+      few = rules-most n t most
 
   -- every line is fine, in a limit that the words that hold a rule are in
   written-spells : (limit : ℕ) → BoundsWithin (blockStart n) limit t → Spells limit (writtenText n set t) (contentsOf n set t)
@@ -124,24 +125,21 @@ module _ (n set : ℕ) (t : List ℤ) (some : 1 ≤ n) (most : n ≤ maxQuantiti
   pub spells-within : (limit : ℕ) → WordsWithin (blockStart n) (pos limit) t → Spells limit (writtenText n set t) (contentsOf n set t)
   spells-within limit words = written-spells limit (λ k b c e. bound-magnitude limit (wordAt t k) (words .each k b c e))
 
-  -- of words in the sheet's
-  pub spells-sheet : WordsWithin (blockStart n) (pos maxBound) t → Spells maxBound (writtenText n set t) (contentsOf n set t)
-  spells-sheet words = spells-within maxBound words
-
-  -- such a text means its contents
-  pub written-means : WordsWithin (blockStart n) (pos maxBound) t → Means (writtenText n set t) (accepted (contentsOf n set t) [])
-  written-means words = (omega (arith, longest-sheet n set t most words), spells-sheet words, refl)
+  -- of words in the sheet's limit, with a hidden set in its range; such a text is fine, and these are its contents
+  pub written-reads : setWithin n set ≡ true → WordsWithin (blockStart n) (pos (boundLimit Sheet n set)) t → Reads Sheet (writtenText n set t) (contentsOf n set t)
+  written-reads within words = record {
+    small = longest-sheet n set t most (rw (sheet-limit n set) at words);
+    spelled = rw (hidden-back n set within) (spells-within (boundLimit Sheet n set) words);
+  }
 
   -- read into any table that is long enough, it gives n, the hidden set and the table's words back
-  pub written-back : WordsWithin (blockStart n) (pos maxBound) t → setWithin n set ≡ true → blockStart n ≤ length t → Clean (blockStart n) t
-      → (u : List ℤ) → blockStart n ≤ length u
-      → (readReply (writtenText n set t) (length u) ≡ Accepted n set)
-      × (readTable (writtenText n set t) u ≡ take (blockStart n) t ++ drop (blockStart n) u)
+  pub written-back : setWithin n set ≡ true → WordsWithin (blockStart n) (pos (boundLimit Sheet n set)) t → blockStart n ≤ length t
+      → Clean (blockStart n) t → (u : List ℤ) → blockStart n ≤ length u → ReadBack n set t (writtenText n set t) u
   unfolding readReply replyTo readTable filled
-  written-back words within room clean u enough = (reply, rw (reply, checked, table-back n t room clean))
+  written-back within words room clean u enough = record { reply = reply; words = rw (reply, checked, table-back n t room clean) }
     where
-      checked : checkText (writtenText n set t) ≡ accepted (contentsOf n set t) []
-      checked = text-means (writtenText n set t) (accepted (contentsOf n set t) []) .1 (written-means words)
+      checked : checkText Sheet (writtenText n set t) ≡ accepted (contentsOf n set t) []
+      checked = reads-check Sheet (writtenText n set t) (contentsOf n set t) (written-reads within words)
 
       reply : readReply (writtenText n set t) (length u) ≡ Accepted n set
       reply = rw (checked, le-ltb (length u) (blockStart n) enough, hidden-back n set within)

@@ -1,27 +1,38 @@
 -- Document 01's key with a bound too large for the reader, +1-3:2000000000 over 3 quantities with 2 hidden: it is written, and its text is refused with
 -- 3 at line 4. Assumes nothing.
-use mathlib.Core.Path.{_≡_, refl, _∙_}
-use mathlib.Core.Bool.{false, true}
+use mathlib.Core.Path.{_≡_, refl, _∙_, ap}
+use mathlib.Core.Bool.{Bool, false, true, _||_}
+use mathlib.Core.Logic.{inr}
 use mathlib.Core.List.{List, [], _∷_, _++_}
-use Prim.Native.Nat.{ℕ}
+use Prim.Native.Nat.{ℕ, zero, suc, _+_, _<_}
 use native.Mathlib.Omega.{arith}
 use lib.IntN.{ℤ, pos}
-use lib.ListN.{length, replicate}
+use lib.ListN.{length, take, replicate, getD-replicate}
+use lib.Dec.{eqb}
+use borrow.Author.Tests.{eqb-true}
 use Rattle.integers.proofs.Within.{within-to}
 use Rattle.integers.proofs.Parts.{positivePart, negativePart}
+use Rattle.words.specs.Change.{wordAt}
 use Rattle.places.specs.Numbering.{blockStart}
-use Rattle.rules.specs.Limits.{maxBound, noRule}
-use Rattle.tables.specs.Tables.{inLimit, wordsInLimit}
+use Rattle.rules.specs.declared.refusal.Refusal.the-variants.{OutOfLimit}
+use Rattle.rules.specs.Refusal.{refusedAs}
+use Rattle.rules.specs.Hidden.{hiddenIn, hiddenCount}
+use Rattle.rules.specs.Limits.{boundLimit, maxBound, noRule}
+use Rattle.rules.specs.Meaning.{names}
+use Rattle.tables.specs.Tables.{hasRule, inLimit, wordsInLimit}
+use Rattle.tables.specs.Meaning.{HoldsRule, ruleIn}
+use Rattle.tables.proofs.Tests.{clash}
 use Rattle.tables.proofs.Limits.{wordsInLimit-within}
 use Rattle.numerals.specs.Bytes.{bytes}
 use Rattle.numerals.specs.Decimal.{decimalUpTo, signedDecimal}
 use Rattle.numerals.proofs.Decimals.{up-to-enough}
 use Rattle.lines.specs.Spelling.{two, termText, ruleText, joinedText, listText, valueText, lineText}
 use Rattle.reading.specs.Texts.{Contents, linesText, headerText, sheetText}
-use Rattle.reading.specs.Reading.{readReply, Returns}
+use Rattle.reading.specs.Reading.{readReply, readTable, readingReturned}
 use Rattle.reading.proofs.Frauds.{reading}
 use Rattle.writing.specs.Writing.{writtenText}
-use Rattle.writing.specs.Promises.{FirstPast, lineAt}
+use Rattle.writing.specs.declared.write.Writing.the-variants.{Text}
+use Rattle.writing.specs.Promises.{KeyLike, FirstPast, lineAt, TextWritten}
 use Rattle.writing.proofs.Frauds.{writing}
 
 -- the key's table: +1-3 has place 11
@@ -59,13 +70,13 @@ pub large-written : writtenText 3 2 largeKey ≡ largeText
 large-written = large-found ∙ large-spelled
 
 -- the reader refuses it with 3 at line 4, whatever the table's length
-pub large-refused : (words : ℕ) → Returns (readReply largeText words) 3 (4 ∷ [])
+pub large-refused : (words : ℕ) → readingReturned (readReply largeText words) ≡ refusedAs (OutOfLimit 4)
 unfolding reading
-large-refused words = (refl, refl)
+large-refused words = refl
 
 -- which is the line of the first place that is outside the sheet's limit
-pub large-first : FirstPast 3 largeKey 11
-unfolding blockStart inLimit wordsInLimit positivePart negativePart
+pub large-first : FirstPast 3 2 largeKey 11
+unfolding blockStart boundLimit inLimit wordsInLimit positivePart negativePart
 large-first = record {
   past = record {
     holds = record { inside = omega arith; there = omega arith; rule = refl };
@@ -77,3 +88,42 @@ large-first = record {
 pub large-line : lineAt largeKey 11 ≡ 4
 unfolding writing
 large-line = refl
+
+-- ---- by what is promised
+
+-- among empty places one alone holds a rule
+lone-rule : (a b : ℕ) (w : ℤ) (k : ℕ) → k < a + suc b → hasRule (wordAt (replicate a noRule ++ (w ∷ replicate b noRule)) k) ≡ true → k ≡ a
+lone-rule zero b w zero h e = refl
+lone-rule zero b w (suc k) h e = clash {b = hasRule noRule} (rw (getD-replicate b k noRule (pos 0) (omega arith)) at e) refl
+lone-rule (suc a) b w zero h e = clash e refl
+lone-rule (suc a) b w (suc k) h e = ap suc (lone-rule a b w k (omega arith) e)
+
+-- it is that of place 11
+large-place : (k : ℕ) → HoldsRule 3 largeKey k → k ≡ 11
+unfolding blockStart
+large-place k h = lone-rule 11 6 (pos 2000000000) k (h .inside) (h .rule)
+
+-- whose rule names 1 and 3, which are visible
+large-named : (q : ℕ) → names q (ruleIn largeKey 11) ≡ true → hiddenIn 2 q ≡ false
+unfolding writing names
+large-named q e = go (eqb 1 q) refl e
+  where
+    go : (b : Bool) → eqb 1 q ≡ b → (b || eqb 3 q) ≡ true → hiddenIn 2 q ≡ false
+    go true d e = rw (← eqb-true 1 q d)
+    go false d e = rw (← eqb-true 3 q e)
+
+-- so the table is like a key: one hidden quantity doubles bounds
+pub large-like : KeyLike 3 2 largeKey
+unfolding blockStart boundLimit hiddenCount inLimit wordsInLimit
+large-like = record {
+  visible = record { each = λ k h q e. large-named q (rw (large-place k h) at e) };
+  growth = wordsInLimit-within 18 (pos 2000000000) largeKey .0 refl;
+}
+
+-- so whatever bytes are written for it are refused with 3 at line 4, and leave the table that they are read into
+pub large-past : (out : List ℕ) (m : ℕ) (out' : List ℕ) → TextWritten 3 2 largeKey out (Text m) out' → (t : List ℤ)
+    → (readingReturned (readReply (take m out') (length t)) ≡ refusedAs (OutOfLimit 4)) × (readTable (take m out') t ≡ t)
+large-past out m out' w t =
+    let p = w .made refl .past (inr large-like) 11 (large-first .past) t in
+    let line : lineAt largeKey (p .place) ≡ 4 = rw (large-place (p .place) (p .first .past .holds)) large-line in
+    (rw line at (p .reply), p .kept)

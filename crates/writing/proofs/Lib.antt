@@ -6,6 +6,8 @@ pub mod Lengths
 pub mod Back
 pub mod ListTexts
 pub mod Texts
+pub mod Counts
+pub mod KeyLengths
 pub mod Past
 pub mod Numbers
 pub mod Promised

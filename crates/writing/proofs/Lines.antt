@@ -20,7 +20,8 @@ use Rattle.rules.specs.Literal.{quantityOf}
 use Rattle.rules.specs.Meaning.{boundOf}
 use Rattle.tables.specs.Places.{ruleAt, HasPlace}
 use Rattle.lines.specs.Spelling.{ruleKey, rule, termText, ruleText, valueText, lineText}
-use Rattle.writing.specs.Writing.{literalTerm, writtenOf, boundText, ruleValueText, ruleLineText}
+use Rattle.writing.specs.Writing.{literalTerm, writtenOf, ruleLineText}
+use Rattle.writing.specs.Inner.{boundText, ruleValueText}
 
 -- ---- a literal
 
@@ -89,8 +90,11 @@ place-line k w = go (isOne k)
 pub line-length : (r : Rule) → length (ruleLineText r) ≡ 6 + length (ruleValueText r)
 line-length r = rw (rule-line r) (simp length-append (omega arith))
 
--- a word has at most 20 bytes as a numeral
-pub word-short : (c : ℤ) → SFits w64 c → length (signedDecimal c) ≤ 20
+-- a word has at most this many as a numeral, 19 digits and the sign
+abbrev pub wordWidth : ℕ
+wordWidth = 20
+
+pub word-short : (c : ℤ) → SFits w64 c → length (signedDecimal c) ≤ wordWidth
 word-short (pos v) f = signed-width 18 (pos v) (omega (arith, f .sfits))
 word-short (negsuc v) f = signed-width 18 (negsuc v) (omega (arith, f .sfits))
 
@@ -102,8 +106,12 @@ literal-small x h = omega (arith, term-length x, decimal-width 9 (quantityOf x) 
 literal-short : (x : ℕ) → x < 2 * maxQuantities → length (termText (literalTerm x)) ≤ 3
 literal-short x h = omega (arith, term-length x, decimal-width 1 (quantityOf x) (omega arith))
 
--- the line of a table's rule has at most 13 beside its bound's numeral
-pub line-short : (n k : ℕ) (r : Rule) → n ≤ maxQuantities → HasPlace n r → length (signedDecimal (boundOf r)) ≤ k → length (ruleLineText r) ≤ 13 + k
+-- so the line of a table's rule has at most this many beside its bound's numeral: the key, two literals, the colon and the line's end
+abbrev pub lineBeside : ℕ
+lineBeside = 13
+
+pub line-short : (n k : ℕ) (r : Rule) → n ≤ maxQuantities → HasPlace n r → length (signedDecimal (boundOf r)) ≤ k
+    → length (ruleLineText r) ≤ lineBeside + k
 line-short n k (One x c) h p l = omega (arith, line-length (One x c), value-one-length {x = x} {c = c} refl, literal-short x (omega arith))
 line-short n k (Two x y c) h p l =
     let a = literal-short x (omega (arith, p .0)) in

@@ -2,7 +2,7 @@
 use mathlib.Core.Path.{_≡_, refl, sym, _∙_, ap}
 use mathlib.Core.Bool.{Bool, true, false, cond}
 use mathlib.Core.List.{List, [], _∷_, _++_, append-assoc, append-nil}
-use Prim.Native.Nat.{ℕ, zero, suc, _+_, _*_, _≤_, _<_}
+use Prim.Native.Nat.{ℕ, zero, suc, _+_, _≤_, _<_}
 use native.Mathlib.Nat.{add-zero}
 use native.Mathlib.Omega.{arith}
 use lib.Dec.{eqb}
@@ -14,7 +14,8 @@ use Rattle.numerals.proofs.Decimals.{decimal-some, decimal-width}
 use Rattle.rules.specs.Limits.{maxQuantities}
 use Rattle.rules.specs.Hidden.{hiddenIn}
 use Rattle.lines.specs.Spelling.{joinedText, listText}
-use Rattle.writing.specs.Writing.{hiddenFrom, hiddenList, memberText}
+use Rattle.writing.specs.Writing.{hiddenFrom, hiddenList}
+use Rattle.writing.specs.Inner.{memberText}
 
 -- ---- the list
 
@@ -112,8 +113,3 @@ member-short set j h = go (hiddenIn set (j + 1)) (eqb (length (listText (hiddenL
     go true true = omega (arith, decimal-width 1 (j + 1) (omega arith))
     go true false = omega (arith, decimal-width 1 (j + 1) (omega arith))
     go false b = omega arith
-
--- and the list's text has at most 3 for each
-pub list-short : (set n : ℕ) → n ≤ maxQuantities → length (listText (hiddenList n set)) ≤ 3 * n
-list-short set zero h = omega (arith, ap length (list-none set))
-list-short set (suc n) h = omega (arith, list-more-length set n, member-short set n (omega arith), list-short set n (omega arith))

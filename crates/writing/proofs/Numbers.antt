@@ -1,27 +1,26 @@
--- Document 01's number and values of a reply tell which reply it is. Assumes nothing.
-use mathlib.Core.Path.{_≡_, refl, sym, ap}
-use mathlib.Core.Bool.{false}
-use mathlib.Core.List.{List}
+-- A reply of writing is returned as that of its checks, where these refuse. Assumes nothing.
+use mathlib.Core.Path.{_≡_, refl, ap}
+use mathlib.Core.Logic.{_↔_}
 use Prim.Native.Nat.{ℕ}
-use lib.ListN.{getD}
 use Rattle.rules.specs.declared.refusal.Refusal.{Refusal}
-use Rattle.rules.specs.Refusal.{refusalNumber, refusalValues}
-use Rattle.rules.proofs.Refusals.{same-refusal, refusal-number}
-use Rattle.writing.specs.declared.write.Writing.{Writing}
-use Rattle.writing.specs.declared.write.Writing.the-variants.{Text, Refused}
-use Rattle.writing.specs.Writing.{isText, writingNumber, writingValues, Wrote}
+use Rattle.rules.specs.Refusal.{Returned, refusedAs}
+use Rattle.rules.proofs.Refusals.{refusal-number}
+use Rattle.tables.specs.declared.reply.Reply.{Reply}
+use Rattle.tables.specs.declared.reply.Reply.the-variants.{Done}
+use Rattle.tables.specs.declared.reply.Reply.the-variants.{Refused as NotDone}
+use Rattle.tables.specs.Replies.{replyReturned, replyNumber}
+use Rattle.writing.specs.Writing.{textOr, writingReturned, writingNumber}
 
--- 0 and a length are returned for a text of this length
-pub wrote-text : (r : Writing) (m : ℕ) → Wrote r m → r ≡ Text m
-wrote-text (Text k) m w = ap (λ (vs : List ℕ). Text (getD vs 0 0)) (w .1)
-wrote-text (Refused f) m w = absurd (refusal-number f (w .0))
+-- by the same number
+pub text-number : (c : Reply) (m : ℕ) → writingNumber (textOr c m) ≡ replyNumber c
+text-number Done m = refl
+text-number (NotDone f) m = refl
 
--- a reply with another number than 0 is no text
-pub refused-number : (r : Writing) → (writingNumber r ≡ 0 → ⊥) → isText r ≡ false
-refused-number (Text m) f = absurd (f refl)
-refused-number (Refused r) f = refl
+-- success is not returned as a refusal
+success-apart : {r : Returned} (f : Refusal) → r .number ≡ 0 → r ≡ refusedAs f → ⊥
+success-apart f z e = refusal-number f (rw (ap (λ (x : Returned). x .number) e) at z)
 
--- a refusal by its number and values
-pub returned-refused : (r : Writing) (f : Refusal) → (writingNumber r ≡ refusalNumber f) × (writingValues r ≡ refusalValues f) → r ≡ Refused f
-returned-refused (Text m) f e = absurd (refusal-number f (sym (e .0)))
-returned-refused (Refused g) f e = ap Refused (same-refusal g f (e .0) (e .1))
+-- and the same refusals
+pub text-returned : (c : Reply) (m : ℕ) (f : Refusal) → (writingReturned (textOr c m) ≡ refusedAs f) ↔ (replyReturned c ≡ refusedAs f)
+text-returned Done m f = (λ e. absurd (success-apart f refl e), λ e. absurd (success-apart f refl e))
+text-returned (NotDone g) m f = (λ e. e, λ e. e)

@@ -19,7 +19,9 @@ use Rattle.places.specs.Numbering.{blockStart}
 use Rattle.rules.specs.declared.rule.Rule.{Rule}
 use Rattle.rules.specs.declared.rule.Rule.the-variants.{One, Two, Nothing}
 use Rattle.rules.specs.declared.refusal.Refusal.the-variants.{OutOfLimit}
-use Rattle.rules.specs.Limits.{maxQuantities, maxBound, maxText}
+use Rattle.rules.specs.declared.paper.Paper.the-variants.{Sheet}
+use Rattle.rules.specs.Hidden.{setWithin}
+use Rattle.rules.specs.Limits.{boundLimit, maxQuantities, maxText}
 use Rattle.rules.specs.Meaning.{boundOf}
 use Rattle.tables.specs.Places.{ruleAt, HasPlace}
 use Rattle.tables.specs.Tables.{hasRule, inLimit}
@@ -31,17 +33,17 @@ use Rattle.lines.specs.Spelling.{Written, rule, lineWithin}
 use Rattle.lines.specs.Lines.{refused}
 use Rattle.reading.specs.declared.read.Reading.the-variants.{Refused}
 use Rattle.reading.specs.Texts.{ruleLines, linesText}
-use Rattle.reading.specs.Meaning.{Opening, ruled, linesOf, OutsideAt}
-use Rattle.reading.specs.Reading.{readReply}
+use Rattle.reading.specs.Meaning.{Opening, ruled, linesOf, OutsideAt, outside-at}
+use Rattle.reading.specs.Reading.{readReply, readingReturned}
 use Rattle.reading.proofs.Ending.{sheet-lines}
 use Rattle.reading.proofs.Means.{text-means}
 use Rattle.reading.proofs.Replies.{reply-refused}
-use Rattle.reading.proofs.Numbers.{refused-returns}
 use Rattle.reading.proofs.Promised.{reading-kept}
 use Rattle.writing.specs.Writing.{writtenOf, rulesAt, tableRules, hiddenList, contentsOf, writtenText}
 use Rattle.writing.specs.Promises.{PastLimit, FirstPast, lineAt, RefusedPast}
 use Rattle.writing.proofs.Meanings.{front-word}
 use Rattle.writing.proofs.Back.{literal-within, rules-fine, BoundsWithin, bound-magnitude, opening-fine}
+use Rattle.writing.proofs.Members.{hidden-back}
 use Rattle.writing.proofs.Texts.{rules-append, lines-append}
 
 -- ---- a bound outside a limit
@@ -86,25 +88,28 @@ not-in-limit B w e = (go (hasRule w) refl, λ h. clash (inLimit-bounded B w .1 (
     go false h = clash (inLimit-bounded B w .1 (λ q. clash q h)) e
 
 -- the first j places are all within the sheet's limit, or one of them is the first that is not
-pub within-or-past : (n : ℕ) (t : List ℤ) (j : ℕ) → j ≤ blockStart n → j ≤ length t
-    → WordsWithin j (pos maxBound) t ⊎ ((k : ℕ) × FirstPast n t k)
-within-or-past n t zero h l = inl (record { each = λ k b. let z : ⊥ = omega arith in absurd z })
-within-or-past n t (suc j) h l = go (within-or-past n t j (omega arith) (omega arith)) (inLimit (pos maxBound) (wordAt t j)) refl
+pub within-or-past : (n set : ℕ) (t : List ℤ) (j : ℕ) → j ≤ blockStart n → j ≤ length t
+    → WordsWithin j (pos (boundLimit Sheet n set)) t ⊎ ((k : ℕ) × FirstPast n set t k)
+within-or-past n set t zero h l = inl (record { each = λ k b. let z : ⊥ = omega arith in absurd z })
+within-or-past n set t (suc j) h l = go (within-or-past n set t j (omega arith) (omega arith)) (inLimit limit (wordAt t j)) refl
   where
-    go : WordsWithin j (pos maxBound) t ⊎ ((k : ℕ) × FirstPast n t k) → (b : Bool) → inLimit (pos maxBound) (wordAt t j) ≡ b
-        → WordsWithin (suc j) (pos maxBound) t ⊎ ((k : ℕ) × FirstPast n t k)
+    limit : ℤ
+    limit = pos (boundLimit Sheet n set)
+
+    go : WordsWithin j limit t ⊎ ((k : ℕ) × FirstPast n set t k) → (b : Bool) → inLimit limit (wordAt t j) ≡ b
+        → WordsWithin (suc j) limit t ⊎ ((k : ℕ) × FirstPast n set t k)
     go (inr f) b e = inr f
-    go (inl w) true e = inl (within-more j (pos maxBound) t w (inLimit-bounded (pos maxBound) (wordAt t j) .0 e))
+    go (inl w) true e = inl (within-more j limit t w (inLimit-bounded limit (wordAt t j) .0 e))
     go (inl w) false e =
-        let p = not-in-limit (pos maxBound) (wordAt t j) e in
+        let p = not-in-limit limit (wordAt t j) e in
         let holds : HoldsRule n t j = record { inside = omega arith; there = omega arith; rule = p .0 } in
         inr (j, record { past = record { holds = holds; outside = p .1 }; before = w })
 
 -- where a place is not, there is a first one
-first-past : (n : ℕ) (t : List ℤ) (k : ℕ) → PastLimit n t k → (j : ℕ) × FirstPast n t j
-first-past n t k p = go (within-or-past n t k (omega (arith, p .holds .inside)) (omega (arith, p .holds .there)))
+first-past : (n set : ℕ) (t : List ℤ) (k : ℕ) → PastLimit n set t k → (j : ℕ) × FirstPast n set t j
+first-past n set t k p = go (within-or-past n set t k (omega (arith, p .holds .inside)) (omega (arith, p .holds .there)))
   where
-    go : WordsWithin k (pos maxBound) t ⊎ ((j : ℕ) × FirstPast n t j) → (j : ℕ) × FirstPast n t j
+    go : WordsWithin k (pos (boundLimit Sheet n set)) t ⊎ ((j : ℕ) × FirstPast n set t j) → (j : ℕ) × FirstPast n set t j
     go (inl w) = (k, record { past = p; before = w })
     go (inr f) = f
 
@@ -129,8 +134,11 @@ lines-count : (rs : List Written) → length (ruleLines rs) ≡ length rs
 lines-count [] = refl
 lines-count (r ∷ rs) = ap suc (lines-count rs)
 
--- n in its range, a set, and a table whose first place past the sheet's limit is k
-module _ (n set : ℕ) (t : List ℤ) (some : 1 ≤ n) (most : n ≤ maxQuantities) (k : ℕ) (f : FirstPast n t k) where
+-- n and a set in their ranges, and a table whose first place past the sheet's limit is k
+module _ (n set : ℕ) (t : List ℤ) (some : 1 ≤ n) (most : n ≤ maxQuantities) (within : setWithin n set ≡ true) (k : ℕ) (f : FirstPast n set t k) where
+  abbrev limit : ℕ
+  limit = boundLimit Sheet n set
+
   abbrev front : List ℤ
   front = take (blockStart n) t
 
@@ -159,7 +167,7 @@ module _ (n set : ℕ) (t : List ℤ) (some : 1 ≤ n) (most : n ≤ maxQuantiti
   opening = ruled n (hiddenList n set) (length (tableRules n t)) before
 
   -- its line is where the reader stops
-  written-outside : OutsideAt maxBound (writtenText n set t) (lineAt t k)
+  written-outside : OutsideAt Sheet (writtenText n set t) (lineAt t k)
   unfolding writtenText linesText
   written-outside = record {
     opening = opening;
@@ -169,43 +177,45 @@ module _ (n set : ℕ) (t : List ℤ) (some : 1 ≤ n) (most : n ≤ maxQuantiti
       text = sheet-lines (contentsOf n set t)
           ∙ ap (λ (rs : List Written). linesText (linesOf (ruled n (hiddenList n set) (length (tableRules n t)) rs))) table-apart
           ∙ lines-more n (hiddenList n set) (length (tableRules n t)) before (here ∷ after);
-      fine = opening-fine n set t some most maxBound before (rules-fine n maxBound 0 (take k t) short inside);
+      fine = rw (hidden-back n set within) (opening-fine n set t some most limit before (rules-fine n limit 0 (take k t) short inside));
       most = omega (arith, count);
       number = omega (arith, lines-count before);
     };
     due = rw (lt-ltb (length before) (length (tableRules n t)) (omega (arith, count)));
     formed = tt;
-    outside = rule-outside n maxBound (ruleAt k (wordAt t k)) (ruleAt-hasPlace n k (wordAt t k) (f .past .holds .inside)) large;
+    outside = rw (hidden-back n set within)
+        (rule-outside n limit (ruleAt k (wordAt t k)) (ruleAt-hasPlace n k (wordAt t k) (f .past .holds .inside)) large);
   }
     where
       short : 0 + length (take k t) ≤ blockStart n
       short = omega (arith, length-take k t, f .past .holds .inside)
 
-      inside : BoundsWithin (length (take k t)) maxBound (take k t)
+      inside : BoundsWithin (length (take k t)) limit (take k t)
       inside j b c e =
           let w = front-word k t j b in
-          rw (w .2) (bound-magnitude maxBound (wordAt t j) (f .before .each j (w .0) (w .1) (rw (w .2) at e)))
+          rw (w .2) (bound-magnitude limit (wordAt t j) (f .before .each j (w .0) (w .1) (rw (w .2) at e)))
 
       count : length (tableRules n t) ≡ length before + suc (length after)
       count = ap length table-apart ∙ length-append before (here ∷ after)
 
-      large : maxBound < natAbs (boundOf (ruleAt k (wordAt t k)))
-      large = rw (ruleAt-bound k (wordAt t k)) (outside-magnitude maxBound (wordAt t k) (f .past .outside))
+      large : limit < natAbs (boundOf (ruleAt k (wordAt t k)))
+      large = rw (ruleAt-bound k (wordAt t k)) (outside-magnitude limit (wordAt t k) (f .past .outside))
 
   -- so the text is refused, whatever table it is read into
-  refused-past : length (writtenText n set t) ≤ maxText → (u : List ℤ) → RefusedPast n t (writtenText n set t) u
+  refused-past : length (writtenText n set t) ≤ maxText → (u : List ℤ) → RefusedPast n set t (writtenText n set t) u
   refused-past small u = record {
     place = k;
     first = f;
-    reply = refused-returns (readReply (writtenText n set t) (length u)) (OutOfLimit (lineAt t k)) reply;
+    reply = ap readingReturned reply;
     kept = reading-kept (writtenText n set t) u (OutOfLimit (lineAt t k)) reply;
   }
     where
       reply : readReply (writtenText n set t) (length u) ≡ Refused (OutOfLimit (lineAt t k))
       reply = reply-refused (writtenText n set t) (length u) (OutOfLimit (lineAt t k))
-          (text-means (writtenText n set t) (refused (OutOfLimit (lineAt t k))) .1 (small, written-outside))
+          (text-means Sheet (writtenText n set t) (refused (OutOfLimit (lineAt t k))) .1 (inr (small, outside-at (lineAt t k) written-outside refl)))
 
 -- a text with a bound outside the sheet's limit is refused with 3, at the line of the first
-pub written-past : (n set : ℕ) (t : List ℤ) → 1 ≤ n → n ≤ maxQuantities → length (writtenText n set t) ≤ maxText
-    → (k : ℕ) → PastLimit n t k → (u : List ℤ) → RefusedPast n t (writtenText n set t) u
-written-past n set t some most small k p = let f = first-past n t k p in refused-past n set t some most (f .0) (f .1) small
+pub written-past : (n set : ℕ) (t : List ℤ) → 1 ≤ n → n ≤ maxQuantities → setWithin n set ≡ true → length (writtenText n set t) ≤ maxText
+    → (k : ℕ) → PastLimit n set t k → (u : List ℤ) → RefusedPast n set t (writtenText n set t) u
+written-past n set t some most within small k p =
+    let f = first-past n set t k p in refused-past n set t some most within (f .0) (f .1) small

@@ -1,202 +1,194 @@
 -- The reply of writing by its tests, and what is promised from it. Assumes nothing.
 use mathlib.Core.Path.{_≡_, refl, sym, _∙_, ap}
-use mathlib.Core.Bool.{Bool, true, false, cond}
-use mathlib.Core.Logic.{_↔_, inl, inr}
-use mathlib.Core.List.{List}
+use mathlib.Core.Bool.{Bool, true, cond}
+use mathlib.Core.Logic.{_↔_, ⊎-elim}
+use mathlib.Core.List.{List, _++_}
 use Prim.Native.Nat.{ℕ, _≤_, _<_}
-use native.Mathlib.Omega.{arith}
-use lib.Dec.{ltb}
+use lib.Dec.{leb}
 use lib.IntN.{ℤ}
 use lib.ListN.{length, take, drop}
 use lib.Seq.{take-append-seam}
-use borrow.Author.Tests.{lt-ltb, le-ltb, ltb-true, ltb-false}
+use borrow.Author.Tests.{leb-true, le-leb, lt-leb}
 use Rattle.places.specs.Numbering.{blockStart}
 use Rattle.numerals.specs.Writing.{Spliced}
 use Rattle.numerals.proofs.Splices.{splice-start}
 use Rattle.rules.specs.declared.refusal.Refusal.{Refusal}
 use Rattle.rules.specs.declared.refusal.Refusal.the-variants.{Size, OutOfLimit, TooShort}
-use Rattle.rules.specs.Refusal.{refusalNumber, refusalValues}
+use Rattle.rules.specs.Refusal.{refusedAs}
+use Rattle.rules.specs.Refusing.{RefusedBy, AllMet}
 use Rattle.rules.specs.Hidden.{setWithin}
+use Rattle.rules.specs.Limits.{maxText}
+use Rattle.rules.proofs.Refusals.{refusal-number}
+use Rattle.tables.specs.declared.reply.Reply.{Reply}
+use Rattle.tables.specs.declared.reply.Reply.the-variants.{Done}
+use Rattle.tables.specs.declared.reply.Reply.the-variants.{Refused as NotDone}
 use Rattle.tables.specs.Tables.{serves}
-use Rattle.tables.proofs.Sizes.{Served, serves-tells, serves-sized}
-use Rattle.tables.proofs.Tests.{clash, fails, not-so}
+use Rattle.tables.specs.Meaning.{TableSized}
+use Rattle.tables.specs.Replies.{isDone, check}
+use Rattle.tables.proofs.Sizes.{serves-sized}
+use Rattle.tables.proofs.Refusing.{Tied, tied-done, tied-more, tied-returned, tied-number, number-done}
 use Rattle.writing.specs.declared.write.Writing.{Writing}
 use Rattle.writing.specs.declared.write.Writing.the-variants.{Text, Refused}
-use Rattle.writing.specs.Writing.{writtenText, writeReply, isText, written, writingNumber, writingValues, Wrote}
-use Rattle.writing.specs.Promises.{WriteRefused, TextWritten}
+use Rattle.writing.specs.Writing.{writtenText, writeChecks, textOr, writeReply, written, writingReturned, writingNumber, writingValue}
+use Rattle.writing.specs.Promises.{writeNeeds, KeyLike, TextMade, TextWritten}
 use Rattle.writing.proofs.Meanings.{AreWords, words-clean, table-meaning}
 use Rattle.writing.proofs.Lengths.{longest-any}
+use Rattle.writing.proofs.KeyLengths.{key-short}
 use Rattle.writing.proofs.Back.{spells-words, written-back}
 use Rattle.writing.proofs.Past.{written-past}
-use Rattle.writing.proofs.Numbers.{wrote-text, refused-number, returned-refused}
+use Rattle.writing.proofs.Numbers.{text-number, text-returned}
 
 -- ---- the reply
 
--- 1, where the table does not serve n quantities
-pub reply-size : (n set : ℕ) (t : List ℤ) (room : ℕ) → serves n (length t) ≡ false → Refused Size ≡ writeReply n set t room
-unfolding writeReply
-reply-size n set t room s = rw s
-
--- 3, where the hidden set has a quantity past n
-pub reply-outside : (n set : ℕ) (t : List ℤ) (room : ℕ) → serves n (length t) ≡ true → setWithin n set ≡ false
-    → Refused (OutOfLimit 0) ≡ writeReply n set t room
-unfolding writeReply
-reply-outside n set t room s w = rw (s, w)
+-- by what its three tests say
+pub reply-tested : (n set : ℕ) (t : List ℤ) (room : ℕ) {a b c : Bool}
+    → serves n (length t) ≡ a → setWithin n set ≡ b → leb (length (writtenText n set t)) room ≡ c
+    → textOr (check a Size (check b (OutOfLimit 0) (check c (TooShort (length (writtenText n set t))) Done))) (length (writtenText n set t))
+    ≡ writeReply n set t room
+unfolding writeReply writeChecks
+reply-tested n set t room e f g = rw (e, f, g)
 
 -- 6, where the output has no room for the text
 pub reply-short : (n set : ℕ) (t : List ℤ) (room needed : ℕ) → serves n (length t) ≡ true → setWithin n set ≡ true
     → needed ≡ length (writtenText n set t) → room < needed → Refused (TooShort needed) ≡ writeReply n set t room
-unfolding writeReply
-reply-short n set t room needed s w e l = rw (s, w, ← e, lt-ltb room needed l)
+reply-short n set t room needed s w e l = rw e (reply-tested n set t room s w (lt-leb (length (writtenText n set t)) room (rw e at l)))
 
--- else the text's length
+-- the text's length, where it has
 pub reply-text : (n set : ℕ) (t : List ℤ) (room end : ℕ) → serves n (length t) ≡ true → setWithin n set ≡ true
     → end ≡ length (writtenText n set t) → end ≤ room → Text end ≡ writeReply n set t room
-unfolding writeReply
-reply-text n set t room end s w e l = rw (s, w, ← e, le-ltb room end l)
-
--- ---- the output
-
--- a refusal leaves it as it was
-kept : (n set : ℕ) (t : List ℤ) (out : List ℕ) (r : Writing) → r ≡ writeReply n set t (length out) → isText r ≡ false → out ≡ written n set t out
-unfolding written
-kept n set t out r e f = rw (← e, f)
-
--- a text that is written stands at its start
-put : (n set : ℕ) (t : List ℤ) (out : List ℕ) (r : Writing) (end : ℕ) (out' : List ℕ) → r ≡ writeReply n set t (length out) → isText r ≡ true
-    → Spliced out 0 (writtenText n set t) end out' → out' ≡ written n set t out
-unfolding written
-put n set t out r end out' e f s = rw (← e, f) (s .buffer ∙ splice-start out (writtenText n set t))
-
--- ---- when it is refused
+reply-text n set t room end s w e l = rw e (reply-tested n set t room s w (le-leb (length (writtenText n set t)) room (rw e at l)))
 
 -- a refusal is not a text
 pub refused-text : {f : Refusal} {m : ℕ} → Refused f ≡ Text m → ⊥
-refused-text e = let z : _≡_ {A = ℕ} 0 1 = cc in omega arith
-
--- which refusal it is
-refused-same : {f g : Refusal} → Refused g ≡ Refused f → f ≡ g
-refused-same e = cc
-
--- the reply by its three tests
-abbrev byTests : Bool → Bool → Bool → ℕ → Writing
-byTests a b c k = cond a (cond b (cond c (Refused (TooShort k)) (Text k)) (Refused (OutOfLimit 0))) (Refused Size)
-
-reply-tested : (n set : ℕ) (t : List ℤ) (room : ℕ)
-    → writeReply n set t room ≡ byTests (serves n (length t)) (setWithin n set) (ltb room (length (writtenText n set t))) (length (writtenText n set t))
-unfolding writeReply
-reply-tested n set t room = refl
-
--- for which reason it is
-reason : (n set : ℕ) (t : List ℤ) (room : ℕ) (f : Refusal) → writeReply n set t room ≡ Refused f → WriteRefused n set t room f
-reason n set t room f e = go (serves n (length t)) (setWithin n set) (ltb room k) refl refl refl (sym (reply-tested n set t room) ∙ e)
-  where
-    k : ℕ
-    k = length (writtenText n set t)
-
-    go : (a b c : Bool) → serves n (length t) ≡ a → setWithin n set ≡ b → ltb room k ≡ c → byTests a b c k ≡ Refused f → WriteRefused n set t room f
-    go false b c p q l e = inl (fails (serves-sized n (length t)) p, refused-same e)
-    go true false c p q l e = inr (inl (serves-sized n (length t) .0 p, q, refused-same e))
-    go true true true p q l e = inr (inr (serves-sized n (length t) .0 p, q, ltb-true room k l, refused-same e))
-    go true true false p q l e = absurd (refused-text (sym e))
-
--- and where there is one, it is refused
-given : (n set : ℕ) (t : List ℤ) (room : ℕ) (f : Refusal) → WriteRefused n set t room f → writeReply n set t room ≡ Refused f
-given n set t room f (inl p) = rw (reply-tested n set t room, not-so (serves-sized n (length t)) (p .0), p .1)
-given n set t room f (inr (inl p)) = rw (reply-tested n set t room, serves-sized n (length t) .1 (p .0), p .1, p .2)
-given n set t room f (inr (inr p)) =
-    rw (reply-tested n set t room, serves-sized n (length t) .1 (p .0), p .1, lt-ltb room (length (writtenText n set t)) (p .2), p .3)
-
-reasons : (n set : ℕ) (t : List ℤ) (room : ℕ) (f : Refusal)
-    → ((writingNumber (writeReply n set t room) ≡ refusalNumber f) × (writingValues (writeReply n set t room) ≡ refusalValues f))
-    ↔ WriteRefused n set t room f
-reasons n set t room f = (
-  λ z. reason n set t room f (returned-refused (writeReply n set t room) f z),
-  λ z. let e = given n set t room f z in (ap writingNumber e, ap writingValues e),
-)
-
--- ---- what a reply tells
-
--- a text is written where the table serves, the set is in its range, and the output has room
-pub record Told (n set : ℕ) (t : List ℤ) (room m : ℕ) : Type 0 where
-  pub serving : serves n (length t) ≡ true
-  pub within : setWithin n set ≡ true
-  pub size : m ≡ length (writtenText n set t)
-  pub enough : m ≤ room
+refused-text {f} e = refusal-number f (ap writingNumber e)
 
 -- texts of one reply have one length
 pub text-same : {m k : ℕ} → Text m ≡ Text k → m ≡ k
-text-same e = cc
+text-same e = ap writingValue e
 
--- which the reply tells
-pub text-tells : (n set : ℕ) (t : List ℤ) (room m : ℕ) → writeReply n set t room ≡ Text m → Told n set t room m
+-- ---- what it needs
+
+-- the checks refuse by the first need that is not met
+checks-tied : (n set : ℕ) (t : List ℤ) (room : ℕ) → Tied (writeNeeds n set t room) (writeChecks n set t room)
+unfolding writeChecks
+checks-tied n set t room =
+    tied-more _ _ _ _ _ (serves-sized n (length t)) (λ sized.
+    tied-more _ _ _ _ _ (λ e. e, λ e. e) (λ within.
+    tied-more _ _ _ _ _ (leb-true (length (writtenText n set t)) room, le-leb (length (writtenText n set t)) room) (λ enough. tied-done)))
+
+-- and so does the reply
+pub reply-refused : (n set : ℕ) (t : List ℤ) (room : ℕ) (f : Refusal)
+    → (writingReturned (writeReply n set t room) ≡ refusedAs f) ↔ RefusedBy (writeNeeds n set t room) f
 unfolding writeReply
-text-tells n set t room m e = go (serves n (length t)) refl (setWithin n set) refl (ltb room (length (writtenText n set t))) refl e
-  where
-    k : ℕ
-    k = length (writtenText n set t)
+reply-refused n set t room f =
+    let text = text-returned (writeChecks n set t room) (length (writtenText n set t)) f in
+    let tied = tied-returned _ _ _ refl (checks-tied n set t room) f in
+    (λ e. tied .0 (text .0 e), λ z. text .1 (tied .1 z))
 
-    go : (a : Bool) → serves n (length t) ≡ a → (b : Bool) → setWithin n set ≡ b → (c : Bool) → ltb room k ≡ c
-        → byTests a b c k ≡ Text m → Told n set t room m
-    go true s true w true l f = absurd (refused-text f)
-    go true s true w false l f =
-        let same = text-same f in
-        record { serving = s; within = w; size = sym same; enough = rw (← same) (ltb-false room k l) }
-    go true s false w c l f = absurd (refused-text f)
-    go false s b w c l f = absurd (refused-text f)
+pub reply-accepted : (n set : ℕ) (t : List ℤ) (room : ℕ) → (writingNumber (writeReply n set t room) ≡ 0) ↔ AllMet (writeNeeds n set t room)
+unfolding writeReply
+reply-accepted n set t room =
+    rw (text-number (writeChecks n set t room) (length (writtenText n set t))) (tied-number _ _ _ refl (checks-tied n set t room))
 
--- the text stands in front
-pub text-front : (n set : ℕ) (t : List ℤ) (out : List ℕ) (m : ℕ) → writeReply n set t (length out) ≡ Text m
-    → take m (written n set t out) ≡ writtenText n set t
+-- ---- a reply that is no refusal
+
+-- passes the checks
+number-passed : (n set : ℕ) (t : List ℤ) (room : ℕ) → writingNumber (writeReply n set t room) ≡ 0 → writeChecks n set t room ≡ Done
+unfolding writeReply
+number-passed n set t room e =
+    number-done (writeChecks n set t room) .0 (sym (text-number (writeChecks n set t room) (length (writtenText n set t))) ∙ e)
+
+-- tells the text's length
+passed-text : (n set : ℕ) (t : List ℤ) (room : ℕ) → writeChecks n set t room ≡ Done → writeReply n set t room ≡ Text (length (writtenText n set t))
+unfolding writeReply
+passed-text n set t room d = rw d
+
+pub number-text : (n set : ℕ) (t : List ℤ) (room : ℕ) → writingNumber (writeReply n set t room) ≡ 0
+    → writeReply n set t room ≡ Text (length (writtenText n set t))
+number-text n set t room e = passed-text n set t room (number-passed n set t room e)
+
+-- and the text stands in front, before bytes that stay
+pub number-output : (n set : ℕ) (t : List ℤ) (out : List ℕ) → writingNumber (writeReply n set t (length out)) ≡ 0
+    → written n set t out ≡ writtenText n set t ++ drop (length (writtenText n set t)) out
 unfolding written
-text-front n set t out m e =
-    let s = text-tells n set t (length out) m e .size in
-    rw (e, s) (take-append-seam (writtenText n set t) (drop (length (writtenText n set t)) out))
+number-output n set t out e = rw (number-passed n set t (length out) e)
+
+-- the same of a text of this length
+pub text-tells : (n set : ℕ) (t : List ℤ) (out : List ℕ) (m : ℕ) → Text m ≡ writeReply n set t (length out)
+    → (m ≡ length (writtenText n set t)) × (take m (written n set t out) ≡ writtenText n set t)
+text-tells n set t out m e = (size, front)
+  where
+    zero : writingNumber (writeReply n set t (length out)) ≡ 0
+    zero = ap writingNumber (sym e)
+
+    size : m ≡ length (writtenText n set t)
+    size = text-same (e ∙ number-text n set t (length out) zero)
+
+    front : take m (written n set t out) ≡ writtenText n set t
+    front = rw (size, number-output n set t out zero) (take-append-seam (writtenText n set t) (drop (length (writtenText n set t)) out))
+
+-- ---- the text
+
+-- what holds of it, the table's words being of 64 bits
+text-made : (n set : ℕ) (t : List ℤ) → TableSized n (length t) → setWithin n set ≡ true → AreWords (blockStart n) t
+    → TextMade n set t (Text (length (writtenText n set t))) (writtenText n set t)
+text-made n set t s w words = record {
+  returned = refl;
+  spelled = spells-words n set t (s .some) (s .most) words;
+  meaning = table-meaning n t (s .room);
+  longest = longest-any n set t (s .most) words;
+  key-short = short;
+  back = λ b. written-back n set t (s .some) (s .most) w b (s .room) (words-clean (blockStart n) t words);
+  past = λ l. written-past n set t (s .some) (s .most) w (⊎-elim (λ m. m) short l);
+}
+  where
+    short : KeyLike n set t → length (writtenText n set t) ≤ maxText
+    short = key-short n set t (s .most) (s .room)
 
 -- ---- what is promised
 
 -- all of it from the reply and the bytes; of a table whose text is written it is known besides that its words are of 64 bits
-written-promised : (n set : ℕ) (t : List ℤ) (out : List ℕ) (r : Writing) (out' : List ℕ)
-    → r ≡ writeReply n set t (length out) → out' ≡ written n set t out → (isText r ≡ true → AreWords (blockStart n) t) → TextWritten n set t out r out'
-written-promised n set t out r out' e f words = record {
+written-promised : (n set : ℕ) (t : List ℤ) (out : List ℕ) (r : Writing) (out' : List ℕ) → r ≡ writeReply n set t (length out)
+    → out' ≡ written n set t out → (writingNumber r ≡ 0 → AreWords (blockStart n) t) → ((writingNumber r ≡ 0 → ⊥) → out' ≡ out)
+    → TextWritten n set t out r out'
+written-promised n set t out r out' e f words kept = record {
   reply = e;
   bytes = f;
-  refused = λ f. rw e (reasons n set t (length out) f);
-  kept = λ g. f ∙ sym (kept n set t out r e (refused-number r g));
-  spelled = λ m q. let s = served m q in rw (front m q) (spells-words n set t (s .some) (s .most) (are m q));
-  meaning = λ m q. table-meaning n t (served m q .room);
-  longest = λ m q. rw (told m q .size) (longest-any n set t (served m q .most) (are m q));
-  back = λ m q w u l.
-      let s = served m q in
-      rw (front m q) (written-back n set t (s .some) (s .most) w (told m q .within) (s .room) (words-clean (blockStart n) t (are m q)) u l);
-  past = λ m q l k p u.
-      let s = served m q in
-      rw (front m q) (written-past n set t (s .some) (s .most) (rw (← told m q .size) l) k p u);
+  refused = λ f. rw e (reply-refused n set t (length out) f);
+  accepted = accepted;
+  kept = kept;
+  made = λ z.
+      let met = accepted .0 z in
+      let text = number-text n set t (length out) (rw e at z) in
+      let front : take (writingValue r) out' ≡ writtenText n set t = rw (f, e, text) (text-tells n set t out _ (sym text) .1) in
+      rw (front, e, text) (text-made n set t (met .0) (met .1 .0) (words z));
 }
   where
-    is : (m : ℕ) → Wrote r m → writeReply n set t (length out) ≡ Text m
-    is m q = sym e ∙ wrote-text r m q
+    accepted : (writingNumber r ≡ 0) ↔ AllMet (writeNeeds n set t (length out))
+    accepted = rw e (reply-accepted n set t (length out))
 
-    told : (m : ℕ) → Wrote r m → Told n set t (length out) m
-    told m q = text-tells n set t (length out) m (is m q)
+-- a refusal leaves the output as it was
+pub refused-kept : (n set : ℕ) (t : List ℤ) (out : List ℕ) (f : Refusal) → Refused f ≡ writeReply n set t (length out) → out ≡ written n set t out
+unfolding writeReply written
+refused-kept n set t out f e = go (writeChecks n set t (length out)) e
+  where
+    go : (c : Reply) → Refused f ≡ textOr c (length (writtenText n set t))
+        → out ≡ cond (isDone c) (writtenText n set t ++ drop (length (writtenText n set t)) out) out
+    go Done e = absurd (refused-text e)
+    go (NotDone g) e = refl
 
-    served : (m : ℕ) → Wrote r m → Served n (length t)
-    served m q = serves-tells n (length t) (told m q .serving)
-
-    are : (m : ℕ) → Wrote r m → AreWords (blockStart n) t
-    are m q = words (ap isText (wrote-text r m q))
-
-    front : (m : ℕ) → Wrote r m → take m out' ≡ writtenText n set t
-    front m q = ap (take m) f ∙ text-front n set t out m (is m q)
-
--- a refusal
-pub promised-refused : (n set : ℕ) (t : List ℤ) (out : List ℕ) (r : Writing) → r ≡ writeReply n set t (length out) → isText r ≡ false
-    → TextWritten n set t out r out
-promised-refused n set t out r e f = written-promised n set t out r out e (kept n set t out r e f) (λ g. clash g f)
+pub promised-refused : (n set : ℕ) (t : List ℤ) (out : List ℕ) (f : Refusal) → Refused f ≡ writeReply n set t (length out)
+    → TextWritten n set t out (Refused f) out
+promised-refused n set t out f e =
+    written-promised n set t out (Refused f) out e (refused-kept n set t out f e) (λ z. absurd (refusal-number f z)) (λ z. refl)
 
 -- a text
+text-put : (n set : ℕ) (t : List ℤ) (out : List ℕ) (end : ℕ) (out' : List ℕ) → Text end ≡ writeReply n set t (length out)
+    → Spliced out 0 (writtenText n set t) end out' → out' ≡ written n set t out
+text-put n set t out end out' e s =
+    s .buffer ∙ splice-start out (writtenText n set t) ∙ sym (number-output n set t out (ap writingNumber (sym e)))
+
 pub promised-text : (n set : ℕ) (t : List ℤ) (out : List ℕ) (end : ℕ) (out' : List ℕ) → Text end ≡ writeReply n set t (length out)
-    → Spliced out 0 (writtenText n set t) end out' → AreWords (blockStart n) t
-    → TextWritten n set t out (Text end) out'
+    → Spliced out 0 (writtenText n set t) end out' → AreWords (blockStart n) t → TextWritten n set t out (Text end) out'
 promised-text n set t out end out' e s words =
-    written-promised n set t out (Text end) out' e (put n set t out (Text end) end out' e refl s) (λ g. words)
+    written-promised n set t out (Text end) out' e (text-put n set t out end out' e s) (λ z. words) (λ z. absurd (z refl))

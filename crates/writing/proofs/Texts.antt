@@ -16,9 +16,8 @@ use mir.Val.{SFits}
 use Rattle.places.specs.Numbering.{blockStart}
 use Rattle.numerals.specs.Bytes.{newline}
 use Rattle.numerals.specs.Decimal.{decimal}
-use Rattle.numerals.proofs.Decimals.{decimal-width}
 use Rattle.rules.specs.declared.rule.Rule.{Rule}
-use Rattle.rules.specs.Limits.{maxQuantities, maxRules}
+use Rattle.rules.specs.Limits.{maxQuantities}
 use Rattle.tables.specs.Places.{ruleAt}
 use Rattle.tables.specs.Tables.{hasRule}
 use Rattle.tables.proofs.Sizes.{small-square}
@@ -27,10 +26,11 @@ use Rattle.words.specs.Change.{wordAt}
 use Rattle.lines.specs.Spelling.{Written, rule, quantitiesKey, hiddenKey, rulesKey, listText, valueText, lineText}
 use Rattle.reading.specs.Texts.{ruleLines, linesText, headerText, sheetText}
 use Rattle.writing.specs.declared.write.Measure.{Measure}
-use Rattle.writing.specs.Writing.{Measured, MeasuredMore, writtenOf, ruleLineText, rulesAt, placeText, rulesText, hiddenList, countText, headText, tableRules, writtenText}
-use Rattle.writing.proofs.Lines.{place-line, word-short, line-short}
+use Rattle.writing.specs.Writing.{writtenOf, ruleLineText, rulesAt, hiddenList, countText, tableRules, writtenText}
+use Rattle.writing.specs.Promises.{maxLine}
+use Rattle.writing.specs.Inner.{Measured, MeasuredMore, placeText, rulesText, headText}
+use Rattle.writing.proofs.Lines.{wordWidth, place-line, word-short, line-short}
 use Rattle.writing.proofs.Meanings.{AreWords}
-use Rattle.writing.proofs.ListTexts.{list-short}
 
 -- ---- rules by place
 
@@ -130,18 +130,18 @@ text-longer k (suc m) t h l = go (eqb k (suc m)) refl (λ g. text-longer k m t g
     go true e g = rw (eqb-true k (suc m) e) (omega arith)
     go false e g = omega (arith, eqb-false k (suc m) e, text-more-length m t l, g (omega (arith, eqb-false k (suc m) e)))
 
--- a place's line has at most 33 bytes
-pub place-short : (k : ℕ) (w : ℤ) → k < blockStart maxQuantities → SFits w64 w → length (placeText k w) ≤ 33
+-- a place's line is short
+pub place-short : (k : ℕ) (w : ℤ) → k < blockStart maxQuantities → SFits w64 w → length (placeText k w) ≤ maxLine
 unfolding placeText
 place-short k w h f = go (hasRule w)
   where
-    go : (b : Bool) → length (cond b (ruleLineText (ruleAt k w)) []) ≤ 33
+    go : (b : Bool) → length (cond b (ruleLineText (ruleAt k w)) []) ≤ maxLine
     go true =
-        line-short maxQuantities 20 (ruleAt k w) (omega arith) (ruleAt-hasPlace maxQuantities k w h) (rw (ruleAt-bound k w) (word-short w f))
+        line-short maxQuantities wordWidth (ruleAt k w) (omega arith) (ruleAt-hasPlace maxQuantities k w h) (rw (ruleAt-bound k w) (word-short w f))
     go false = omega arith
 
--- those of the first k words have at most 33 bytes for each
-pub text-short : (k : ℕ) (t : List ℤ) → k ≤ length t → k ≤ blockStart maxQuantities → AreWords k t → length (rulesText (take k t)) ≤ 33 * k
+-- and so are those of the first k words
+pub text-short : (k : ℕ) (t : List ℤ) → k ≤ length t → k ≤ blockStart maxQuantities → AreWords k t → length (rulesText (take k t)) ≤ maxLine * k
 text-short zero t h l f = omega (arith, ap length (text-none t))
 text-short (suc k) t h l f =
     let short = place-short k (wordAt t k) l (record { sfits = f k (omega arith) }) in
@@ -164,7 +164,7 @@ measure-words k t m h j b = rw (getD-take k t j (pos 0) b) at (m .words j (rw (l
 
 -- and small
 pub measure-small : (k : ℕ) (t : List ℤ) {a : Measure} → Measured (take k t) a → k ≤ length t → k ≤ blockStart maxQuantities
-    → (a .rules ≤ k) × (a .bytes ≤ 33 * k)
+    → (a .rules ≤ k) × (a .bytes ≤ maxLine * k)
 measure-small k t m h l =
     (omega (arith, m .counted, count-short k t h), omega (arith, m .measured, text-short k t h l (measure-words k t m h)))
 
@@ -219,11 +219,6 @@ count-length key v = simp length-append (omega arith)
 pub head-length : (n set m : ℕ)
     → length (headText n set m) ≡ 27 + length (decimal n) + length (listText (hiddenList n set)) + length (decimal m)
 head-length n set m = rw (head-text n set m) (simp (length-append, count-length) (omega arith))
-
--- a header has at most 129 bytes
-pub head-short : (n set m : ℕ) → n ≤ maxQuantities → m ≤ maxRules → length (headText n set m) ≤ 129
-head-short n set m h l =
-    omega (arith, head-length n set m, decimal-width 1 n (omega arith), list-short set n h, decimal-width 3 m (omega arith))
 
 -- ---- the whole text
 

@@ -1,75 +1,109 @@
 -- What the writer promises: the reply and every byte, for every input; when it is refused; that the text is a spelling, what it means, and that it is
 -- read back, or refused by the reader where a bound is too large for it.
 use mathlib.Core.Path.{_≡_}
-use mathlib.Core.Bool.{true, false}
+use mathlib.Core.Bool.{true}
 use mathlib.Core.Logic.{_↔_, _⊎_}
-use mathlib.Core.List.{List, [], _∷_, _++_}
-use Prim.Native.Nat.{ℕ, _*_, _+_, _^_, _≤_, _<_}
+use mathlib.Core.List.{List, _++_}
+use Prim.Native.Nat.{ℕ, _*_, _+_, _^_, _≤_}
 use lib.IntN.{ℤ, pos}
 use lib.ListN.{length, take, drop}
 use Rattle.integers.specs.Bound.{Within}
 use Rattle.words.specs.Change.{wordAt}
 use Rattle.places.specs.Numbering.{blockStart}
+use Rattle.rules.specs.declared.paper.Paper.the-variants.{Sheet}
 use Rattle.rules.specs.declared.refusal.Refusal.{Refusal}
 use Rattle.rules.specs.declared.refusal.Refusal.the-variants.{Size, OutOfLimit, TooShort}
-use Rattle.rules.specs.Refusal.{refusalNumber, refusalValues}
-use Rattle.rules.specs.Hidden.{setWithin}
-use Rattle.rules.specs.Limits.{maxBound, maxRules, maxText}
+use Rattle.rules.specs.Refusal.{refusedAs}
+use Rattle.rules.specs.Refusing.{Needs, passed, _or_then_, RefusedBy, AllMet}
+use Rattle.rules.specs.Hidden.{hiddenIn, hiddenCount, setWithin}
+use Rattle.rules.specs.Limits.{boundLimit, maxRules, maxText}
 use Rattle.rules.specs.Meaning.{Assignment}
-use Rattle.tables.specs.Meaning.{TableSized, HoldsRule, Satisfies, MeetsAll, WordsWithin}
+use Rattle.tables.specs.Meaning.{TableSized, HoldsRule, Satisfies, MeetsAll, NamesVisible, WordsWithin}
 use Rattle.lines.specs.Spelling.{writtenRules}
 use Rattle.reading.specs.declared.read.Reading.the-variants.{Accepted}
 use Rattle.reading.specs.Meaning.{Spells}
-use Rattle.reading.specs.Reading.{readReply, readTable, Returns}
+use Rattle.reading.specs.Reading.{readReply, readTable, readingReturned}
 use Rattle.writing.specs.declared.write.Writing.{Writing}
-use Rattle.writing.specs.Writing.{rulesAt, tableRules, contentsOf, writtenText, writeReply, written, writingNumber, writingValues, Wrote}
+use Rattle.writing.specs.Writing.{rulesAt, tableRules, contentsOf, writtenText, writeReply, written, textReturned, writingReturned, writingNumber, writingValue}
 
--- no text written is longer than this: 119 bytes for the header, and 33 for each rule (it is not said to be attained)
+-- ---- what writing needs
+
+-- 1 for n and the table, 3 for the hidden set only, 6 for an output that has no room for the text
+abbrev pub writeNeeds : ℕ → ℕ → List ℤ → ℕ → Needs
+writeNeeds n set t room =
+    TableSized n (length t) or Size then
+    (setWithin n set ≡ true) or OutOfLimit 0 then
+    (length (writtenText n set t) ≤ room) or TooShort (length (writtenText n set t)) then
+    passed
+
+-- ---- how long a text is
+
+-- the lines before the rules have at most this many bytes, each rule's line at most this many, and no text more than these make (it is not said to be attained)
+abbrev pub maxHeader : ℕ
+maxHeader = 119
+
+abbrev pub maxLine : ℕ
+maxLine = 33
+
 abbrev pub maxWritten : ℕ
-maxWritten = 119 + 33 * maxRules
+maxWritten = maxHeader + maxLine * maxRules
+
+-- a table is like a key: its rules name visible quantities alone, and its bounds are a sheet's, doubled at most with each hidden quantity
+pub record KeyLike (n set : ℕ) (table : List ℤ) : Type 0 where
+  pub visible : NamesVisible n (hiddenIn set) table
+  pub growth : WordsWithin (blockStart n) (pos (boundLimit Sheet n set * 2 ^ hiddenCount (hiddenIn set) n)) table
+
+-- ---- a text read again
+
+-- the text s of a table is read into t: n, the hidden set and the table's words come back, and words past them stay
+pub record ReadBack (n set : ℕ) (table : List ℤ) (s : List ℕ) (t : List ℤ) : Type 0 where
+  pub reply : readReply s (length t) ≡ Accepted n set
+  pub words : readTable s t ≡ take (blockStart n) table ++ drop (blockStart n) t
 
 -- place k holds a rule whose bound is outside the sheet's limit
-pub record PastLimit (n : ℕ) (table : List ℤ) (k : ℕ) : Type 0 where
+pub record PastLimit (n set : ℕ) (table : List ℤ) (k : ℕ) : Type 0 where
   pub holds : HoldsRule n table k
-  pub outside : Within (pos maxBound) (wordAt table k) → ⊥
+  pub outside : Within (pos (boundLimit Sheet n set)) (wordAt table k) → ⊥
 
 -- and no place before it does
-pub record FirstPast (n : ℕ) (table : List ℤ) (k : ℕ) : Type 0 where
-  pub past : PastLimit n table k
-  pub before : WordsWithin k (pos maxBound) table
+pub record FirstPast (n set : ℕ) (table : List ℤ) (k : ℕ) : Type 0 where
+  pub past : PastLimit n set table k
+  pub before : WordsWithin k (pos (boundLimit Sheet n set)) table
 
 -- the number of the line of the rule that place k holds: above it stand three lines and one for each rule of the places before
 abbrev pub lineAt : List ℤ → ℕ → ℕ
 lineAt table k = 4 + length (rulesAt 0 (take k table))
 
 -- the text s of a table is refused when it is read into t: 3, at the line of the first rule whose bound is outside the sheet's limit
-pub record RefusedPast (n : ℕ) (table : List ℤ) (s : List ℕ) (t : List ℤ) : Type 0 where
+pub record RefusedPast (n set : ℕ) (table : List ℤ) (s : List ℕ) (t : List ℤ) : Type 0 where
   pub place : ℕ
-  pub first : FirstPast n table place
-  pub reply : Returns (readReply s (length t)) 3 (lineAt table place ∷ [])
+  pub first : FirstPast n set table place
+  pub reply : readingReturned (readReply s (length t)) ≡ refusedAs (OutOfLimit (lineAt table place))
   pub kept : readTable s t ≡ t
 
--- the writer is refused by the first check that fails: 1, 3 for the hidden set only, 6 with the text's length
-abbrev pub WriteRefused : ℕ → ℕ → List ℤ → ℕ → Refusal → Type 0
-WriteRefused n set t room f =
-    ((TableSized n (length t) → ⊥) × (f ≡ Size))
-    ⊎ ((TableSized n (length t) × (setWithin n set ≡ false) × (f ≡ OutOfLimit 0))
-    ⊎ (TableSized n (length t) × (setWithin n set ≡ true) × (room < length (writtenText n set t)) × (f ≡ TooShort (length (writtenText n set t)))))
+-- ---- the writer
 
--- a table and a hidden set written
+-- what holds of the bytes s that are written for a table and a hidden set, with the reply r
+pub record TextMade (n set : ℕ) (table : List ℤ) (r : Writing) (s : List ℕ) : Type 0 where
+  -- 0 and their number are returned
+  pub returned : writingReturned r ≡ textReturned (length s)
+  -- they are a spelling, with bounds of any word
+  pub spelled : Spells (2 ^ 63) s (contentsOf n set table)
+  -- of rules that mean what the table does
+  pub meaning : (σ : Assignment) → Satisfies n table σ ↔ MeetsAll σ (writtenRules (tableRules n table))
+  pub longest : length s ≤ maxWritten
+  -- the text of a key is never too long for the reader
+  pub key-short : KeyLike n set table → length s ≤ maxText
+  -- read into any table that is long enough, the text gives the table back, where its words are in the sheet's limit
+  pub back : WordsWithin (blockStart n) (pos (boundLimit Sheet n set)) table → (t : List ℤ) → blockStart n ≤ length t → ReadBack n set table s t
+  -- where some bound is outside it, and the text not too long to be read, as no key's is, it is refused with 3, whatever table it is read into
+  pub past : (length s ≤ maxText) ⊎ KeyLike n set table → (k : ℕ) → PastLimit n set table k → (t : List ℤ) → RefusedPast n set table s t
+
+-- a table and a hidden set written: refused by the first need that is not met, and then the output stays; else its first bytes, as many as are returned, are the text
 pub record TextWritten (n set : ℕ) (table : List ℤ) (out : List ℕ) (r : Writing) (out' : List ℕ) : Type 0 where
   pub reply : r ≡ writeReply n set table (length out)
   pub bytes : out' ≡ written n set table out
-  -- by document 01's numbers and values: refused exactly for these reasons, and then the output stays
-  pub refused : (f : Refusal) → ((writingNumber r ≡ refusalNumber f) × (writingValues r ≡ refusalValues f)) ↔ WriteRefused n set table (length out) f
+  pub refused : (f : Refusal) → (writingReturned r ≡ refusedAs f) ↔ RefusedBy (writeNeeds n set table (length out)) f
+  pub accepted : (writingNumber r ≡ 0) ↔ AllMet (writeNeeds n set table (length out))
   pub kept : (writingNumber r ≡ 0 → ⊥) → out' ≡ out
-  -- what is written is a spelling, with bounds of any word
-  pub spelled : (m : ℕ) → Wrote r m → Spells (2 ^ 63) (take m out') (contentsOf n set table)
-  -- the rules written mean what the table does
-  pub meaning : (m : ℕ) → Wrote r m → (σ : Assignment) → Satisfies n table σ ↔ MeetsAll σ (writtenRules (tableRules n table))
-  pub longest : (m : ℕ) → Wrote r m → m ≤ maxWritten
-  -- read into any table that is long enough, it gives n, the hidden set and the table's words back, where these are in the sheet's limit
-  pub back : (m : ℕ) → Wrote r m → WordsWithin (blockStart n) (pos maxBound) table → (t : List ℤ) → blockStart n ≤ length t
-      → (readReply (take m out') (length t) ≡ Accepted n set) × (readTable (take m out') t ≡ take (blockStart n) table ++ drop (blockStart n) t)
-  -- where some bound is outside it, and the text not too long to be read, it is refused with 3, whatever table it is read into
-  pub past : (m : ℕ) → Wrote r m → m ≤ maxText → (k : ℕ) → PastLimit n table k → (t : List ℤ) → RefusedPast n table (take m out') t
+  pub made : writingNumber r ≡ 0 → TextMade n set table r (take (writingValue r) out')

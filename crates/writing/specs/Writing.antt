@@ -1,27 +1,27 @@
 -- The text of a table and a hidden set (document 01, 'Text'): the lower quantity first, rules in place order, absent places skipped, N being their count.
-use mathlib.Core.Path.{_≡_}
-use mathlib.Core.Bool.{Bool, true, false, cond}
+use mathlib.Core.Bool.{Bool, false, cond}
 use mathlib.Core.List.{List, [], _∷_, _++_}
-use Prim.Native.Nat.{ℕ, zero, suc, _+_, _%_, _^_, _<_}
-use lib.Dec.{ltb, eqb}
-use lib.IntN.{ℤ}
+use Prim.Native.Nat.{ℕ, zero, suc, _%_}
+use lib.Dec.{leb, eqb}
+use lib.IntN.{ℤ, pos}
 use lib.ListN.{length, take, drop}
-use lib.Signed.{mag}
-use Rattle.words.specs.Change.{wordAt}
 use Rattle.places.specs.Numbering.{blockStart}
 use Rattle.rules.specs.declared.rule.Rule.{Rule}
 use Rattle.rules.specs.declared.rule.Rule.the-variants.{One, Two, Nothing}
 use Rattle.rules.specs.declared.refusal.Refusal.the-variants.{Size, OutOfLimit, TooShort}
 use Rattle.rules.specs.Hidden.{hiddenIn, setWithin}
 use Rattle.rules.specs.Literal.{quantityOf}
-use Rattle.rules.specs.Refusal.{refusalNumber, refusalValues, refusalValue}
+use Rattle.rules.specs.Refusal.{Returned, refusedAs, refusalValue}
+use Rattle.tables.specs.declared.reply.Reply.{Reply}
+use Rattle.tables.specs.declared.reply.Reply.the-variants.{Done}
+use Rattle.tables.specs.declared.reply.Reply.the-variants.{Refused as NotDone}
 use Rattle.tables.specs.Places.{ruleAt}
 use Rattle.tables.specs.Tables.{hasRule, serves}
-use Rattle.numerals.specs.Bytes.{newline, comma, colon}
-use Rattle.numerals.specs.Decimal.{decimal, signedDecimal}
-use Rattle.lines.specs.Spelling.{Term, Written, ruleKey, one, two, quantities, hidden, rules, rule, termText, listText, lineText}
-use Rattle.reading.specs.Texts.{Contents, ruleLines, linesText, sheetText}
-use Rattle.writing.specs.declared.write.Measure.{Measure}
+use Rattle.tables.specs.Replies.{isDone, check}
+use Rattle.numerals.specs.Bytes.{newline}
+use Rattle.numerals.specs.Decimal.{decimal}
+use Rattle.lines.specs.Spelling.{Term, Written, ruleKey, one, two, rule, lineText}
+use Rattle.reading.specs.Texts.{Contents, sheetText}
 use Rattle.writing.specs.declared.write.Writing.{Writing}
 use Rattle.writing.specs.declared.write.Writing.the-variants.{Text, Refused}
 
@@ -36,16 +36,6 @@ unfoldable pub writtenOf : Rule → Written
 writtenOf (One x c) = one (literalTerm x) c
 writtenOf (Two x y c) = two (literalTerm x) (literalTerm y) c
 writtenOf (Nothing c) = one (record { negative = false; quantity = 0 }) c
-
--- a bound with the colon before it
-abbrev pub boundText : ℤ → List ℕ
-boundText c = colon ∷ signedDecimal c
-
--- a rule's value, its terms in their order and its bound; a bare rule's is empty
-unfoldable pub ruleValueText : Rule → List ℕ
-ruleValueText (One x c) = termText (literalTerm x) ++ boundText c
-ruleValueText (Two x y c) = termText (literalTerm x) ++ termText (literalTerm y) ++ boundText c
-ruleValueText (Nothing c) = []
 
 -- a rule's line; a bare rule's has the key alone
 abbrev pub ruleLineText : Rule → List ℕ
@@ -62,25 +52,6 @@ rulesAt k (w ∷ t) = cond (hasRule w) (writtenOf (ruleAt k w) ∷ rulesAt (suc 
 abbrev pub tableRules : ℕ → List ℤ → List Written
 tableRules n t = rulesAt 0 (take (blockStart n) t)
 
--- the line of the rule that the word of place k holds, where it holds one
-unfoldable pub placeText : ℕ → ℤ → List ℕ
-placeText k w = cond (hasRule w) (ruleLineText (ruleAt k w)) []
-
--- the lines of the rules that words hold, the first being the word of place 0
-unfoldable pub rulesText : List ℤ → List ℕ
-rulesText t = linesText (ruleLines (rulesAt 0 t))
-
--- how many rules words of 64 bits hold, and how many bytes their lines take
-pub record Measured (t : List ℤ) (r : Measure) : Type 0 where
-  pub words : (k : ℕ) → k < length t → mag (wordAt t k) < 2 ^ 63
-  pub counted : r .rules ≡ length (rulesAt 0 t)
-  pub measured : r .bytes ≡ length (rulesText t)
-
--- the same with the word of place k more
-pub record MeasuredMore (k : ℕ) (w : ℤ) (before after : Measure) : Type 0 where
-  pub counted : after .rules ≡ before .rules + cond (hasRule w) 1 0
-  pub measured : after .bytes ≡ before .bytes + length (placeText k w)
-
 -- ---- the hidden list
 
 -- the hidden ones of k quantities from q on
@@ -92,20 +63,11 @@ hiddenFrom member q (suc k) = cond (member q) (q ∷ hiddenFrom member (suc q) k
 abbrev pub hiddenList : ℕ → ℕ → List ℕ
 hiddenList n set = hiddenFrom (hiddenIn set) 1 n
 
--- what the list's text gets from quantity j + 1: its number, after a comma where others are before it
-unfoldable pub memberText : ℕ → ℕ → List ℕ
-memberText set j =
-    cond (hiddenIn set (j + 1)) (cond (eqb (length (listText (hiddenList j set))) 0) (decimal (j + 1)) (comma ∷ decimal (j + 1))) []
-
 -- ---- the text
 
 -- a line of a key and a number
 unfoldable pub countText : List ℕ → ℕ → List ℕ
 countText key v = key ++ (decimal v ++ newline ∷ [])
-
--- the three lines before m rules
-unfoldable pub headText : ℕ → ℕ → ℕ → List ℕ
-headText n set m = linesText (quantities n ∷ hidden (hiddenList n set) ∷ rules m ∷ [])
 
 abbrev pub contentsOf : ℕ → ℕ → List ℤ → Contents
 contentsOf n set t = record { count = n; hiddens = hiddenList n set; written = tableRules n t }
@@ -115,37 +77,38 @@ writtenText n set t = sheetText (contentsOf n set t)
 
 -- ---- the reply
 
--- 1 for n and the table, 3 for the hidden set, 6 for an output of so many bytes; else the text's length
-unfoldable pub writeReply : ℕ → ℕ → List ℤ → ℕ → Writing
-writeReply n set t room =
-    cond (serves n (length t))
-    (cond (setWithin n set)
-    (cond (ltb room (length (writtenText n set t))) (Refused (TooShort (length (writtenText n set t)))) (Text (length (writtenText n set t))))
-    (Refused (OutOfLimit 0)))
-    (Refused Size)
+-- the checks, one after the other: 1 for n and the table, 3 for the hidden set, 6 for an output that has no room for the text
+unfoldable pub writeChecks : ℕ → ℕ → List ℤ → ℕ → Reply
+writeChecks n set t room =
+    check (serves n (length t)) Size
+    (check (setWithin n set) (OutOfLimit 0)
+    (check (leb (length (writtenText n set t)) room) (TooShort (length (writtenText n set t))) Done))
 
-abbrev pub isText : Writing → Bool
-isText (Text m) = true
-isText (Refused r) = false
+-- a text of m bytes where the checks pass, else their refusal
+abbrev pub textOr : Reply → ℕ → Writing
+textOr Done m = Text m
+textOr (NotDone f) m = Refused f
+
+unfoldable pub writeReply : ℕ → ℕ → List ℤ → ℕ → Writing
+writeReply n set t room = textOr (writeChecks n set t room) (length (writtenText n set t))
 
 -- the output afterwards: the text, and bytes past it as they were
 unfoldable pub written : ℕ → ℕ → List ℤ → List ℕ → List ℕ
-written n set t out = cond (isText (writeReply n set t (length out))) (writtenText n set t ++ drop (length (writtenText n set t)) out) out
+written n set t out = cond (isDone (writeChecks n set t (length out))) (writtenText n set t ++ drop (length (writtenText n set t)) out) out
 
--- document 01's number of a reply, 0 where the text is written, and what is returned beside it
+-- a text of m bytes as it is returned: 0 and m
+abbrev pub textReturned : ℕ → Returned
+textReturned m = record { number = 0; values = pos m ∷ [] }
+
+-- a reply as it is returned
+abbrev pub writingReturned : Writing → Returned
+writingReturned (Text m) = textReturned m
+writingReturned (Refused f) = refusedAs f
+
 abbrev pub writingNumber : Writing → ℕ
-writingNumber (Text m) = 0
-writingNumber (Refused r) = refusalNumber r
+writingNumber r = writingReturned r .number
 
-abbrev pub writingValues : Writing → List ℕ
-writingValues (Text m) = m ∷ []
-writingValues (Refused r) = refusalValues r
-
--- the same as one number, 0 where there is none
+-- what is returned beside the number as one number, 0 where there is none
 abbrev pub writingValue : Writing → ℕ
 writingValue (Text m) = m
-writingValue (Refused r) = refusalValue r
-
--- the reply is returned by 0 and this length
-abbrev pub Wrote : Writing → ℕ → Type 0
-Wrote r m = (writingNumber r ≡ 0) × (writingValues r ≡ m ∷ [])
+writingValue (Refused f) = refusalValue f

@@ -1,6 +1,7 @@
 // The three lines before the rules.
 use crate::line;
 use numerals::write;
+use rules::hidden::Set;
 use rules::hidden;
 ghost use mathlib.Core.Path.{_≡_};
 ghost use Prim.Native.Nat.{_+_, _≤_, _<_};
@@ -8,10 +9,11 @@ ghost use lib.ListN.{length};
 ghost use Rattle.numerals.specs.Writing.{Spliced};
 ghost use Rattle.rules.specs.Limits.{maxQuantities, maxRules};
 ghost use Rattle.lines.specs.Spelling.{listText};
-ghost use Rattle.writing.specs.Writing.{hiddenList, memberText, headText};
+ghost use Rattle.writing.specs.Writing.{hiddenList};
+ghost use Rattle.writing.specs.Inner.{memberText, headText};
 
 // How many bytes quantity `j + 1` takes in the list, where the list of the quantities before it takes so many.
-fn member_width(set: u32, j: usize, before: usize) -> usize
+fn member_width(set: Set, j: usize, before: usize) -> usize
     requires { ⌜ (j < maxQuantities) × (before ≡ length (listText (hiddenList j set))) ⌝ }
     ensures { λ r. ⌜ r ≡ length (memberText set j) ⌝ }
 {
@@ -27,7 +29,7 @@ fn member_width(set: u32, j: usize, before: usize) -> usize
 }
 
 // How many bytes the numbers of the set's quantities take, joined by commas.
-fn list_width(n: usize, set: u32) -> usize
+fn list_width(n: usize, set: Set) -> usize
     requires { ⌜ n ≤ maxQuantities ⌝ }
     ensures { λ r. ⌜ r ≡ length (listText (hiddenList n set)) ⌝ }
 {
@@ -41,7 +43,7 @@ fn list_width(n: usize, set: u32) -> usize
 }
 
 // Writes quantity `j + 1` into a list that starts at `start` and goes to `at`, where the set has it; answers the cursor after it.
-fn put_member(out: &mut [u8], start: usize, at: usize, set: u32, j: usize) -> usize
+fn put_member(out: &mut [u8], start: usize, at: usize, set: Set, j: usize) -> usize
     requires { ⌜ (j < maxQuantities) × (at ≡ start + length (listText (hiddenList j set))) ⌝ }
     requires { ⌜ at + length (memberText set j) ≤ length (now out) ⌝ }
     ensures { λ r. ⌜ Spliced (now (out .entry)) at (memberText set j) r (now (out .exit)) ⌝ }
@@ -57,7 +59,7 @@ fn put_member(out: &mut [u8], start: usize, at: usize, set: u32, j: usize) -> us
 }
 
 // Writes the list; answers the cursor after it.
-fn put_list(out: &mut [u8], at: usize, n: usize, set: u32) -> usize
+fn put_list(out: &mut [u8], at: usize, n: usize, set: Set) -> usize
     requires { ⌜ (n ≤ maxQuantities) × (at + length (listText (hiddenList n set)) ≤ length (now out)) ⌝ }
     ensures { λ r. ⌜ Spliced (now (out .entry)) at (listText (hiddenList n set)) r (now (out .exit)) ⌝ }
 {
@@ -71,7 +73,7 @@ fn put_list(out: &mut [u8], at: usize, n: usize, set: u32) -> usize
 }
 
 // How many bytes the header takes.
-pub(crate) fn header_width(n: usize, set: u32, count: usize) -> usize
+pub(crate) fn header_width(n: usize, set: Set, count: usize) -> usize
     requires { ⌜ (n ≤ maxQuantities) × (count ≤ maxRules) ⌝ }
     ensures { λ r. ⌜ r ≡ length (headText n set count) ⌝ }
 {
@@ -80,7 +82,7 @@ pub(crate) fn header_width(n: usize, set: u32, count: usize) -> usize
 }
 
 // Writes the header; answers the cursor after it.
-pub(crate) fn put_header(out: &mut [u8], n: usize, set: u32, count: usize) -> usize
+pub(crate) fn put_header(out: &mut [u8], n: usize, set: Set, count: usize) -> usize
     requires { ⌜ (n ≤ maxQuantities) × (length (headText n set count) ≤ length (now out)) ⌝ }
     ensures { λ r. ⌜ Spliced (now (out .entry)) 0 (headText n set count) r (now (out .exit)) ⌝ }
 {

@@ -7,7 +7,8 @@ ghost use Prim.Native.Nat.{_+_, _≤_};
 ghost use lib.ListN.{length};
 ghost use Rattle.numerals.specs.Writing.{Spliced};
 ghost use Rattle.lines.specs.Spelling.{termText};
-ghost use Rattle.writing.specs.Writing.{countText, literalTerm, boundText, ruleValueText, ruleLineText};
+ghost use Rattle.writing.specs.Writing.{countText, literalTerm, ruleLineText};
+ghost use Rattle.writing.specs.Inner.{boundText, ruleValueText};
 
 // How many bytes a literal takes, as +1 or -12; one of 32 bits has at most 11.
 fn term_width(x: u32) -> usize

@@ -1,6 +1,7 @@
 // A table and a hidden set written as a text.
 use crate::header;
 use crate::line;
+use rules::hidden::Set;
 use rules::hidden;
 use rules::refusal;
 use rules::refusal::Refusal;
@@ -13,8 +14,9 @@ ghost use lib.ListN.{length, take};
 ghost use Rattle.places.specs.Numbering.{blockStart};
 ghost use Rattle.numerals.specs.Writing.{Spliced};
 ghost use Rattle.rules.specs.Limits.{maxQuantities};
-ghost use Rattle.writing.specs.Writing.{placeText, rulesText, Measured, MeasuredMore, writingNumber, writingValue};
-ghost use Rattle.writing.specs.Promises.{TextWritten};
+ghost use Rattle.writing.specs.Writing.{writingNumber, writingValue};
+ghost use Rattle.writing.specs.Promises.{maxLine, TextWritten};
+ghost use Rattle.writing.specs.Inner.{placeText, rulesText, Measured, MeasuredMore};
 
 pub enum Writing {
     // how many bytes were written
@@ -51,9 +53,9 @@ struct Measure {
 }
 
 impl Measure {
-    // With the word of one place more; the line of a place's rule has at most 33 bytes.
+    // With the word of one place more; the line of a place's rule has at most `maxLine` bytes.
     fn with(self, k: u32, w: i64) -> Measure
-        requires { ⌜ (k < blockStart maxQuantities) × (self .rules ≤ k) × (self .bytes ≤ 33 * k) ⌝ }
+        requires { ⌜ (k < blockStart maxQuantities) × (self .rules ≤ k) × (self .bytes ≤ maxLine * k) ⌝ }
         ensures { λ r. ⌜ MeasuredMore k w self r ⌝ }
     {
         if w < Sheet::NO_RULE {
@@ -108,7 +110,7 @@ fn put_rules(out: &mut [u8], from: usize, table: &[i64], m: u32) -> usize
 }
 
 // Writes a table over `n` quantities and a hidden set at the start of the output. Any word but the no-rule word is printed as a bound.
-pub fn write(n: usize, set: u32, table: &[i64], out: &mut [u8]) -> Writing
+pub fn write(n: usize, set: Set, table: &[i64], out: &mut [u8]) -> Writing
     ensures { λ r. ⌜ TextWritten n set (now (table .entry)) (now (out .entry)) r (now (out .exit)) ⌝ }
 {
     if !table::serves(n, table.len()) {

@@ -20,11 +20,11 @@ use Rattle.tables.proofs.Sizes.{small-square}
 use Rattle.elimination.specs.Hiding.{pairWord, loneWord}
 use Rattle.elimination.specs.Magnitude.{addLimit}
 use Rattle.elimination.specs.Choosing.{withUpper, boundedBy}
-use Rattle.elimination.specs.Promises.{Choosable}
 use Rattle.elimination.proofs.Projection.{bounded-none, bounded-more}
 use Rattle.elimination.proofs.TermWords.{lone-within, pair-within}
 use Rattle.elimination.proofs.Values.{literal-within}
 use Rattle.elimination.proofs.choose.bounded_by.Statement.{statement}
+use Rattle.elimination.specs.Inner.{Choosable}
 use Rattle.elimination.proofs.choose.bounded_by.Tie as tie
 
 -- v lowered by the literal z alone and by the literals with it from the next quantity's on up to, and without, x

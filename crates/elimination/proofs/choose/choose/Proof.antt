@@ -16,12 +16,12 @@ use Rattle.tables.specs.Meaning.{assignmentOf}
 use Rattle.elimination.specs.Hiding.{pairWord, loneWord}
 use Rattle.elimination.specs.Magnitude.{addLimit}
 use Rattle.elimination.specs.Choosing.{boundedBy, chosen, choice}
-use Rattle.elimination.specs.Promises.{Ready, Valued}
 use Rattle.elimination.proofs.Feasible.{choice-chosen}
 use Rattle.elimination.proofs.Projection.{bounded-within}
 use Rattle.elimination.proofs.TermWords.{lone-within, pair-within}
 use Rattle.elimination.proofs.Values.{literal-within, zero-less, zero-less-word}
 use Rattle.elimination.proofs.choose.choose.Statement.{statement}
+use Rattle.elimination.specs.Inner.{Valued, Ready}
 use Rattle.elimination.proofs.choose.choose.Tie as tie
 
 -- u lowered by every rule of the literal z of quantity j + 1 with a later one, and alone

@@ -13,11 +13,11 @@ use Rattle.places.specs.Numbering.{blockStart}
 use Rattle.places.proofs.Numbering.{blockStart-suc, blockStart-mono}
 use Rattle.tables.proofs.Sizes.{small-square}
 use Rattle.elimination.specs.Hiding.{loneWord, bareBelow, paired}
-use Rattle.elimination.specs.Promises.{Addable}
 use Rattle.elimination.proofs.Rows.{table-adds, Gathered, gathered}
 use Rattle.elimination.proofs.BareSums.{contradicts-rows}
 use Rattle.elimination.proofs.Blocks.{one-plus, one-minus, paired-rows}
 use Rattle.elimination.proofs.pair.pair.Statement.{statement}
+use Rattle.elimination.specs.Inner.{Addable}
 use Rattle.elimination.proofs.pair.pair.Tie as tie
 
 mul-gather : tie.Need-mul-gather

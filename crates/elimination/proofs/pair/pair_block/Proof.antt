@@ -7,10 +7,10 @@ use denote.Ref.{now}
 use borrow.Author.Needs.{needs}
 use Rattle.integers.proofs.Parts.{word-value, held-value}
 use Rattle.words.specs.Change.{wordAt}
-use Rattle.elimination.specs.Rows.{noneHeld}
 use Rattle.elimination.proofs.Addable.{adds-held, none-tells}
 use Rattle.elimination.proofs.Blocks.{block-idle}
 use Rattle.elimination.proofs.pair.pair_block.Statement.{statement}
+use Rattle.elimination.specs.Inner.{noneHeld}
 use Rattle.elimination.proofs.pair.pair_block.Tie as tie
 
 mul-y : tie.Need-mul-y

@@ -10,8 +10,8 @@ use borrow.Author.Needs.{needs}
 use Rattle.integers.proofs.Parts.{held-value}
 use Rattle.words.specs.Change.{change, startingAt}
 use Rattle.words.proofs.Change.{starting-none, starting-more}
-use Rattle.elimination.specs.Rows.{gathering}
 use Rattle.elimination.proofs.row.gather.Statement.{statement}
+use Rattle.elimination.specs.Inner.{gathering}
 use Rattle.elimination.proofs.row.gather.Tie as tie
 
 abbrev Inv-loop : tie.InvT-loop

@@ -1,7 +1,7 @@
 -- `word::are_none` meets its contract: the tests are the definition's. Assumes nothing.
-use Rattle.elimination.specs.Rows.{noneHeld}
 use Rattle.elimination.proofs.Addable.{held-rule}
 use Rattle.elimination.proofs.word.are_none.Statement.{statement}
+use Rattle.elimination.specs.Inner.{noneHeld}
 use Rattle.elimination.proofs.word.are_none.Tie as tie
 
 returns : tie.Need-returns

@@ -3,81 +3,76 @@ use mathlib.Core.Path.{sym, _∙_}
 use borrow.Author.Needs.{needs}
 use borrow.Author.Tests.{not-true, not-false}
 use Rattle.integers.proofs.Parts.{held-value}
-use Rattle.keys.proofs.Checking.{limit-test, key-size, key-short, key-set, key-words, key-passes}
+use Rattle.keys.proofs.Checking.{lent-limit, key-lent, key-set, key-words, key-passes}
 use Rattle.keys.proofs.key.check.Statement.{statement}
 use Rattle.keys.proofs.key.check.Tie as tie
 
-serves-requires : tie.Need-serves-requires
-serves-requires c κs = search needs
+lent-requires : tie.Need-lent-requires
+lent-requires c κs = search needs
+
+enum-told : tie.Need-enum-told
+enum-told c = search needs
+
+enum-told-2 : tie.Need-enum-told-2
+enum-told-2 c = search needs
 
 returns : tie.Need-returns
-returns c = key-size _ _ _ _ (sym (c .before .serves .ensures) ∙ not-true _ (c .if1 .taken))
-
-size-requires : tie.Need-size-requires
-size-requires c κs = search needs
-
-returns-2 : tie.Need-returns-2
-returns-2 c =
-    let size = c .before in
-    let served = size .before in
-    let yes = sym (served .before .serves .ensures) ∙ not-false _ (served .if1 .left) in
-    key-short _ _ _ _ _ yes (size .size .ensures) (c .if2 .taken)
+returns c = key-lent _ _ _ _ _ _ (c .before .before .lent .ensures) (c .enum-told2 .given .1)
 
 is-within-requires : tie.Need-is-within-requires
 is-within-requires c κs = search needs
 
-returns-3 : tie.Need-returns-3
-returns-3 c =
+returns-2 : tie.Need-returns-2
+returns-2 c =
     let within = c .before in
-    let long = within .before in
-    let size = long .before in
-    let served = size .before in
-    let yes = sym (served .before .serves .ensures) ∙ not-false _ (served .if1 .left) in
-    key-set _ _ _ _ _ yes (size .size .ensures) (long .if2 .left)
-    (sym (within .is-within .ensures .reply) ∙ not-true _ (c .if3 .taken))
+    let told = within .before in
+    key-set _ _ _ _ (sym (told .before .before .lent .ensures) ∙ told .enum-told .given .1)
+    (sym (within .is-within .ensures .reply) ∙ not-true _ (c .if1 .taken))
 
 bound-limit-requires : tie.Need-bound-limit-requires
 bound-limit-requires c κs = search needs
 
+size-requires : tie.Need-size-requires
+size-requires c κs = search needs
+
 is-table-in-requires : tie.Need-is-table-in-requires
 is-table-in-requires c κs = search needs
+
+returns-3 : tie.Need-returns-3
+returns-3 c =
+    let table = c .before in
+    let size = table .before in
+    let limit = size .before in
+    let told = limit .before .before .before in
+    let lent = sym (told .before .before .lent .ensures) ∙ told .enum-told .given .1 in
+    key-words _ _ _ _ lent
+    (lent-limit _ _ _ _ _ _ _ _ lent (size .size .ensures) (held-value (limit .bound-limit .ok) ∙ limit .bound-limit .ensures) (table .is-table-in .ensures)
+    ∙ not-true _ (c .if2 .taken))
 
 returns-4 : tie.Need-returns-4
 returns-4 c =
     let table = c .before in
-    let limit = table .before in
-    let long = limit .before .before .before in
-    let size = long .before in
-    let served = size .before in
-    let yes = sym (served .before .serves .ensures) ∙ not-false _ (served .if1 .left) in
-    key-words _ _ _ _ _ yes (size .size .ensures) (long .if2 .left)
-    (limit-test _ _ _ _ _ _ _ yes (size .size .ensures) (held-value (limit .bound-limit .ok) ∙ limit .bound-limit .ensures) (table .is-table-in .ensures) ∙ not-true _ (c .if4 .taken))
-
-returns-5 : tie.Need-returns-5
-returns-5 c =
-    let table = c .before in
-    let limit = table .before in
+    let size = table .before in
+    let limit = size .before in
     let set = limit .before in
-    let within = set .before in
-    let long = within .before in
-    let size = long .before in
-    let served = size .before in
-    let yes = sym (served .before .serves .ensures) ∙ not-false _ (served .if1 .left) in
-    key-passes _ _ _ _ _ yes (size .size .ensures) (long .if2 .left)
-    (sym (within .is-within .ensures .reply) ∙ not-false _ (set .if3 .left))
-    (limit-test _ _ _ _ _ _ _ yes (size .size .ensures) (held-value (limit .bound-limit .ok) ∙ limit .bound-limit .ensures) (table .is-table-in .ensures) ∙ not-false _ (c .if4 .left))
+    let told = set .before .before in
+    let lent = sym (told .before .before .lent .ensures) ∙ told .enum-told .given .1 in
+    key-passes _ _ _ _ lent (sym (set .before .is-within .ensures .reply) ∙ not-false _ (set .if1 .left))
+    (lent-limit _ _ _ _ _ _ _ _ lent (size .size .ensures) (held-value (limit .bound-limit .ok) ∙ limit .bound-limit .ensures) (table .is-table-in .ensures)
+    ∙ not-false _ (c .if2 .left))
 
 pub check-spec : {M : Type 1} → statement M
 check-spec =
     tie.close
     (tie.spec
-    serves-requires
+    lent-requires
+    enum-told
+    enum-told-2
     returns
-    size-requires
-    returns-2
     is-within-requires
-    returns-3
+    returns-2
     bound-limit-requires
+    size-requires
     is-table-in-requires
-    returns-4
-    returns-5)
+    returns-3
+    returns-4)

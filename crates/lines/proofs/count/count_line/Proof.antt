@@ -9,12 +9,13 @@ use denote.Ref.{now}
 use borrow.Author.Needs.{needs}
 use borrow.Author.Tests.{not-true, not-false}
 use Rattle.numerals.specs.declared.byte.Kind.the-variants.{LineEnd}
-use Rattle.numerals.specs.Parsing.{parsed, andThen, startsWith, kindAt}
-use Rattle.numerals.proofs.Keys.{kind-else, kind-read, kind-inside, starts-length}
+use Rattle.numerals.specs.Parsing.{parsed, andThen, startsWith}
+use Rattle.numerals.proofs.Keys.{kindAt, kind-else, kind-read, kind-inside, starts-length}
 use Rattle.numerals.proofs.Numerals.{NumeralFound, numeral-found, numeral-none}
 use Rattle.lines.specs.declared.answer.Answer.the-variants.{Count}
 use Rattle.lines.specs.Lines.{ended, countJudged}
 use Rattle.lines.specs.Answers.{countAnswer}
+use Rattle.lines.proofs.Answered.{count-answered}
 use Rattle.lines.proofs.Ends.{ended-here, ended-not}
 use Rattle.lines.proofs.Counts.{formAnswer, count-unkeyed, count-keyed, count-malformed, count-low, count-high, count-inside}
 use Rattle.lines.proofs.count.count_line.Statement.{statement}
@@ -28,9 +29,9 @@ malformed-requires c κs = search needs
 
 returns : tie.Need-returns
 returns c = let k = c .before .before in let a = k .before .before .before .args in
-    c .malformed .ensures
+    count-answered _ _ _ (c .malformed .ensures
     ∙ sym (count-unkeyed (now (a .s)) (a .least) (a .most) (a .line) (now (a .key)) (drop (a .at) (now (a .s)))
-    (sym (k .has-key .ensures) ∙ not-true (k .has-key .result) (c .before .if1 .taken)))
+    (sym (k .has-key .ensures) ∙ not-true (k .has-key .result) (c .before .if1 .taken))))
 
 -- the key is there
 keyed : (c : tie.Else1) → let a = c .before .before .before .before .args in startsWith (now (a .key)) (drop (a .at) (now (a .s))) ≡ true
@@ -55,10 +56,10 @@ malformed-requires-2 c κs = search needs
 returns-2 : tie.Need-returns-2
 unfolding andThen
 returns-2 c = let n = c .before .before .before in let a = n .before .before .before .before .before .args in
-    c .malformed2 .ensures
+    count-answered _ _ _ (c .malformed2 .ensures
     ∙ sym (count-keyed (now (a .s)) (a .least) (a .most) (a .line) (now (a .key)) (a .at) (keyed (n .before))
     ∙ rw (numeral-none (now (a .s)) (a .at + length (now (a .key))) (sym (n .numeral-at .ensures) ∙ c .before .enum-told .given .1))
-    (count-malformed (now (a .s)) (a .least) (a .most) (a .line)))
+    (count-malformed (now (a .s)) (a .least) (a .most) (a .line))))
 
 byte-at-requires : tie.Need-byte-at-requires
 byte-at-requires c κs = search needs
@@ -98,11 +99,11 @@ malformed-requires-3 c κs = search needs
 
 returns-3 : tie.Need-returns-3
 returns-3 c = let k = c .before .before in let g = k .before .before .before in let a = start g .args in
-    c .malformed3 .ensures
+    count-answered _ _ _ (c .malformed3 .ensures
     ∙ sym (numbered g
     ∙ rw (ended-not (found g .value) (drop (g .got .given .0 .1 .0) (now (a .s)))
     (λ e. kind-else LineEnd (k .kind-of .result) (c .before .match2 .keys2) (kind-is k ∙ e)))
-    (count-malformed (now (a .s)) (a .least) (a .most) (a .line)))
+    (count-malformed (now (a .s)) (a .least) (a .most) (a .line))))
 
 -- the line ends after the number
 line-end : (c : tie.After-enum-told2) → let g = c .before .before .before .before .before in let a = start g .args in
@@ -127,18 +128,18 @@ out-of-limit-requires c κs = search needs
 
 returns-4 : tie.Need-returns-4
 returns-4 c = let e = c .before .before in let g = e .before .before .before .before .before in let st = start g in let a = st .args in
-    c .out-of-limit .ensures
+    count-answered _ _ _ (c .out-of-limit .ensures
     ∙ sym (read e ∙ count-low (now (a .s)) (a .least) (a .most) (a .line) (found g .value) _ (st .pre .0)
-    (omega (arith, found g .told, c .before .if2 .taken)))
+    (omega (arith, found g .told, c .before .if2 .taken))))
 
 out-of-limit-requires-2 : tie.Need-out-of-limit-requires-2
 out-of-limit-requires-2 c κs = search needs
 
 returns-5 : tie.Need-returns-5
 returns-5 c = let e = c .before .before .before in let g = e .before .before .before .before .before in let st = start g in let a = st .args in
-    c .out-of-limit2 .ensures
+    count-answered _ _ _ (c .out-of-limit2 .ensures
     ∙ sym (read e ∙ count-high (now (a .s)) (a .least) (a .most) (a .line) (found g .value) _ (st .pre .0) (st .pre .1)
-    (omega (arith, found g .told, c .before .before .if2 .left)) (omega (arith, found g .told, c .before .if3 .taken)))
+    (omega (arith, found g .told, c .before .before .if2 .left)) (omega (arith, found g .told, c .before .if3 .taken))))
 
 add-t14 : tie.Need-add-t14
 add-t14 c = omega (arith, end-inside (c .before .before))
@@ -146,10 +147,10 @@ add-t14 c = omega (arith, end-inside (c .before .before))
 returns-6 : tie.Need-returns-6
 returns-6 c = let e = c .before .before in let g = e .before .before .before .before .before in let st = start g in let a = st .args in
     let next : ℕ = g .got .given .0 .1 .0 in
-    sym (read e
+    count-answered _ _ _ (sym (read e
     ∙ count-inside (now (a .s)) (a .least) (a .most) (a .line) (found g .value) (next + 1) (st .pre .0) (st .pre .1)
     (omega (arith, found g .told, c .before .if2 .left)) (omega (arith, found g .told, c .if3 .left)) (omega (arith, end-inside e))
-    ∙ ap (λ (v : ℕ). Count v (next + 1)) (sym (found g .told)))
+    ∙ ap (λ (v : ℕ). Count v (next + 1)) (sym (found g .told))))
 
 pub count-line-spec : {M : Type 1} → statement M
 count-line-spec =

@@ -8,9 +8,10 @@ use denote.Ref.{now}
 use borrow.Author.Needs.{needs}
 use borrow.Author.Tests.{not-true, not-false}
 use Rattle.numerals.specs.declared.byte.Kind.the-variants.{LineEnd}
-use Rattle.numerals.specs.Parsing.{startsWith, kindAt}
-use Rattle.numerals.proofs.Keys.{kind-else, kind-read, kind-inside, starts-length}
+use Rattle.numerals.specs.Parsing.{startsWith}
+use Rattle.numerals.proofs.Keys.{kindAt, kind-else, kind-read, kind-inside, starts-length}
 use Rattle.lines.specs.Spelling.{hiddenKey}
+use Rattle.lines.proofs.Answered.{hidden-answered}
 use Rattle.lines.proofs.Members.{hidden-unkeyed, hidden-none, hidden-some}
 use Rattle.lines.proofs.hidden.hidden_line.Statement.{statement}
 use Rattle.lines.proofs.hidden.hidden_line.Tie as tie
@@ -27,9 +28,9 @@ start c = c .before .before .before .before
 
 returns : tie.Need-returns
 returns c = let k = c .before .before in let a = start k .args in
-    c .malformed .ensures
+    hidden-answered _ _ _ (c .malformed .ensures
     ∙ sym (hidden-unkeyed (a .n) (a .line) (now (a .s)) (drop (a .at) (now (a .s)))
-    (sym (k .has-key .ensures) ∙ not-true (k .has-key .result) (c .before .if1 .taken)))
+    (sym (k .has-key .ensures) ∙ not-true (k .has-key .result) (c .before .if1 .taken))))
 
 -- the key is there
 keyed : (c : tie.Else1) → let a = start (c .before) .args in startsWith hiddenKey (drop (a .at) (now (a .s))) ≡ true
@@ -59,9 +60,9 @@ listed-requires c κs = search needs
 
 returns-2 : tie.Need-returns-2
 returns-2 c = let k = c .before .before in let a = start (k .before .before .before) .args in
-    c .listed .ensures
+    hidden-answered _ _ _ (c .listed .ensures
     ∙ sym (hidden-some (a .n) (a .line) (now (a .s)) (a .at) (keyed (k .before .before))
-    (λ e. kind-else LineEnd (k .kind-of .result) (c .before .match .keys2) (kind-is k ∙ e)))
+    (λ e. kind-else LineEnd (k .kind-of .result) (c .before .match .keys2) (kind-is k ∙ e))))
 
 -- the line ends after it
 line-end : (c : tie.After-enum-told) → let a = start (c .before .before .before .before .before) .args in
@@ -74,7 +75,7 @@ add-t14 c = let a = start (c .before .before .before .before .before) .args in
 
 returns-3 : tie.Need-returns-3
 returns-3 c = let k = c .before .before in let a = start (k .before .before .before) .args in
-    sym (hidden-none (a .n) (a .line) (now (a .s)) (a .at) (keyed (k .before .before)) (line-end c))
+    hidden-answered _ _ _ (sym (hidden-none (a .n) (a .line) (now (a .s)) (a .at) (keyed (k .before .before)) (line-end c)))
 
 pub hidden-line-spec : {M : Type 1} → statement M
 hidden-line-spec =

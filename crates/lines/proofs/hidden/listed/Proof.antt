@@ -10,10 +10,9 @@ use borrow.Author.Needs.{needs}
 use borrow.Author.Tests.{not-true, not-false}
 use Rattle.numerals.specs.declared.byte.Kind.the-variants.{Comma}
 use Rattle.numerals.specs.Order.{smallerNumeral}
-use Rattle.numerals.specs.Parsing.{kindAt}
-use Rattle.numerals.proofs.Keys.{kind-else, kind-read}
+use Rattle.numerals.proofs.Keys.{kindAt, kind-else, kind-read}
 use Rattle.numerals.proofs.Numerals.{NumeralFound, numeral-found, numeral-none}
-use Rattle.lines.specs.Listed.{listAnswer}
+use Rattle.lines.specs.Inner.{listAnswer}
 use Rattle.lines.proofs.Members.{Reading, reading-first, reading-none, reading-past, reading-unordered, reading-room, reading-end, reading-more}
 use Rattle.lines.proofs.hidden.listed.Statement.{statement}
 use Rattle.lines.proofs.hidden.listed.Tie as tie

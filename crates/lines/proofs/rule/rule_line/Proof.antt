@@ -5,9 +5,11 @@ use denote.Ref.{now}
 use borrow.Author.Needs.{needs}
 use Rattle.integers.proofs.Parts.{held-value}
 use Rattle.lines.specs.declared.spelled.Spelled.{Spelled}
-use Rattle.lines.specs.declared.spelled.Spelled.the-variants.{One, Two, Nothing}
+use Rattle.lines.specs.declared.spelled.Spelled.the-variants.{One, Two, Malformed}
 use Rattle.lines.specs.Lines.{ruleLine, ruleJudged}
-use Rattle.lines.specs.Answers.{formAnswer, ruleAnswer}
+use Rattle.lines.specs.Answers.{ruleAnswer}
+use Rattle.lines.specs.Inner.{formAnswer}
+use Rattle.lines.proofs.Answered.{rule-answered}
 use Rattle.lines.proofs.RuleLimits.{form-judged}
 use Rattle.lines.proofs.rule.rule_line.Statement.{statement}
 use Rattle.lines.proofs.rule.rule_line.Tie as tie
@@ -45,22 +47,24 @@ malformed-requires c κs = search needs
 
 returns : tie.Need-returns
 returns c = let k = c .before in let f = k .before in let l = f .before .before in let v = f .form .given .0 in
-    rw (c .one .ensures, held-value {z = v .0} (k .known-told .given .0 .1), held-value {z = v .1 .1 .0} (k .known-told .given .1 .1 .0 .1))
-    (judged-form l (One (v .0) (v .1 .0) (v .1 .1 .0)) (f .form .given .1))
+    rule-answered _ _ _
+    (rw (c .one .ensures, held-value {z = v .0} (k .known-told .given .0 .1), held-value {z = v .1 .1 .0} (k .known-told .given .1 .1 .0 .1))
+    (judged-form l (One (v .0) (v .1 .0) (v .1 .1 .0)) (f .form .given .1)))
 
 returns-2 : tie.Need-returns-2
 returns-2 c = let k = c .before in let f = k .before in let l = f .before .before in let v = f .form2 .given .0 in
-    rw (
+    rule-answered _ _ _ (rw (
       c .two .ensures,
       held-value {z = v .0} (k .known-told2 .given .0 .1),
       held-value {z = v .1 .1 .0} (k .known-told2 .given .1 .1 .0 .1),
       held-value {z = v .1 .1 .1 .0} (k .known-told2 .given .1 .1 .1 .0 .1),
     )
-    (judged-form l (Two (v .0) (v .1 .0) (v .1 .1 .0) (v .1 .1 .1 .0)) (f .form2 .given .1))
+    (judged-form l (Two (v .0) (v .1 .0) (v .1 .1 .0) (v .1 .1 .1 .0)) (f .form2 .given .1)))
 
 returns-3 : tie.Need-returns-3
 unfolding formAnswer
-returns-3 c = let t = c .before in c .malformed .ensures ∙ judged-form (t .before .before) Nothing (t .enum-told .given .1)
+returns-3 c = let t = c .before in
+    rule-answered _ _ _ (c .malformed .ensures ∙ judged-form (t .before .before) Malformed (t .enum-told .given .1))
 
 pub rule-line-spec : {M : Type 1} → statement M
 rule-line-spec =

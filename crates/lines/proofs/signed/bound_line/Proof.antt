@@ -7,12 +7,12 @@ use denote.Ref.{now}
 use borrow.Author.Needs.{needs}
 use Rattle.integers.proofs.Parts.{held-value}
 use Rattle.numerals.specs.declared.byte.Kind.the-variants.{LineEnd}
-use Rattle.numerals.specs.Parsing.{andThen, kindAt}
+use Rattle.numerals.specs.Parsing.{andThen}
 use Rattle.numerals.proofs.Cursors.{cursor-here}
-use Rattle.numerals.proofs.Keys.{kind-else, kind-read, kind-inside}
+use Rattle.numerals.proofs.Keys.{kindAt, kind-else, kind-read, kind-inside}
 use Rattle.lines.specs.declared.signed.Signed.the-variants.{Read}
 use Rattle.lines.specs.Lines.{boundAt, boundLine, ended}
-use Rattle.lines.specs.Answers.{told, signedAnswer}
+use Rattle.lines.specs.Inner.{cappedInteger, signedAnswer}
 use Rattle.lines.proofs.Ends.{ended-here, ended-not}
 use Rattle.lines.proofs.SignedNumbers.{SignedFound, bound-found, bound-missing}
 use Rattle.lines.proofs.signed.bound_line.Statement.{statement}
@@ -34,7 +34,7 @@ returns c = let b = c .before .before in let a = b .before .before .args in
 
 -- the bound that is at the cursor
 bound : (c : tie.After-known-told) → let g = c .before in let a = g .before .before .before .before .args in
-    SignedFound told (now (a .s)) (boundAt (drop (a .at) (now (a .s)))) (g .got .given .0 .0) (g .got .given .0 .1 .0)
+    SignedFound cappedInteger (now (a .s)) (boundAt (drop (a .at) (now (a .s)))) (g .got .given .0 .0) (g .got .given .0 .1 .0)
 bound c = let g = c .before in let b = g .before .before in let a = b .before .before .args in
     bound-found (now (a .s)) (a .at) _ _ (sym (b .bound-at .ensures) ∙ g .got .given .1)
 

@@ -10,7 +10,7 @@ use Rattle.numerals.specs.declared.byte.Kind.the-variants.{Plus, Minus}
 use Rattle.numerals.specs.declared.read.Numeral.the-variants.{Number}
 use Rattle.numerals.specs.Parsing.{numeralOf, numeralAnswer}
 use Rattle.numerals.proofs.Keys.{kind-none}
-use Rattle.lines.specs.Answers.{termAnswer}
+use Rattle.lines.specs.Inner.{termAnswer}
 use Rattle.lines.proofs.SignedNumbers.{answer-cap, term-end, term-bare, term-plus, term-minus, term-none}
 use Rattle.lines.proofs.signed.term_at.Statement.{statement}
 use Rattle.lines.proofs.signed.term_at.Tie as tie

@@ -1,12 +1,12 @@
--- `signed::with_sign` meets its contract: a number that is told fits with either sign. Assumes nothing.
+-- `signed::with_sign` meets its contract: a number up to the cap fits with either sign. Assumes nothing.
 use mathlib.Core.Path.{_≡_, sym, ap}
 use mathlib.Core.Bool.{Bool}
 use lib.IntN.{pos, negℤ, _-ℤ_, +ℤ-idl}
 use mir.Syntax.{w64}
 use mir.Val.{toZ}
 use Rattle.integers.proofs.Parts.{word-value}
-use Rattle.lines.specs.Answers.{withSign}
-use Rattle.lines.proofs.Told.{cap-word, cap-word-neg}
+use Rattle.lines.specs.Inner.{withSign}
+use Rattle.lines.proofs.CappedIntegers.{cap-word, cap-word-neg}
 use Rattle.lines.proofs.signed.with_sign.Statement.{statement}
 use Rattle.lines.proofs.signed.with_sign.Tie as tie
 

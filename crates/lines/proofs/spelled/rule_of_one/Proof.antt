@@ -4,9 +4,8 @@ use lib.ListN.{drop}
 use denote.Ref.{now}
 use borrow.Author.Needs.{needs}
 use Rattle.integers.proofs.Parts.{word-value, held-value}
-use Rattle.numerals.specs.Parsing.{andThen}
 use Rattle.lines.specs.Lines.{boundLine}
-use Rattle.lines.specs.Answers.{spelledAnswer}
+use Rattle.lines.specs.Inner.{oneAnswer}
 use Rattle.lines.proofs.RuleForms.{one-read}
 use Rattle.lines.proofs.SignedNumbers.{bound-missing}
 use Rattle.lines.proofs.spelled.rule_of_one.Statement.{statement}
@@ -22,16 +21,14 @@ enum-told : tie.Need-enum-told
 enum-told c = search needs
 
 returns : tie.Need-returns
-unfolding spelledAnswer andThen
-returns c = let b = c .before .before in let s = now (b .before .before .args .s) in record {
-  answer = λ x e. sym (rw (bound-missing s _ (sym (b .bound-line .ensures) ∙ c .enum-told .given .1)));
-}
+unfolding oneAnswer
+returns c = let b = c .before .before in let s = now (b .before .before .args .s) in
+    sym (rw (bound-missing s _ (sym (b .bound-line .ensures) ∙ c .enum-told .given .1)))
 
 returns-2 : tie.Need-returns-2
 returns-2 c = let g = c .before in let b = g .before .before in let start = b .before .before in let a = start .args in
-    rw (word-value (start .fits .term), held-value (c .known-told .given .0 .1)) record {
-      answer = λ x. one-read (now (a .s)) (boundLine (drop (a .at) (now (a .s)))) x _ _ _ (sym (b .bound-line .ensures) ∙ g .got .given .1);
-    }
+    rw (word-value (start .fits .term), held-value (c .known-told .given .0 .1))
+    (one-read (now (a .s)) _ (boundLine (drop (a .at) (now (a .s)))) _ _ (sym (b .bound-line .ensures) ∙ g .got .given .1))
 
 pub rule-of-one-spec : {M : Type 1} → statement M
 rule-of-one-spec =

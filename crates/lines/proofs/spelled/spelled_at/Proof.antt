@@ -4,19 +4,22 @@ use mathlib.Core.Bool.{true}
 use mathlib.Core.List.{List}
 use Prim.Native.Nat.{ℕ, _+_}
 use native.Mathlib.Omega.{arith}
+use lib.IntN.{ℤ}
 use lib.ListN.{drop, length-drop}
 use lib.Seq.{drop-drop}
+use mir.Syntax.{w64}
+use mir.Val.{toZ, ofZ}
 use denote.Ref.{now}
 use borrow.Author.Needs.{needs}
 use borrow.Author.Tests.{not-true, not-false}
 use Rattle.integers.proofs.Parts.{held-value}
 use Rattle.numerals.specs.declared.byte.Kind.the-variants.{Colon}
-use Rattle.numerals.specs.Parsing.{andThen, startsWith, kindAt}
-use Rattle.numerals.proofs.Keys.{kind-else, kind-read, kind-inside, expect-key, expect-not, starts-length}
+use Rattle.numerals.specs.Parsing.{andThen, startsWith}
+use Rattle.numerals.proofs.Keys.{kindAt, kind-else, kind-read, kind-inside, expect-key, expect-not, starts-length}
 use Rattle.lines.specs.Spelling.{ruleKey, signedQuantity}
-use Rattle.lines.specs.Lines.{termOf, afterTerm, ruleLine}
-use Rattle.lines.specs.Answers.{told, spelledAnswer}
-use Rattle.lines.proofs.RuleForms.{after-colon, after-other}
+use Rattle.lines.specs.Lines.{termOf, boundLine, afterTerm, ruleLine}
+use Rattle.lines.specs.Inner.{cappedInteger, secondLine, oneAnswer, twoAnswer, spelledAnswer}
+use Rattle.lines.proofs.RuleForms.{one-after, two-after, after-colon, after-other}
 use Rattle.lines.proofs.SignedNumbers.{SignedFound, term-found, term-missing}
 use Rattle.lines.proofs.spelled.spelled_at.Statement.{statement}
 use Rattle.lines.proofs.spelled.spelled_at.Tie as tie
@@ -63,9 +66,13 @@ returns-2 c = let t = c .before .before in let k = t .before in let a = k .befor
 
 -- the first term
 first : (c : tie.After-known-told) → let g = c .before in let a = g .before .before .before .before .before .before .before .before .args in
-    SignedFound (λ x. told (signedQuantity x)) (now (a .s)) (termOf (drop (a .at + 5) (now (a .s)))) (g .got .given .0 .0) (g .got .given .0 .1 .0)
+    SignedFound (λ x. cappedInteger (signedQuantity x)) (now (a .s)) (termOf (drop (a .at + 5) (now (a .s)))) (g .got .given .0 .0) (g .got .given .0 .1 .0)
 first c = let g = c .before in let t = g .before .before in let a = t .before .before .before .before .before .before .args in
     term-found (now (a .s)) (a .at + 5) _ _ (sym (t .term-at .ensures) ∙ g .got .given .1)
+
+-- as the program has it
+first-told : (c : tie.After-known-told) → toZ w64 (ofZ w64 (c .before .got .given .0 .0)) ≡ cappedInteger (signedQuantity (first c .value))
+first-told c = held-value (c .known-told .given .0 .1) ∙ sym (first c .told)
 
 -- the line is what follows it
 after-first : (c : tie.After-known-told) → let g = c .before in let a = g .before .before .before .before .before .before .before .before .args in
@@ -95,7 +102,9 @@ kind-is c = let g = c .before .before .before in let a = g .before .before .befo
 returns-3 : tie.Need-returns-3
 returns-3 c = let o = c .before in let k = o .before in let t = k .before .before in let g = t .before in
     let a = g .before .before .before .before .before .before .before .before .args in
-    c .rule-of-two .ensures .answer (first t .value) (first t .told ∙ sym (held-value (t .known-told .given .0 .1)))
+    c .rule-of-two .ensures
+    ∙ ap (λ (x : ℤ). twoAnswer (now (a .s)) x (secondLine (drop (g .got .given .0 .1 .0) (now (a .s))))) (first-told t)
+    ∙ two-after (now (a .s)) (first t .value) (drop (g .got .given .0 .1 .0) (now (a .s)))
     ∙ ap (spelledAnswer (now (a .s))) (sym (after-first t ∙ after-other (first t .value) (drop (g .got .given .0 .1 .0) (now (a .s)))
     (λ e. kind-else Colon (k .kind-of .result) (o .match2 .keys2) (kind-is k ∙ e))))
 
@@ -116,7 +125,9 @@ rule-of-one-requires c κs = search needs
 returns-4 : tie.Need-returns-4
 returns-4 c = let o = c .before in let t = o .before .before .before .before in let g = t .before in
     let a = g .before .before .before .before .before .before .before .before .args in
-    c .rule-of-one .ensures .answer (first t .value) (first t .told ∙ sym (held-value (t .known-told .given .0 .1)))
+    c .rule-of-one .ensures
+    ∙ ap (λ (x : ℤ). oneAnswer (now (a .s)) x (boundLine (drop (g .got .given .0 .1 .0 + 1) (now (a .s))))) (first-told t)
+    ∙ one-after (now (a .s)) (first t .value) (boundLine (drop (g .got .given .0 .1 .0 + 1) (now (a .s))))
     ∙ ap (spelledAnswer (now (a .s))) (sym (after-first t ∙ after-colon (first t .value) (now (a .s)) (g .got .given .0 .1 .0) (colon-here o)))
 
 pub spelled-at-spec : {M : Type 1} → statement M

@@ -4,8 +4,7 @@ use lib.ListN.{drop}
 use denote.Ref.{now}
 use borrow.Author.Needs.{needs}
 use Rattle.numerals.specs.declared.byte.Kind.the-variants.{Digit}
-use Rattle.numerals.specs.Parsing.{kindAt}
-use Rattle.numerals.proofs.Keys.{kind-else, kind-read, digit-next, no-digit-next}
+use Rattle.numerals.proofs.Keys.{kindAt, kind-else, kind-read, digit-next, no-digit-next}
 use Rattle.numerals.proofs.byte.is_digit_at.Statement.{statement}
 use Rattle.numerals.proofs.byte.is_digit_at.Tie as tie
 

@@ -11,10 +11,9 @@ use Rattle.rules.specs.declared.paper.Paper.{Paper}
 use Rattle.rules.specs.Limits.{maxQuantities, boundLimit, maxRules, maxText}
 use Rattle.lines.specs.Spelling.{quantitiesKey, rulesKey}
 use Rattle.lines.specs.Lines.{countJudged, hiddenJudged}
-use Rattle.lines.specs.Answers.{refusalOf}
-use Rattle.lines.proofs.Found.{CountFound, HiddenFound, count-found, hidden-found, count-refused, hidden-refused}
+use Rattle.lines.proofs.Found.{CountFound, HiddenFound, LineRefused, count-found, hidden-found, count-refused, hidden-refused, refused-by}
 use Rattle.reading.proofs.Limits.{limit-told, unsigned, cap-casts, cap-value}
-use Rattle.reading.proofs.Passing.{check-promised}
+use Rattle.reading.proofs.CheckedTexts.{check-promised}
 use Rattle.reading.proofs.Checking.{size-checked, first-checked, second-checked, third-checked, rules-checked}
 use Rattle.reading.proofs.check.check.Statement.{statement}
 use Rattle.reading.proofs.check.check.Tie as tie
@@ -37,7 +36,7 @@ small c = c .before .before .before .before .before .if1 .left
 
 first : (c : tie.After-known-told) → CountFound (textOf c) quantitiesKey 1 maxQuantities 1 0 (countOf c) (secondAt c)
 first c = let l = c .before .before .before in
-    count-found (textOf c) quantitiesKey 1 maxQuantities 1 0 (countOf c) (secondAt c) (sym (l .count-line .ensures) ∙ c .before .first .given .1)
+    count-found (textOf c) quantitiesKey 1 maxQuantities 1 0 (countOf c) (secondAt c) (sym (l .count-line .ensures .reply) ∙ c .before .first .given .1)
 
 -- the hidden set and the cursor of the third line, where the second is found
 abbrev setAt : tie.After-known-told2 → ℕ
@@ -49,7 +48,7 @@ thirdAt c = c .before .second .given .0 .1 .0
 second : (c : tie.After-known-told2) → let f = c .before .before .before .before in
     HiddenFound (textOf f) (countOf f) 2 (secondAt f) (setAt c) (thirdAt c)
 second c = let l = c .before .before .before in let f = l .before in
-    hidden-found (textOf f) (countOf f) 2 (secondAt f) (setAt c) (thirdAt c) (sym (l .hidden-line .ensures) ∙ c .before .second .given .1)
+    hidden-found (textOf f) (countOf f) 2 (secondAt f) (setAt c) (thirdAt c) (sym (l .hidden-line .ensures .reply) ∙ c .before .second .given .1)
 
 -- the limit of bounds, by these two lines
 limit-is : (c : tie.After-bound-limit) → let f = c .before .before .before .before .before in
@@ -67,7 +66,7 @@ bodyAt c = c .before .third .given .0 .1 .0
 third : (c : tie.After-known-told3) → let k = c .before .before .before .before .before .before in let f = k .before .before .before .before in
     CountFound (textOf f) rulesKey 0 maxRules 3 (thirdAt k) (rulesOf c) (bodyAt c)
 third c = let l = c .before .before .before in let k = l .before .before .before in let f = k .before .before .before .before in
-    count-found (textOf f) rulesKey 0 maxRules 3 (thirdAt k) (rulesOf c) (bodyAt c) (sym (l .count-line2 .ensures) ∙ c .before .third .given .1)
+    count-found (textOf f) rulesKey 0 maxRules 3 (thirdAt k) (rulesOf c) (bodyAt c) (sym (l .count-line2 .ensures .reply) ∙ c .before .third .given .1)
 
 returns : tie.Need-returns
 returns c = let a = c .before .before .args in check-promised (a .paper) (now (a .s)) _ (size-checked (a .paper) (now (a .s)) (c .if1 .taken))
@@ -81,13 +80,19 @@ count-line-requires c κs = omega arith
 enum-known-first : tie.Need-enum-known-first
 enum-known-first c = search needs
 
-refused-requires : tie.Need-refused-requires
-refused-requires c κs = search needs
+-- the first line is refused
+first-refused : (c : tie.At-match-keys2) → let l = c .before in let s = now (l .before .before .before .before .args .s) in
+    LineRefused (countJudged quantitiesKey 1 maxQuantities 1 s) (l .count-line .result)
+first-refused c = let l = c .before in let s = now (l .before .before .before .before .args .s) in
+    count-refused s (countJudged quantitiesKey 1 maxQuantities 1 s) _ (l .count-line .ensures .reply) (c .match .keys2)
+
+refusal-requires : tie.Need-refusal-requires
+refusal-requires c κs = let f = first-refused c in (f .refusal, f .answered)
 
 returns-2 : tie.Need-returns-2
-returns-2 c = let l = c .before .before in let a = l .before .before .before .before .args in let s = now (a .s) in let g = l .count-line .result in
-    let f = count-refused s (countJudged quantitiesKey 1 maxQuantities 1 s) g (l .count-line .ensures) (c .before .match .keys2) in
-    check-promised (a .paper) s _ (c .refused .ensures ∙ first-checked (a .paper) s (l .before .before .if1 .left) (refusalOf g) (f .is))
+returns-2 c = let k = c .before in let l = k .before in let a = l .before .before .before .before .args in
+    check-promised (a .paper) (now (a .s)) _
+    (first-checked (a .paper) (now (a .s)) (l .before .before .if1 .left) _ (refused-by _ (first-refused k) (c .refusal .ensures)))
 
 hidden-line-requires : tie.Need-hidden-line-requires
 hidden-line-requires c κs = first c .high
@@ -95,14 +100,19 @@ hidden-line-requires c κs = first c .high
 enum-known-second : tie.Need-enum-known-second
 enum-known-second c = search needs
 
-refused-requires-2 : tie.Need-refused-requires-2
-refused-requires-2 c κs = search needs
+-- the second line is refused
+second-refused : (c : tie.At-match2-keys2) → let l = c .before in let f = l .before in
+    LineRefused (hiddenJudged (countOf f) 2 (drop (secondAt f) (textOf f))) (l .hidden-line .result)
+second-refused c = let l = c .before in let f = l .before in
+    hidden-refused (textOf f) (hiddenJudged (countOf f) 2 (drop (secondAt f) (textOf f))) _ (l .hidden-line .ensures .reply) (c .match2 .keys2)
+
+refusal-requires-2 : tie.Need-refusal-requires-2
+refusal-requires-2 c κs = let f = second-refused c in (f .refusal, f .answered)
 
 returns-3 : tie.Need-returns-3
-returns-3 c = let l = c .before .before in let f = l .before in let a = l .hidden-line .result in let u = drop (secondAt f) (textOf f) in
-    let r = hidden-refused (textOf f) (hiddenJudged (countOf f) 2 u) a (l .hidden-line .ensures) (c .before .match2 .keys2) in
-    check-promised (paperOf f) (textOf f) _
-    (c .refused2 .ensures ∙ second-checked (paperOf f) (textOf f) (small f) (countOf f) u (first f .is) (refusalOf a) (r .is))
+returns-3 c = let k = c .before in let f = k .before .before in
+    check-promised (paperOf f) (textOf f) _ (second-checked (paperOf f) (textOf f) (small f) (countOf f) (drop (secondAt f) (textOf f)) (first f .is) _
+    (refused-by _ (second-refused k) (c .refusal2 .ensures)))
 
 bound-limit-requires : tie.Need-bound-limit-requires
 bound-limit-requires c κs = search needs
@@ -120,15 +130,19 @@ count-line-requires-2 c κs = omega arith
 enum-known-third : tie.Need-enum-known-third
 enum-known-third c = search needs
 
-refused-requires-3 : tie.Need-refused-requires-3
-refused-requires-3 c κs = search needs
+-- the third line is refused
+third-refused : (c : tie.At-match3-keys2) → let l = c .before in let k = l .before .before .before in let f = k .before .before .before .before in
+    LineRefused (countJudged rulesKey 0 maxRules 3 (drop (thirdAt k) (textOf f))) (l .count-line2 .result)
+third-refused c = let l = c .before in let k = l .before .before .before in let f = k .before .before .before .before in
+    count-refused (textOf f) (countJudged rulesKey 0 maxRules 3 (drop (thirdAt k) (textOf f))) _ (l .count-line2 .ensures .reply) (c .match3 .keys2)
+
+refusal-requires-3 : tie.Need-refusal-requires-3
+refusal-requires-3 c κs = let f = third-refused c in (f .refusal, f .answered)
 
 returns-4 : tie.Need-returns-4
 returns-4 c = let l = c .before .before in let k = l .before .before .before in let f = k .before .before .before .before in
-    let a = l .count-line2 .result in let v = drop (thirdAt k) (textOf f) in
-    let r = count-refused (textOf f) (countJudged rulesKey 0 maxRules 3 v) a (l .count-line2 .ensures) (c .before .match3 .keys2) in
-    check-promised (paperOf f) (textOf f) _ (c .refused3 .ensures ∙ third-checked (paperOf f) (textOf f) (small f) (countOf f)
-    (drop (secondAt f) (textOf f)) (first f .is) (second k .members) v (second k .is) (refusalOf a) (r .is))
+    check-promised (paperOf f) (textOf f) _ (third-checked (paperOf f) (textOf f) (small f) (countOf f) (drop (secondAt f) (textOf f)) (first f .is)
+    (second k .members) (drop (thirdAt k) (textOf f)) (second k .is) _ (refused-by _ (third-refused (c .before)) (c .refusal3 .ensures)))
 
 check-rules-requires : tie.Need-check-rules-requires
 check-rules-requires c κs = let b = c .before .before .before .before .before in let k = b .before in let f = k .before .before .before .before in
@@ -148,18 +162,18 @@ check-spec =
     slice-aggregate-count-line
     count-line-requires
     enum-known-first
-    refused-requires
+    refusal-requires
     returns-2
     hidden-line-requires
     enum-known-second
-    refused-requires-2
+    refusal-requires-2
     returns-3
     bound-limit-requires
     cast-limit
     slice-aggregate-count-line-2
     count-line-requires-2
     enum-known-third
-    refused-requires-3
+    refusal-requires-3
     returns-4
     check-rules-requires
     returns-5)

@@ -7,9 +7,8 @@ use native.Mathlib.Omega.{arith}
 use lib.ListN.{drop}
 use denote.Ref.{now}
 use borrow.Author.Needs.{needs}
-use Rattle.lines.specs.Answers.{refusalOf}
 use Rattle.lines.specs.Lines.{ruleJudged}
-use Rattle.lines.proofs.Found.{rule-found, rule-refused}
+use Rattle.lines.proofs.Found.{LineRefused, rule-found, rule-refused, refused-by}
 use Rattle.reading.specs.Reading.{rulesFrom}
 use Rattle.reading.specs.Inner.{checkedRules}
 use Rattle.reading.proofs.RuleLines.{checked-ends, checked-goes, checked-over, checked-done}
@@ -37,15 +36,20 @@ rule-line-requires c κs = omega arith
 enum-known-got : tie.Need-enum-known-got Inv-loop μ-loop
 enum-known-got c = search needs
 
-refused-requires : tie.Need-refused-requires Inv-loop μ-loop
-refused-requires c κs = search needs
+-- the line is refused
+refused : (c : tie.At-match-keys2 Inv-loop μ-loop) → let g = c .before in let l = g .before .before in let a = l .before .before .args in
+    LineRefused (ruleJudged (a .n) (a .limit) (l .loop .i + 4) (drop (l .loop .at) (now (a .s)))) (g .rule-line .result)
+refused c = let g = c .before in let l = g .before .before in let a = l .before .before .args in
+    rule-refused (now (a .s)) (ruleJudged (a .n) (a .limit) (l .loop .i + 4) (drop (l .loop .at) (now (a .s)))) _ (g .rule-line .ensures .reply)
+    (c .match .keys2)
+
+refusal-requires : tie.Need-refusal-requires Inv-loop μ-loop
+refusal-requires c κs = let f = refused c in (f .refusal, f .answered)
 
 returns : tie.Need-returns Inv-loop μ-loop
-returns c = let g = c .before .before in let l = g .before .before in let a = l .before .before .args in let u = drop (l .loop .at) (now (a .s)) in
-    let r = g .rule-line .result in
-    let f = rule-refused (now (a .s)) (ruleJudged (a .n) (a .limit) (l .loop .i + 4) u) r (g .rule-line .ensures) (c .before .match .keys2) in
-    c .refused .ensures
-    ∙ sym (checked-ends (a .n) (a .hidden) (a .limit) (a .count) (a .body) (l .loop .i) u (refusalOf r) (g .before .loop-test .taken) (f .is))
+returns c = let k = c .before in let g = k .before in let l = g .before .before in let a = l .before .before .args in
+    sym (checked-ends (a .n) (a .hidden) (a .limit) (a .count) (a .body) (l .loop .i) (drop (l .loop .at) (now (a .s))) _ (g .before .loop-test .taken)
+    (refused-by _ (refused k) (c .refusal .ensures)))
     ∙ l .loop .inv .1
 
 add-i : tie.Need-add-i Inv-loop μ-loop
@@ -57,15 +61,15 @@ loop-less c = omega arith
 loop-again : tie.Need-loop-again Inv-loop μ-loop
 loop-again c = let k = c .before in let g = k .before .before in let l = g .before .before in let a = l .before .before .args in
     let f = rule-found (now (a .s)) (a .n) (a .limit) (l .loop .i + 4) (l .loop .at) (k .got .given .0 .0) (k .got .given .0 .1 .0)
-    (sym (g .rule-line .ensures) ∙ k .got .given .1) in (
+    (sym (g .rule-line .ensures .reply) ∙ k .got .given .1) in (
       omega arith,
       sym (checked-goes (a .n) (a .hidden) (a .limit) (a .count) (a .body) (l .loop .i) (drop (l .loop .at) (now (a .s))) (f .written)
           (drop (k .got .given .0 .1 .0) (now (a .s))) (g .before .loop-test .taken) (f .is))
           ∙ l .loop .inv .1,
     )
 
-add-t15 : tie.Need-add-t15 Inv-loop μ-loop
-add-t15 c = omega arith
+add-t16 : tie.Need-add-t16 Inv-loop μ-loop
+add-t16 c = omega arith
 
 returns-2 : tie.Need-returns-2 Inv-loop μ-loop
 returns-2 c = let l = c .before .before in let a = l .before .before .args in
@@ -89,11 +93,11 @@ check-rules-spec =
     add-rule-line
     rule-line-requires
     enum-known-got
-    refused-requires
+    refusal-requires
     returns
     add-i
     loop-less
     loop-again
-    add-t15
+    add-t16
     returns-2
     returns-3)

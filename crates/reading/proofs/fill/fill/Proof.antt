@@ -7,7 +7,6 @@ use lib.ListN.{length, drop}
 use denote.Ref.{now}
 use borrow.Author.Needs.{needs}
 use Rattle.rules.specs.Limits.{boundLimit}
-use Rattle.lines.specs.Answers.{refusalOf}
 use Rattle.lines.specs.Lines.{ruleJudged}
 use Rattle.lines.proofs.Found.{rule-found, rule-refused}
 use Rattle.tables.proofs.Sizes.{long-serves}
@@ -24,9 +23,9 @@ abbrev μ-loop : tie.MeasureT-loop
 μ-loop s n hidden count body table₀ limit at₀ i₀ table at i = count - i
 
 -- what the text has, since it passed
-opened : (c : tie.Start Inv-loop μ-loop)
-    → Opened (boundLimit (c .args .paper) (c .args .n) (c .args .hidden)) (now (c .args .s)) (c .args .n) (c .args .count) (c .args .body) (c .pre .0 .contents .written)
-opened c = passed-opened (c .args .paper) (now (c .args .s)) (c .args .n) (c .args .hidden) (c .args .count) (c .args .body) (c .pre .0)
+opened : (c : tie.Start Inv-loop μ-loop) → let a = c .args in
+    Opened (boundLimit (a .paper) (a .n) (a .hidden)) (now (a .s)) (a .n) (a .count) (a .body) (c .pre .0 .contents .written)
+opened c = let a = c .args in passed-opened (a .paper) (now (a .s)) (a .n) (a .hidden) (a .count) (a .body) (c .pre .0)
 
 -- the limit that the loop has
 limit-is : (c : tie.After-bound-limit Inv-loop μ-loop) → let a = c .before .before .args in
@@ -69,10 +68,10 @@ same-length c = long (c .before .before .before)
 
 returns : tie.Need-returns Inv-loop μ-loop
 returns c = let g = c .before in let l = g .before .before in let e = l .before .before in let b = e .before .before in let a = b .before .before .args in
-    let u = drop (l .loop .at) (now (a .s)) in let r = g .rule-line .result in let m = unsigned (b .bound-limit .result) in
-    let f = rule-refused (now (a .s)) (ruleJudged (a .n) m (l .loop .i + 4) u) r (g .rule-line .ensures) (c .match .keys2) in
+    let u = drop (l .loop .at) (now (a .s)) in let m = unsigned (b .bound-limit .result) in
+    let f = rule-refused (now (a .s)) (ruleJudged (a .n) m (l .loop .i + 4) u) _ (g .rule-line .ensures .reply) (c .match .keys2) in
     absurd (never-stuck m (now (a .s)) (a .n) (a .count) (a .body) (e .empty .last .1 .0) (l .loop .table) (l .loop .at) (l .loop .i)
-    (l .loop .inv) (refusalOf r) (g .before .loop-test .taken) (f .is))
+    (l .loop .inv) (f .refusal) (g .before .loop-test .taken) (f .is))
 
 put-requires : tie.Need-put-requires Inv-loop μ-loop
 put-requires c κs = search needs
@@ -91,7 +90,7 @@ loop-again c = let k = c .before .before .before .before in let g = k .before .b
     (k .got .given .0 .0) (k .got .given .0 .1 .0) (c .before .put .result) (c .before .put .last .1 .0) (o .told) (g .before .loop-test .taken)
     (long-serves (a .n) (length (l .loop .table)) (o .some) (o .most) (omega (arith, long l, s .pre .1)))
     (rule-found (now (a .s)) (a .n) m (l .loop .i + 4) (l .loop .at) (k .got .given .0 .0) (k .got .given .0 .1 .0)
-    (sym (g .rule-line .ensures) ∙ k .got .given .1))
+    (sym (g .rule-line .ensures .reply) ∙ k .got .given .1))
     (c .before .put .ensures) (c .before .put .kept .1 .0)
 
 same-length-2 : tie.Need-same-length-2 Inv-loop μ-loop

@@ -5,8 +5,8 @@ use denote.Ref.{now}
 use borrow.Author.Needs.{needs}
 use Rattle.rules.specs.declared.paper.Paper.the-variants.{Sheet}
 use Rattle.reading.specs.Meaning.{Passes}
-use Rattle.reading.proofs.Passing.{checked-passes}
-use Rattle.reading.proofs.Replying.{read-refused, room, read-short, read-done}
+use Rattle.reading.proofs.CheckedTexts.{checked-passes}
+use Rattle.reading.proofs.ReadTexts.{read-refused, room, read-short, read-done}
 use Rattle.reading.proofs.read.read.Statement.{statement}
 use Rattle.reading.proofs.read.read.Tie as tie
 

@@ -4,6 +4,7 @@ use native.Mathlib.Omega.{arith}
 use lib.Seq.{length-take-le}
 use denote.Ref.{now}
 use borrow.Author.Needs.{needs}
+use Rattle.rules.specs.declared.paper.Paper.the-variants.{Sheet}
 use Rattle.reports.proofs.Refusals.{refusal-length}
 use Rattle.reports.proofs.Reports.{printed, report-refused}
 use Rattle.reports.proofs.Readings.{table-read, sheet-table, report-table, text-fails}
@@ -45,7 +46,7 @@ put-refusal-requires c κs =
     let r = g .before .before .before in
     let s = r .before .before .before .before in
     let f = text-fails (r .read .ensures) (g .reading2 .given .1) (omega arith) in
-    omega (arith, refusal-length (now (s .args .text)) (g .reading2 .given .0 .0) f)
+    omega (arith, refusal-length Sheet (now (s .args .text)) (g .reading2 .given .0 .0) f)
 
 returns : tie.Need-returns
 returns c =

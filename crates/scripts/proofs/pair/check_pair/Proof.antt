@@ -2,17 +2,18 @@
 use mathlib.Core.Path.{_≡_, sym, _∙_}
 use denote.Ref.{now}
 use borrow.Author.Needs.{needs}
+use Rattle.rules.specs.declared.paper.Paper.the-variants.{Sheet, Script}
 use Rattle.reading.specs.declared.check.Checked.the-variants.{Passed}
 use Rattle.reading.specs.Reading.{checkText, checkedOf}
-use Rattle.scripts.specs.Marking.{checkedPair}
 use Rattle.scripts.proofs.Promised.{passed-range}
 use Rattle.scripts.proofs.pair.check_pair.Statement.{statement}
 use Rattle.scripts.proofs.pair.check_pair.Tie as tie
+use Rattle.scripts.specs.Inner.{checkedPair}
 
 -- the sheet's text passed
 sheet-passed : (c : tie.After-quantities)
     → let g = c .quantities .given .0 in
-    checkedOf (checkText (now (c .before .before .before .before .before .args .sheet))) ≡ Passed (g .0) (g .1 .0) (g .1 .1 .0) (g .1 .1 .1 .0)
+    checkedOf (checkText Sheet (now (c .before .before .before .before .before .args .sheet))) ≡ Passed (g .0) (g .1 .0) (g .1 .1 .0) (g .1 .1 .1 .0)
 sheet-passed c = sym (c .before .before .check .ensures .reply) ∙ c .quantities .given .1
 
 -- the sheet's contents known, before the script's are
@@ -22,7 +23,7 @@ sheetKnown c = c .before .before .before .before
 -- the script's text passed
 script-passed : (c : tie.After-script-n)
     → let g = c .script-n .given .0 in
-    checkedOf (checkText (now (sheetKnown c .before .before .before .before .before .args .script))) ≡ Passed (g .0) (g .1 .0) (g .1 .1 .0) (g .1 .1 .1 .0)
+    checkedOf (checkText Script (now (sheetKnown c .before .before .before .before .before .args .script))) ≡ Passed (g .0) (g .1 .0) (g .1 .1 .0) (g .1 .1 .1 .0)
 script-passed c = sym (c .before .before .check2 .ensures .reply) ∙ c .script-n .given .1
 
 check-requires : tie.Need-check-requires
@@ -44,7 +45,7 @@ enum-known-script-n : tie.Need-enum-known-script-n
 enum-known-script-n c = search needs
 
 check-fit-requires : tie.Need-check-fit-requires
-check-fit-requires c κs = let q = sheetKnown (c .before) in passed-range (q .before .before .check .ensures) (q .quantities .given .1)
+check-fit-requires c κs = let q = sheetKnown (c .before) in passed-range Sheet (q .before .before .check .ensures) (q .quantities .given .1)
 
 enum-known-refusal-3 : tie.Need-enum-known-refusal-3
 enum-known-refusal-3 c = search needs

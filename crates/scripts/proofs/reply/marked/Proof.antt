@@ -1,9 +1,9 @@
 -- `reply::marked` meets its contract. Assumes nothing.
 use mathlib.Core.Path.{sym, ap}
 use borrow.Author.Needs.{needs}
-use Rattle.scripts.specs.Replies.{markedTexts}
 use Rattle.scripts.proofs.reply.marked.Statement.{statement}
 use Rattle.scripts.proofs.reply.marked.Tie as tie
+use Rattle.scripts.specs.Inner.{markedTexts}
 
 enum-known-marking : tie.Need-enum-known-marking
 enum-known-marking c = search needs

@@ -1,15 +1,13 @@
 -- `room::check_room` meets its contract: each test is the definition's, and twice a table's size is small. Assumes nothing.
-use mathlib.Core.Path.{_≡_, refl, sym, ap}
-use mathlib.Core.Logic.{inl, inr}
+use mathlib.Core.Path.{_≡_}
 use Prim.Native.Nat.{_*_}
 use mir.Syntax.{w64}
 use mir.Val.{Fits}
 use native.Mathlib.Omega.{arith}
 use borrow.Author.Needs.{needs}
 use Rattle.places.specs.Numbering.{blockStart}
-use Rattle.rules.specs.declared.refusal.Refusal.the-variants.{TooShort}
 use Rattle.tables.proofs.Sizes.{small-start, size-known}
-use Rattle.scripts.proofs.Rooms.{room-done, short-refused}
+use Rattle.scripts.proofs.Rooms.{sheet-short, script-short, workspace-short, values-short, room-roomy}
 use Rattle.scripts.proofs.room.check_room.Statement.{statement}
 use Rattle.scripts.proofs.room.check_room.Tie as tie
 
@@ -25,13 +23,13 @@ size-requires : tie.Need-size-requires
 size-requires c κs = search needs
 
 returns : tie.Need-returns
-returns c = let e = size (c .before .before) in sym (short-refused _ _ _ (inl (omega arith, ap TooShort e)))
+returns c = let e = size (c .before .before) in rw e (sheet-short _ _ (omega arith))
 
 returns-2 : tie.Need-returns-2
 returns-2 c =
     let f = c .before .before in
     let e = size (f .before .before) in
-    sym (short-refused _ _ _ (inr (inl (omega arith, omega arith, ap TooShort e))))
+    rw e (script-short _ _ (omega arith) (omega arith))
 
 mul-if3 : tie.Need-mul-if3
 mul-if3 c = double-fits (c .before .before .before .before)
@@ -44,7 +42,7 @@ returns-3 c =
     let g = c .before .before in
     let f = g .before .before in
     let e = size (f .before .before) in
-    sym (short-refused _ _ _ (inr (inr (inl (omega arith, omega arith, omega arith, rw e)))))
+    rw e (workspace-short _ _ (omega arith) (omega arith) (omega arith))
 
 returns-4 : tie.Need-returns-4
 returns-4 c =
@@ -52,7 +50,7 @@ returns-4 c =
     let g = h .before .before in
     let f = g .before .before in
     let e = size (f .before .before) in
-    sym (short-refused _ _ _ (inr (inr (inr (omega arith, omega arith, omega arith, c .if4 .taken, refl)))))
+    values-short _ _ (omega arith) (omega arith) (omega arith) (c .if4 .taken)
 
 returns-5 : tie.Need-returns-5
 returns-5 c =
@@ -60,7 +58,7 @@ returns-5 c =
     let g = h .before .before in
     let f = g .before .before in
     let e = size (f .before .before) in
-    sym (room-done _ _ (record { sheet-room = omega arith; script-room = omega arith; workspace-room = omega arith; values-room = c .if4 .left }))
+    room-roomy _ _ (record { sheet-room = omega arith; script-room = omega arith; workspace-room = omega arith; values-room = c .if4 .left })
 
 pub check-room-spec : {M : Type 1} → statement M
 check-room-spec =

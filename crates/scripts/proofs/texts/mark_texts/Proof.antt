@@ -42,17 +42,17 @@ abbrev sheetFilled : tie.After-size → tie.After-fill
 sheetFilled c = c .before .before .before .before .before
 
 -- the sheet's table, filled, is not shorter than its size
-sheet-front : (c : tie.After-size) → c .size .result ≤ length (sheetFilled c .fill .last .1 .1 .1 .1 .0)
+sheet-front : (c : tie.After-size) → c .size .result ≤ length (sheetFilled c .fill .last .1 .1 .1 .1 .1 .1 .0)
 sheet-front c =
     let f = sheetFilled c in
     let p = passed (f .before .before .before) in
-    omega (arith, passed-size p (c .size .ensures), p .room .sheet-room, f .fill .kept .1 .1 .1 .1 .0)
+    omega (arith, passed-size p (c .size .ensures), p .room .sheet-room, f .fill .kept .1 .1 .1 .1 .1 .1 .0)
 
 -- nor is the script's
-script-front : (c : tie.After-size) → c .size .result ≤ length (c .before .before .fill2 .last .1 .1 .1 .1 .0)
+script-front : (c : tie.After-size) → c .size .result ≤ length (c .before .before .fill2 .last .1 .1 .1 .1 .1 .1 .0)
 script-front c =
     let p = passed (sheetFilled c .before .before .before) in
-    omega (arith, passed-size p (c .size .ensures), p .room .script-room, c .before .before .fill2 .kept .1 .1 .1 .1 .0)
+    omega (arith, passed-size p (c .size .ensures), p .room .script-room, c .before .before .fill2 .kept .1 .1 .1 .1 .1 .1 .0)
 
 slice-reshare-prefix-mark : tie.Need-slice-reshare-prefix-mark
 slice-reshare-prefix-mark c = sheet-front c

@@ -3,6 +3,7 @@ use mathlib.Core.Path.{ap}
 use borrow.Author.Needs.{needs}
 use Rattle.places.specs.declared.Place.the-variants.{At}
 use Rattle.tables.specs.Places.{findPlace}
+use Rattle.tables.proofs.Promised.{placed}
 use Rattle.tables.proofs.place.place_of.Statement.{statement}
 use Rattle.tables.proofs.place.place_of.Tie as tie
 
@@ -23,15 +24,15 @@ enum-told c = search needs
 
 returns : tie.Need-returns
 unfolding findPlace
-returns c = rw (c .before .before .rule .given .1) (ap At (c .of-one .ensures))
+returns c = placed _ _ (rw (c .before .before .rule .given .1) (ap At (c .of-one .ensures)))
 
 returns-2 : tie.Need-returns-2
 unfolding findPlace
-returns-2 c = rw (c .before .before .rule2 .given .1) (c .of-two .ensures)
+returns-2 c = placed _ _ (rw (c .before .before .rule2 .given .1) (c .of-two .ensures))
 
 returns-3 : tie.Need-returns-3
 unfolding findPlace
-returns-3 c = rw (c .enum-told .given .1)
+returns-3 c = placed _ _ (rw (c .enum-told .given .1))
 
 pub place-of-spec : {M : Type 1} → statement M
 place-of-spec =

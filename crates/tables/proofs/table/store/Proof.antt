@@ -43,10 +43,10 @@ same-length c = search needs
 returns : tie.Need-returns
 returns c = let b = c .before .before in let m = b .before .before in
     c .before .lower .ensures
-    ∙ put-at _ _ _ _ (sym (m .before .before .before .place-of .ensures) ∙ m .before .place .given .1) (held-value (b .bound .ok) ∙ b .bound .ensures)
+    ∙ put-at _ _ _ _ (sym (m .before .before .before .place-of .ensures .reply) ∙ m .before .place .given .1) (held-value (b .bound .ok) ∙ b .bound .ensures)
 
 returns-2 : tie.Need-returns-2
-returns-2 c = put-nowhere _ _ (sym (c .before .before .place-of .ensures) ∙ c .enum-told .given .1)
+returns-2 c = put-nowhere _ _ (sym (c .before .before .place-of .ensures .reply) ∙ c .enum-told .given .1)
 
 pub store-spec : {M : Type 1} → statement M
 store-spec =

@@ -12,9 +12,9 @@ use Rattle.words.specs.Change.{change}
 use Rattle.words.proofs.Change.{change-none}
 use Rattle.places.specs.Numbering.{blockStart}
 use Rattle.rules.specs.Limits.{maxQuantities}
-use Rattle.tightening.specs.Tightening.{gatheringLone}
 use Rattle.tightening.proofs.Strengthening.{lone-below, lone-more}
 use Rattle.tightening.proofs.tighten.gather_lone.Statement.{statement}
+use Rattle.tightening.specs.Inner.{gatheringLone}
 use Rattle.tightening.proofs.tighten.gather_lone.Tie as tie
 
 abbrev Inv-loop : tie.InvT-loop

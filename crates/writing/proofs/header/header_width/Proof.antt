@@ -2,7 +2,7 @@
 use native.Mathlib.Omega.{arith}
 use borrow.Author.Needs.{needs}
 use Rattle.numerals.proofs.Decimals.{decimal-width}
-use Rattle.writing.proofs.ListTexts.{list-short}
+use Rattle.writing.proofs.Lengths.{hidden-length}
 use Rattle.writing.proofs.Texts.{head-length}
 use Rattle.writing.proofs.header.header_width.Statement.{statement}
 use Rattle.writing.proofs.header.header_width.Tie as tie
@@ -19,7 +19,7 @@ list-width-requires c κs = search needs
 add-result-2 : tie.Need-add-result-2
 add-result-2 c =
     let a = c .before .before .args in
-    omega (arith, decimal-width 1 (a .n) (omega arith), list-short (a .set) (a .n) (omega arith))
+    omega (arith, decimal-width 1 (a .n) (omega arith), hidden-length (a .n) (a .set) (omega arith))
 
 width-requires-2 : tie.Need-width-requires-2
 width-requires-2 c κs = search needs
@@ -27,7 +27,7 @@ width-requires-2 c κs = search needs
 add-result-3 : tie.Need-add-result-3
 add-result-3 c =
     let a = c .before .before .before .args in
-    omega (arith, decimal-width 1 (a .n) (omega arith), list-short (a .set) (a .n) (omega arith), decimal-width 3 (a .count) (omega arith))
+    omega (arith, decimal-width 1 (a .n) (omega arith), hidden-length (a .n) (a .set) (omega arith), decimal-width 3 (a .count) (omega arith))
 
 returns : tie.Need-returns
 returns c =

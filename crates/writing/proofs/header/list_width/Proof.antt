@@ -7,7 +7,8 @@ use native.Mathlib.Omega.{arith}
 use lib.ListN.{length}
 use Rattle.lines.specs.Spelling.{listText}
 use Rattle.writing.specs.Writing.{hiddenList}
-use Rattle.writing.proofs.ListTexts.{list-none, list-more-length, list-short, member-short}
+use Rattle.writing.proofs.ListTexts.{list-none, list-more-length, member-short}
+use Rattle.writing.proofs.Lengths.{hidden-length}
 use Rattle.writing.proofs.header.list_width.Statement.{statement}
 use Rattle.writing.proofs.header.list_width.Tie as tie
 
@@ -27,7 +28,7 @@ add-total : tie.Need-add-total Inv-loop μ-loop
 add-total c =
     let l = c .before .before in
     let s = l .before .args .set in
-    omega (arith, list-short s (l .loop .j) (omega arith), member-short s (l .loop .j) (omega arith))
+    omega (arith, hidden-length (l .loop .j) s (omega arith), member-short s (l .loop .j) (omega arith))
 
 add-j : tie.Need-add-j Inv-loop μ-loop
 add-j c = omega arith

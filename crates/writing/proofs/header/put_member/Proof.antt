@@ -10,7 +10,7 @@ use borrow.Author.Tests.{not-true, not-false}
 use Rattle.numerals.specs.Bytes.{comma}
 use Rattle.numerals.specs.Decimal.{decimal}
 use Rattle.numerals.proofs.Splices.{spliced-none, spliced-more}
-use Rattle.writing.specs.Writing.{memberText}
+use Rattle.writing.specs.Inner.{memberText}
 use Rattle.writing.proofs.ListTexts.{member-absent, member-first, member-next}
 use Rattle.writing.proofs.header.put_member.Statement.{statement}
 use Rattle.writing.proofs.header.put_member.Tie as tie

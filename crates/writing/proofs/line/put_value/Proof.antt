@@ -7,7 +7,7 @@ use denote.Ref.{now}
 use borrow.Author.Needs.{needs}
 use Rattle.integers.proofs.Parts.{held-value}
 use Rattle.numerals.proofs.Splices.{spliced-none, spliced-more}
-use Rattle.writing.specs.Writing.{boundText}
+use Rattle.writing.specs.Inner.{boundText}
 use Rattle.writing.proofs.Lines.{value-one, value-two, value-bare, value-one-length, value-two-length}
 use Rattle.writing.proofs.line.put_value.Statement.{statement}
 use Rattle.writing.proofs.line.put_value.Tie as tie

@@ -8,7 +8,7 @@ use lib.ListN.{take}
 use denote.Ref.{now}
 use borrow.Author.Needs.{needs}
 use Rattle.integers.proofs.Parts.{held-value}
-use Rattle.writing.specs.Writing.{Measured}
+use Rattle.writing.specs.Inner.{Measured}
 use Rattle.writing.proofs.Texts.{measure-none, measure-more, measure-small}
 use Rattle.writing.proofs.write.measured.Statement.{statement}
 use Rattle.writing.proofs.write.measured.Tie as tie

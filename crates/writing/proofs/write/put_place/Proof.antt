@@ -8,7 +8,8 @@ use borrow.Author.Needs.{needs}
 use Rattle.integers.proofs.Parts.{word-value}
 use Rattle.numerals.proofs.Splices.{spliced-none}
 use Rattle.tables.specs.Tables.{hasRule}
-use Rattle.writing.specs.Writing.{placeText, ruleLineText}
+use Rattle.writing.specs.Writing.{ruleLineText}
+use Rattle.writing.specs.Inner.{placeText}
 use Rattle.writing.proofs.Texts.{place-rule, place-none}
 use Rattle.writing.proofs.write.put_place.Statement.{statement}
 use Rattle.writing.proofs.write.put_place.Tie as tie

@@ -12,7 +12,7 @@ use Rattle.integers.proofs.Parts.{held-value}
 use Rattle.words.specs.Change.{wordAt}
 use Rattle.numerals.specs.Writing.{Spliced}
 use Rattle.numerals.proofs.Splices.{spliced-none, spliced-more}
-use Rattle.writing.specs.Writing.{placeText, rulesText}
+use Rattle.writing.specs.Inner.{placeText, rulesText}
 use Rattle.writing.proofs.Texts.{text-none, text-more, text-more-length, text-longer}
 use Rattle.writing.proofs.write.put_rules.Statement.{statement}
 use Rattle.writing.proofs.write.put_rules.Tie as tie

@@ -15,8 +15,9 @@ use Rattle.numerals.proofs.Splices.{spliced-more}
 use Rattle.tables.specs.Tables.{serves}
 use Rattle.tables.proofs.Sizes.{Served, serves-tells, small-start}
 use Rattle.writing.specs.Writing.{writtenText}
-use Rattle.writing.proofs.Texts.{measure-words, measure-small, head-short, written-parts, written-length, start-most}
-use Rattle.writing.proofs.Promised.{reply-size, reply-outside, reply-short, reply-text, promised-refused, promised-text}
+use Rattle.writing.proofs.Texts.{measure-words, measure-small, written-parts, written-length, start-most}
+use Rattle.writing.proofs.Lengths.{head-short}
+use Rattle.writing.proofs.Promised.{reply-tested, reply-short, reply-text, promised-refused, promised-text}
 use Rattle.writing.proofs.write.write.Statement.{statement}
 use Rattle.writing.proofs.write.write.Tie as tie
 
@@ -56,8 +57,7 @@ returns : tie.Need-returns
 returns c =
     let a = c .before .before .before .args in
     promised-refused _ _ _ _ _
-    (reply-size (a .n) (a .set) (now (a .table)) (length (now (a .out))) (sym (c .before .serves .ensures) ∙ not-true _ (c .if1 .taken)))
-    refl
+    (reply-tested (a .n) (a .set) (now (a .table)) (length (now (a .out))) (sym (c .before .serves .ensures) ∙ not-true _ (c .if1 .taken)) refl refl)
 
 is-within-requires : tie.Need-is-within-requires
 is-within-requires c κs = search needs
@@ -67,7 +67,7 @@ returns-2 c =
     let i = c .before .before in
     let a = i .before .before .before .args in
     let outside = sym (c .before .is-within .ensures .reply) ∙ not-true _ (c .if2 .taken) in
-    promised-refused _ _ _ _ _ (reply-outside (a .n) (a .set) (now (a .table)) (length (now (a .out))) (serving i) outside) refl
+    promised-refused _ _ _ _ _ (reply-tested (a .n) (a .set) (now (a .table)) (length (now (a .out))) (serving i) outside refl)
 
 size-requires : tie.Need-size-requires
 size-requires c κs = search needs
@@ -109,7 +109,6 @@ returns-3 c =
     let a = i .before .before .before .args in
     promised-refused _ _ _ _ _
     (reply-short (a .n) (a .set) (now (a .table)) (length (now (a .out))) _ (serving i) (within w) (needed h) (c .if3 .taken))
-    refl
 
 put-header-requires : tie.Need-put-header-requires
 put-header-requires c κs =

@@ -9,7 +9,9 @@ use Rattle.integers.proofs.Parts.{word-value}
 use Rattle.rules.specs.Limits.{maxQuantities}
 use Rattle.tables.specs.Tables.{hasRule}
 use Rattle.tables.proofs.Sizes.{small-start}
-use Rattle.writing.specs.Writing.{placeText, ruleLineText}
+use Rattle.writing.specs.Writing.{ruleLineText}
+use Rattle.writing.specs.Promises.{maxLine}
+use Rattle.writing.specs.Inner.{placeText}
 use Rattle.writing.proofs.Texts.{place-rule, place-none, place-short}
 use Rattle.writing.proofs.write.Measure.with.Statement.{statement}
 use Rattle.writing.proofs.write.Measure.with.Tie as tie
@@ -25,7 +27,7 @@ line c =
     place-rule (s .args .k) (holds (c .before .before)) (word-value (s .fits .w)) (c .rule-at .ensures .reply)
 
 -- which is short
-short : (c : tie.After-rule-at) → let s = c .before .before .before in length (placeText (s .args .k) (s .args .w)) ≤ 33
+short : (c : tie.After-rule-at) → let s = c .before .before .before in length (placeText (s .args .k) (s .args .w)) ≤ maxLine
 short c = let s = c .before .before .before in place-short (s .args .k) (s .args .w) (omega arith) (s .fits .w)
 
 add-t5 : tie.Need-add-t5

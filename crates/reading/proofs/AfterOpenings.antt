@@ -24,7 +24,8 @@ module _ (paper : Paper) where
       ∙ spelled d a (linesText ls ++ u) true false (f .formed) (f .within) (f .uncancelled)
 
   -- so are rules, one after the other
-  rules-passed : (n : ℕ) (qs : List ℕ) (m : ℕ) (rs more : List Written) (u : List ℕ) → AllFine n (limitAt paper (ruled n qs m rs)) (ruleLines more) → length rs + length more ≤ m
+  rules-passed : (n : ℕ) (qs : List ℕ) (m : ℕ) (rs more : List Written) (u : List ℕ)
+      → AllFine n (limitAt paper (ruled n qs m rs)) (ruleLines more) → length rs + length more ≤ m
       → goOn paper (ruled n qs m rs) (linesText (ruleLines more) ++ u) ≡ goOn paper (ruled n qs m (rs ++ more)) u
   unfolding linesText
   rules-passed n qs m rs [] u all h = rw (append-nil rs)

@@ -20,8 +20,8 @@ use Rattle.reading.proofs.Readers.{Value, value-of, some-kind}
 use Rattle.reading.proofs.Openings.{lineOf, goOn, Due, due-start, due-counted, due-headed, due-ruled}
 use Rattle.reading.proofs.Steps.{Unspelled, spelled, unspelled}
 use Rattle.reading.proofs.Ending.{allOf, sheet-lines, ended-due, ended-alone, ended-followed}
-use Rattle.reading.proofs.Telling.{Tells}
-use Rattle.reading.proofs.Reaching.{reached}
+use Rattle.reading.proofs.LinesAnswered.{Tells}
+use Rattle.reading.proofs.AfterOpenings.{reached}
 
 -- after an opening a line is due,
 record Going (paper : Paper) (o : Opening) : Type 0 where
@@ -61,7 +61,8 @@ module _ (paper : Paper) where
     outside-answer =
         let g = going paper o l due in
         let p = value-of (g .kind) l (due ∙ g .line .due) in
-        subst (λ (x : Line). WellFormed x → lineWithin (countOf o) (limitAt paper o) x ≡ false → goOn paper o (lineText x ++ v) ≡ refused (OutOfLimit (lineOf o)))
+        subst (λ (x : Line). WellFormed x → lineWithin (countOf o) (limitAt paper o) x ≡ false
+        → goOn paper o (lineText x ++ v) ≡ refused (OutOfLimit (lineOf o)))
         (p .1) (λ f e. spelled (g .line) (p .0) v false _ f e refl)
 
     cancels-answer : WellFormed l → lineWithin (countOf o) (limitAt paper o) l ≡ true → lineCancels l ≡ true

@@ -1,4 +1,4 @@
--- Integers as they are told. Assumes nothing.
+-- Integers with their magnitudes capped. Assumes nothing.
 use mathlib.Core.Path.{_≡_, refl, sym, _∙_, ap}
 use mathlib.Core.Bool.{Bool, true, false, cond}
 use Prim.Native.Nat.{ℕ, zero, suc, _≤_, _<_}
@@ -11,36 +11,36 @@ use Rattle.numerals.specs.Decimal.{cap, capped}
 use Rattle.numerals.proofs.Cases.{by-below}
 use Rattle.numerals.proofs.Values.{capped-below, capped-above, capped-exact, capped-upto}
 use Rattle.lines.specs.Spelling.{Term, signedQuantity}
-use Rattle.lines.specs.Answers.{told}
+use Rattle.lines.specs.Inner.{cappedInteger}
 
 -- a number has one magnitude with either sign
 natAbs-neg : (v : ℕ) → natAbs (negℤ (pos v)) ≡ v
 natAbs-neg zero = refl
 natAbs-neg (suc v) = refl
 
--- the magnitude of an integer as it is told is its magnitude as it is told
-pub natAbs-told : (z : ℤ) → natAbs (told z) ≡ capped (natAbs z)
-natAbs-told (pos v) = refl
-natAbs-told (negsuc v) = natAbs-neg (capped (suc v))
+-- the magnitude of a capped integer is its magnitude, capped
+pub natAbs-capped : (z : ℤ) → natAbs (cappedInteger z) ≡ capped (natAbs z)
+natAbs-capped (pos v) = refl
+natAbs-capped (negsuc v) = natAbs-neg (capped (suc v))
 
--- an integer that is told below the cap is the one told
-pub told-exact : (z : ℤ) → natAbs (told z) < cap → told z ≡ z
-told-exact (pos v) h = ap pos (capped-exact v h)
-told-exact (negsuc v) h = ap (λ (m : ℕ). negℤ (pos m)) (capped-exact (suc v) (omega (arith, natAbs-neg (capped (suc v)))))
+-- one that is below the cap is the integer itself
+pub capped-integer-exact : (z : ℤ) → natAbs (cappedInteger z) < cap → cappedInteger z ≡ z
+capped-integer-exact (pos v) h = ap pos (capped-exact v h)
+capped-integer-exact (negsuc v) h = ap (λ (m : ℕ). negℤ (pos m)) (capped-exact (suc v) (omega (arith, natAbs-neg (capped (suc v)))))
 
--- the sign of a number does not change how it is told
-pub told-neg : (v : ℕ) → told (negℤ (pos v)) ≡ negℤ (pos (capped v))
-told-neg zero = ap pos zero-told ∙ ap (λ (m : ℕ). negℤ (pos m)) (sym zero-told)
+-- the sign of a number does not change how it is capped
+pub capped-neg : (v : ℕ) → cappedInteger (negℤ (pos v)) ≡ negℤ (pos (capped v))
+capped-neg zero = ap pos zero-capped ∙ ap (λ (m : ℕ). negℤ (pos m)) (sym zero-capped)
   where
-    zero-told : capped 0 ≡ 0
-    zero-told = capped-upto 0 (omega arith)
-told-neg (suc v) = refl
+    zero-capped : capped 0 ≡ 0
+    zero-capped = capped-upto 0 (omega arith)
+capped-neg (suc v) = refl
 
--- a number above 0 is told above 0
-pub told-above : (v : ℕ) → 0 < capped (suc v)
-told-above v = by-below (suc v) cap (λ h. omega (arith, capped-below (suc v) h)) (λ h. omega (arith, capped-above (suc v) h))
+-- a number above 0 stays above 0
+pub capped-positive : (v : ℕ) → 0 < capped (suc v)
+capped-positive v = by-below (suc v) cap (λ h. omega (arith, capped-below (suc v) h)) (λ h. omega (arith, capped-above (suc v) h))
 
--- a number that is told is a word with either sign
+-- a number up to the cap is a word with either sign
 pub cap-word : (v : ℕ) → v ≤ cap → SFits w64 (pos v)
 unfolding positivePart negativePart
 cap-word v h = word-of (omega arith) (omega arith)

@@ -46,33 +46,19 @@ fn mark_after(heading: &[u8], n: usize, hidden: Set, paper: &[i64], script: &[i6
     mark(n, hidden, paper, script, &mut workspace, &mut values);
 }
 
-// 1: n outside 1 to 32, and a table shorter than 2n².
+// 1: n outside 1 to 32, where the tables have 2n² words all the same, and a table shorter than that. Words past those of a table are not looked at.
 fn sizes() {
     let table = [Sheet::NO_RULE; TABLE];
     let short = [Sheet::NO_RULE; TABLE - 1];
     mark_after(b"tables marked: n 0", 0, 0, &table, &table);
-    one_too_many();
+    let large = [Sheet::NO_RULE; 2178];
+    mark_after(b"n 33", 33, 0, &large, &large);
     mark_after(b"n 3, a sheet of 17 words", 3, 0, &short, &table);
     mark_after(b"n 3, a script of 17 words", 3, 0, &table, &short);
     mark_after(b"n 3, two tables of 18 words", 3, 0, &table, &table);
     let paper = [3, Sheet::NO_RULE, 1_000_000_001];
     let script = [3, Sheet::NO_RULE, -5_000_000_001, -5_000_000_001];
-    mark_after(
-        b"n 1, tables with words past their own, which nobody looks at",
-        1,
-        0,
-        &paper,
-        &script,
-    );
-}
-
-// 1: n 33, though all is lent that it would need.
-fn one_too_many() {
-    let table = [Sheet::NO_RULE; 2178];
-    let mut workspace = [0; 4356];
-    let mut values = [7; 33];
-    sheet::head(b"n 33");
-    mark(33, 0, &table, &table, &mut workspace, &mut values);
+    mark_after(b"n 1, tables of 3 and 4 words", 1, 0, &paper, &script);
 }
 
 // 6: the workspace, then the assignment.

@@ -10,7 +10,6 @@ pub(crate) fn run() {
     lent();
     several_short();
     other_papers();
-    read_before_lent();
 }
 
 // Marks a script against sheet A with what is lent, and prints the reply.
@@ -62,8 +61,10 @@ fn lent() {
     mark_lent(b"an assignment of 2 words", equal, 18, 18, 36, 2);
 }
 
-// 6: the sheet's table before the script's, the workspace, the assignment, and all of them before 7, for the script has another n.
+// 6: the sheet's table before the script's, the workspace, the assignment, and all of them before 7, for the script has another n; but a refusal of its text
+// comes first.
 fn several_short() {
+    mark_lent(b"an empty script and 0, 0, 0 and 0 words", b"", 0, 0, 0, 0);
     let other = b"quantities=2\nhidden=2\nrules=0\n";
     mark_lent(
         b"a script of 2 quantities and 0, 0, 0 and 0 words",
@@ -103,9 +104,4 @@ fn other_papers() {
         b"a script that names 2",
         b"quantities=3\nhidden=2\nrules=1\nrule=+1-2:0\n",
     );
-}
-
-// A refusal of the script's text before 6.
-fn read_before_lent() {
-    mark_lent(b"an empty script and 0, 0, 0 and 0 words", b"", 0, 0, 0, 0);
 }

@@ -1,5 +1,5 @@
-//! The stored cases: in each folder of tests/mark a sheet, a script, either of which may be missing, and what *mark* prints;
-//! and the sample sheets, whose keys *key* prints.
+//! The stored cases: in each folder of tests/mark a sheet, a script, either of which may be missing, and what *mark* prints; in
+//! each of tests/key a sheet and what *key* prints; and the sample sheets, whose keys *key* prints.
 
 use super::answer::{judged, Kind};
 use super::program::Acornsled;
@@ -14,6 +14,9 @@ pub fn all(printer: &dyn Printer, command: &Acornsled) -> Result<Vec<Kind>, Stri
     for folder in listed(&root.join("tests/mark"))? {
         kinds.push(marked(command, &folder).map_err(|e| format!("{}: {e}", folder.display()))?);
     }
+    for folder in listed(&root.join("tests/key"))? {
+        kinds.push(keyed(command, &folder).map_err(|e| format!("{}: {e}", folder.display()))?);
+    }
     for path in listed(&root.join("sheets"))?.iter().filter(|path| path.is_file()) {
         let text = fs::read(path).map_err(|e| format!("{}: {e}", path.display()))?;
         let said = command.key_of_file(&text)?;
@@ -27,6 +30,11 @@ fn marked(command: &Acornsled, folder: &Path) -> Result<Kind, String> {
     let printed = fs::read(folder.join("stdout")).map_err(|e| format!("stdout: {e}"))?;
     let unread = ["sheet", "script"].iter().any(|name| fs::read(folder.join(name)).is_err());
     judged(&printed, &command.mark_in(folder)?, unread)
+}
+
+fn keyed(command: &Acornsled, folder: &Path) -> Result<Kind, String> {
+    let read = |name| fs::read(folder.join(name)).map_err(|e| format!("{name}: {e}"));
+    judged(&read("stdout")?, &command.key_of_file(&read("sheet")?)?, false)
 }
 
 /// What a folder has, in the order of the names. That it has nothing is a failure, for nothing would be judged.

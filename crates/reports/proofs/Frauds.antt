@@ -20,7 +20,7 @@ use Rattle.scripts.specs.Replies.{textNumber, isTextMarked, textCounts}
 use Rattle.reports.specs.Reports.{keyReport}
 use Rattle.reports.specs.Marks.{integersText, valuesText, markText}
 use Rattle.reports.specs.Promises.{KeyPrinted, MarkPrinted}
-use Rattle.reports.proofs.Marks.{later-more-length, integers-length, values-length}
+use Rattle.reports.proofs.MarkTexts.{later-more-length, integers-length, values-length}
 use Rattle.reports.proofs.Cases.{KeyCase, KeyPasses, shownLine, sheetA, wide, halvedBelow, oneHalf, seenLate, unpaired}
 use Rattle.reports.proofs.Starred.{starred-pass}
 use Rattle.reports.proofs.Shown.{sumRule, wide-loose}

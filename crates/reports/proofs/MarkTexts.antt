@@ -46,7 +46,7 @@ use Rattle.reports.specs.Marks.{
   paperName,
   refusedMarkText,
 }
-use Rattle.reports.proofs.Refusals.{refusal-parts, refusal-width}
+use Rattle.reports.proofs.RefusalLengths.{refusal-parts, refusal-width}
 
 -- ---- a line of a key and a word
 

@@ -36,8 +36,8 @@ use Rattle.scripts.specs.Promises.{MarkedInOwnRoom}
 use Rattle.scripts.proofs.Sheets.{FineTable, FineSheet, fine-table, key-bounds}
 use Rattle.reports.specs.Marks.{verdictKey, wordText, shownText, verdictName, carriedText, verdictText, refusedMarkText, markText}
 use Rattle.reports.specs.Promises.{MarkPrinted}
-use Rattle.reports.proofs.Refusals.{refused-line}
-use Rattle.reports.proofs.Marks.{word-length, values-short, shown-length, broken-short, key-words, verdict-length, refused-short}
+use Rattle.reports.proofs.RefusalLengths.{refused-line}
+use Rattle.reports.proofs.MarkTexts.{word-length, values-short, shown-length, broken-short, key-words, verdict-length, refused-short}
 
 -- the bytes of the output that *mark* lends, `ROOM`: the proof of `print_mark` finds no room where that is less
 abbrev markRoom : ℕ
@@ -91,10 +91,10 @@ refusal-line sheet script lent OfBoth f h = omega (arith, pair-line (h .of-sheet
 -- ---- room for what is printed, and the contract
 
 -- the script of two accepted texts fits the sheet, and the assignment has words enough
-accepted-matches : {sheet script : List ℕ} {lent : Lengths} (t : AcceptedPair sheet script lent) → Matches (t .of-sheet) (t .of-script)
+pub accepted-matches : {sheet script : List ℕ} {lent : Lengths} (t : AcceptedPair sheet script lent) → Matches (t .of-sheet) (t .of-script)
 accepted-matches t = t .met .1 .1 .1 .1 .0
 
-accepted-room : {sheet script : List ℕ} {lent : Lengths} (t : AcceptedPair sheet script lent) → t .of-sheet .count ≤ lent .values
+pub accepted-room : {sheet script : List ℕ} {lent : Lengths} (t : AcceptedPair sheet script lent) → t .of-sheet .count ≤ lent .values
 accepted-room t = t .met .1 .1 .1 .0
 
 module _ {sheet script : List ℕ} {before : List ℤ} {r : TextMarking} {values : List ℤ} (m : MarkedInOwnRoom sheet script before r values) where
@@ -138,33 +138,3 @@ module _ {sheet script : List ℕ} {before : List ℤ} {r : TextMarking} {values
   refusal-room p f e =
       let line = refusal-line sheet script (ownLengths (length before)) p f (m .judged .refused p f .0 (ap textsReturned e, ap textSubjects e)) in
       omega (arith, refused-short p f (omega (arith, line)))
-
-  -- the record of the contract, where the text printed is that of the reply
-  pub mark-printed : {out text : List ℕ} {end : ℕ} {out' : List ℕ} → length before ≡ maxQuantities → markText r values ≡ text
-      → Spliced out 0 text end out' → MarkPrinted sheet script out end out'
-  mark-printed {out} {text} {end} {out'} s e w =
-      let printed = markText r values in
-      let count : end ≡ length printed = omega (arith, w .cursor, ap length e) in
-      let bytes : out' ≡ printed ++ drop (length printed) out = rw e (w .buffer ∙ splice-start out text) in
-      let room : end ≤ length out' = omega (arith, ap length bytes, length-append printed (drop (length printed) out)) in
-      record {
-        reply = r;
-        values = values;
-        judged = rw s at (m .judged);
-        count = count;
-        bytes = bytes;
-        room = room;
-        front = sym (length-take-le end out' room);
-      }
-
--- ---- the text of a reply
-
--- of a verdict
-pub reply-marked : {n : ℕ} {v : Verdict} {r : TextMarking} (values : List ℤ) → r ≡ Marked n v → markText r values ≡ verdictText v (take n values)
-unfolding markText
-reply-marked values e = rw e
-
--- of a refusal
-pub reply-refused : {p : Subject} {f : Refusal} {r : TextMarking} (values : List ℤ) → r ≡ Refused p f → markText r values ≡ refusedMarkText p f
-unfolding markText
-reply-refused values e = rw e

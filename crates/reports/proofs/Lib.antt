@@ -1,8 +1,8 @@
 -- The laws of what the programs print: a key's text and what *key* prints; a verdict's and a refusal's lines and what *mark* prints; that what is printed tells the reply;
 -- cases of whole texts, and frauds.
-pub mod KeyTexts
 pub mod RefusalLengths
 pub mod PrintedReplies
+pub mod KeyTexts
 pub mod Reports
 pub mod TableReports
 pub mod SheetTables

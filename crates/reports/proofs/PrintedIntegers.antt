@@ -1,8 +1,8 @@
 -- The integers that *mark* prints, one for each quantity of the sheet, show a verdict as the words do of which they are the first. Assumes nothing.
-use mathlib.Core.Path.{_≡_, refl, sym, _∙_, ap, subst}
-use mathlib.Core.Bool.{Bool, true, false, cond}
+use mathlib.Core.Path.{_≡_, refl, sym, _∙_, subst}
+use mathlib.Core.Bool.{Bool, true}
 use mathlib.Core.List.{List, []}
-use mathlib.Core.Logic.{_↔_, inl, inr}
+use mathlib.Core.Logic.{inl, inr}
 use Prim.Native.Nat.{ℕ, zero, suc, _≤_, _<_}
 use native.Mathlib.Omega.{arith}
 use lib.IntN.{ℤ, pos}
@@ -13,12 +13,11 @@ use Rattle.rules.specs.declared.rule.Rule.{Rule}
 use Rattle.rules.specs.declared.rule.Rule.the-variants.{One, Two, Nothing}
 use Rattle.rules.specs.Hidden.{hiddenIn}
 use Rattle.rules.specs.Meaning.{Assignment, Meets, names}
-use Rattle.rules.specs.Steps.{trivialRule}
-use Rattle.tables.specs.Meaning.{Satisfies, Solutions, joined, assignmentOf}
+use Rattle.tables.specs.Meaning.{Solutions, joined, assignmentOf}
 use Rattle.tables.proofs.Meanings.{Agree, in-range, satisfies-agree, allows-visible}
 use Rattle.tables.proofs.Tests.{clash}
 use Rattle.tables.proofs.Values.{meets-named}
-use Rattle.marking.specs.Meaning.{FirstBroken, LooseRule, BreaksCarried, LooseShown, TightShown, VerdictMeans}
+use Rattle.marking.specs.Meaning.{FirstBroken, LooseRule, BreaksCarried, LooseShown, TightShown}
 use Rattle.reading.specs.Texts.{Contents}
 use Rattle.reading.specs.Meaning.{rulesOf}
 use Rattle.reading.specs.Promises.{TableRead}

@@ -31,14 +31,18 @@ use Rattle.scripts.specs.declared.reply.Subject.the-variants.{Sheet, Script, Bo
 use Rattle.scripts.specs.declared.reply.TextMarking.{TextMarking}
 use Rattle.scripts.specs.declared.reply.TextMarking.the-variants.{Marked, Refused}
 use Rattle.scripts.specs.Replies.{textNumber, isTextMarked}
-use Rattle.reports.specs.Refusals.{refusedKey, lineKey, numberText, whereText, refusalText}
+use Rattle.reports.specs.Refusals.{refusedKey, lineKey, whereText, refusalText}
 use Rattle.reports.specs.Marks.{wordText, verdictText, paperKey, paperName, refusedMarkText, markText}
 
 -- ---- the number and the line
 
--- numbers and what follows them, of one answer
-parsed-same : {v w : ℕ} {t u : List ℕ} → parsed v t ≡ parsed w u → (v ≡ w) × (t ≡ u)
+-- what is read and what follows it, of one answer
+pub parsed-same : {A : Type 0} {v w : A} {t u : List ℕ} → parsed v t ≡ parsed w u → (v ≡ w) × (t ≡ u)
 parsed-same e = (cc, cc)
+
+-- what follows the same bytes
+pub rest-same : (s t u : List ℕ) → s ++ t ≡ s ++ u → t ≡ u
+rest-same s t u e = sym (drop-append-seam s t) ∙ ap (drop (length s)) e ∙ drop-append-seam s u
 
 -- a line of a key and a number is read as the number
 number-read : (key : List ℕ) (v : ℕ) (u : List ℕ) → countLine key (countText key v ++ u) ≡ parsed v u
@@ -101,8 +105,7 @@ paper-read Both u = refl
 paper-same : (p q : Subject) (t u : List ℕ) → paperLine p ++ t ≡ paperLine q ++ u → (p ≡ q) × (t ≡ u)
 paper-same p q t u e =
     let d = sym (paper-read p t) ∙ ap (λ (s : List ℕ). lettered (getD s 7 0)) e ∙ paper-read q u in
-    let k = length (paperLine p) in
-    (d, sym (drop-append-seam (paperLine p) t) ∙ ap (drop k) (e ∙ ap (λ (r : Subject). paperLine r ++ u) (sym d)) ∙ drop-append-seam (paperLine p) u)
+    (d, rest-same (paperLine p) t u (e ∙ ap (λ (r : Subject). paperLine r ++ u) (sym d)))
 
 -- a refusal's text tells the paper, and the refusal where its number is not 6
 pub refused-same : (p q : Subject) (f g : Refusal) → (refusalNumber f ≡ 6 → ⊥) → refusedMarkText p f ≡ refusedMarkText q g → (p ≡ q) × (f ≡ g)

@@ -1,5 +1,6 @@
--- Frauds of *key*: for a named sheet each breaks what is promised of the text printed, by its count and its bytes alone. And one of *mark*: a line of the
--- assignment with fewer integers than the sheet has quantities. Assumes nothing.
+-- Frauds of *key*: for a named sheet each breaks what is promised of the text printed, by its count and its bytes alone; and texts that are no key's by what they
+-- mean. And two of *mark*: equal printed for a script that is too wide, refuted by what that name means; and a line of the assignment with fewer integers than the
+-- sheet has quantities. Assumes nothing.
 use mathlib.Core.Path.{_≡_, sym, _∙_, refl, ap}
 use mathlib.Core.Bool.{false}
 use mathlib.Core.List.{List, [], _∷_, _++_}
@@ -13,17 +14,43 @@ use borrow.Author.Tests.{eqb-false}
 use Rattle.words.specs.Change.{wordAt}
 use Rattle.numerals.specs.Bytes.{bytes}
 use Rattle.numerals.proofs.Decimals.{signed-some}
-use Rattle.marking.specs.declared.verdict.Verdict.the-variants.{Loose}
+use Rattle.rules.specs.declared.paper.Paper.the-variants.{Sheet, Script}
+use Rattle.rules.specs.Hidden.{hiddenIn, setOf, isListed}
+use Rattle.rules.specs.Meaning.{names}
+use Rattle.rules.specs.Steps.{ruleOf}
+use Rattle.tables.specs.Meaning.{SheetAllows, NoneNames, assignmentOf}
+use Rattle.tables.proofs.Tests.{clash}
+use Rattle.lines.specs.Spelling.{writtenRule, writtenRules}
+use Rattle.reading.specs.Meaning.{rulesOf}
+use Rattle.reading.proofs.Frauds.{contentsA}
+use Rattle.marking.specs.declared.verdict.Verdict.the-variants.{Equal, Loose}
 use Rattle.scripts.specs.declared.reply.TextMarking.{TextMarking}
 use Rattle.scripts.specs.declared.reply.TextMarking.the-variants.{Marked}
 use Rattle.scripts.specs.Replies.{textNumber, isTextMarked, textCounts}
+use Rattle.scripts.proofs.Judging.{accepted-reads}
 use Rattle.reports.specs.Reports.{keyReport}
-use Rattle.reports.specs.Marks.{integersText, valuesText, markText}
+use Rattle.reports.specs.Marks.{wordText, integersText, valuesText, verdictText, markText}
+use Rattle.reports.specs.Meaning.{KeyText}
 use Rattle.reports.specs.Promises.{KeyPrinted, MarkPrinted}
-use Rattle.reports.proofs.Marks.{later-more-length, integers-length, values-length}
-use Rattle.reports.proofs.Cases.{KeyCase, KeyPasses, shownLine, sheetA, wide, halvedBelow, oneHalf, seenLate, unpaired}
+use Rattle.reports.proofs.PrintedReplies.{verdict-same}
+use Rattle.reports.proofs.KeyTexts.{key-told}
+use Rattle.reports.proofs.MarkTexts.{later-more-length, integers-length, values-length}
+use Rattle.reports.proofs.Cases.{KeyCase, KeyPasses, shownLine, sheetA, wide, narrow, halvedBelow, oneHalf, seenLate, unpaired}
 use Rattle.reports.proofs.Starred.{starred-pass}
-use Rattle.reports.proofs.Shown.{sumRule, wide-loose}
+use Rattle.reports.proofs.Shown.{
+  sheet-writes,
+  contentsWide,
+  wide-writes,
+  contentsNarrow,
+  narrow-writes,
+  zero-zero-six,
+  sumRule,
+  wide-loose,
+  wide-shown,
+  three-one-zero,
+  narrow-shown,
+  one-reading,
+}
 
 -- what is printed for a case that passes, so many bytes as are counted, is no list that differs from the case's at some byte
 unlike : (c : KeyCase) → KeyPasses c → {out : List ℕ} {end : ℕ} {out' s : List ℕ} (k : ℕ) → KeyPrinted (bytes (c .sheet)) out end out'
@@ -66,11 +93,46 @@ module _ (out : List ℕ) (end : ℕ) (out' : List ℕ) where
   pub lone-kept : KeyPrinted (bytes (unpaired .sheet)) out end out' → take end out' ≡ bytes (unpaired .sheet) → ⊥
   lone-kept p e = unlike unpaired (starred-pass .1 .1 .1 .1 .1 .1 .1 .1 .1 .1 .0) 28 p e refl
 
--- ---- too few integers, for sheet A and the script +1:3
+-- ---- texts that are no key of sheet A
+
+-- +1:3 alone: it allows 0 and 6, which nothing completes
+pub too-wide : KeyText contentsA (bytes (wide .script)) → ⊥
+unfolding setOf
+too-wide k =
+    let e = key-told k (contentsWide .written) (accepted-reads Script wide-writes .spelled .text) in
+    wide-shown .incomplete (k .meaning (assignmentOf zero-zero-six) .0 (rw e (wide-shown .allowed)))
+
+-- +1:2, +1+3:5: it forbids 3 and 0, which 1 completes
+pub too-narrow : KeyText contentsA (bytes (narrow .script)) → ⊥
+unfolding setOf
+too-narrow k =
+    let e = key-told k (contentsNarrow .written) (accepted-reads Script narrow-writes .spelled .text) in
+    let allowed : SheetAllows (hiddenIn 2) (rulesOf contentsA) (assignmentOf three-one-zero) = record { hiddens = assignmentOf three-one-zero; complete = narrow-shown .complete } in
+    narrow-shown .forbidden (rw e at (k .meaning (assignmentOf three-one-zero) .1 allowed))
+
+-- the sheet's own rules: they name quantity 2, which is hidden
+pub hidden-named : KeyText contentsA (bytes (sheetA .sheet)) → ⊥
+unfolding isListed writtenRule ruleOf names
+hidden-named k =
+    let e = key-told k (contentsA .written) (accepted-reads Sheet sheet-writes .spelled .text) in
+    let none : NoneNames 2 (writtenRules (contentsA .written)) = rw e at (k .visible 2 refl) in
+    clash refl (none .0)
+
+-- ---- *mark*, for sheet A and the script +1:3
 
 -- what is printed for them
 abbrev WidePrinted : List ℕ → ℕ → List ℕ → Type 0
 WidePrinted out end out' = MarkPrinted (bytes (wide .sheet)) (bytes (wide .script)) out end out'
+
+-- equal: the sheet would allow 0 and 6 as the script does
+pub equal-printed : {out : List ℕ} {end : ℕ} {out' : List ℕ} → WidePrinted out end out' → take end out' ≡ bytes "verdict=equal\n" → ⊥
+unfolding setOf verdictText wordText
+equal-printed p e =
+    let t = p .accepted Equal [] e in
+    let v = p .verdict t in
+    let same = v .judged .means .demand .equal .0 (verdict-same (v .verdict) Equal (v .values) [] (sym (v .spelled) ∙ e)) in
+    let there : rulesOf (t .of-script) (assignmentOf zero-zero-six) = rw (one-reading Script wide-writes (t .script-reads)) (wide-shown .allowed) in
+    wide-shown .incomplete (rw (one-reading Sheet sheet-writes (t .sheet-reads)) at (same (assignmentOf zero-zero-six) .0 there))
 
 -- the assignment has an integer for each of the three quantities
 pub three-integers : {out : List ℕ} {end : ℕ} {out' : List ℕ} (p : WidePrinted out end out') → 3 ≤ length (p .values)

@@ -1,5 +1,6 @@
--- The text of a sheet's key: every line of it is fine, with bounds by how many quantities are hidden, and no rule of it names a hidden one. Assumes nothing.
-use mathlib.Core.Path.{_≡_, refl}
+-- The text of a sheet's key: every line of it is fine, with bounds by how many quantities are hidden, and no rule of it names a hidden one; and it tells its rules.
+-- Assumes nothing.
+use mathlib.Core.Path.{_≡_, refl, sym, _∙_, ap, ap₂}
 use mathlib.Core.Bool.{Bool, true, false, cond}
 use mathlib.Core.List.{List, [], _∷_}
 use Prim.Native.Nat.{ℕ, suc, _+_, _*_, _^_, _<_}
@@ -17,14 +18,20 @@ use Rattle.tables.specs.Tables.{hasRule}
 use Rattle.tables.specs.Meaning.{HoldsRule, ruleIn, NamesVisible, NoneNames}
 use Rattle.tables.proofs.Tests.{clash}
 use Rattle.keys.proofs.Several.{key-visible}
-use Rattle.lines.specs.Spelling.{writtenRules}
-use Rattle.reading.specs.Texts.{Contents}
+use Rattle.lines.specs.Spelling.{Written, quantities, rulesKey, lineText, writtenRules}
+use Rattle.lines.specs.Spelling.{hidden as hidden-line}
+use Rattle.lines.specs.Lines.{countLine, ruleLine}
+use Rattle.lines.proofs.Spellings.{rules-complete, rule-complete}
+use Rattle.reading.specs.Texts.{Contents, ruleLines, linesText, sheetText}
 use Rattle.reading.specs.Meaning.{Spells, contentsLimit}
+use Rattle.reading.proofs.Ending.{sheet-lines}
 use Rattle.writing.specs.Writing.{writtenOf, rulesAt, tableRules, writtenText}
 use Rattle.writing.proofs.Meanings.{written-rule, front-word}
 use Rattle.writing.proofs.Back.{spells-within}
 use Rattle.scripts.specs.Meaning.{setIn, tableIn}
 use Rattle.scripts.proofs.Sheets.{keyIn, FineSheet, key-bounds}
+use Rattle.reports.specs.Meaning.{KeyText}
+use Rattle.reports.proofs.PrintedReplies.{parsed-same, rest-same}
 
 -- ---- every line is fine
 
@@ -73,3 +80,30 @@ key-spares c s = table-spares (c .count) hidden (keyIn c) (key-visible hidden (c
   where
     hidden : ℕ → Bool
     hidden = hiddenIn (setIn c)
+
+-- ---- the text tells its rules
+
+-- lines of as many rules that are the same have the same rules
+rules-same : (rs ws : List Written) → length rs ≡ length ws → linesText (ruleLines rs) ≡ linesText (ruleLines ws) → rs ≡ ws
+unfolding linesText
+rules-same [] [] l e = refl
+rules-same [] (w ∷ ws) l e = absurd (omega arith)
+rules-same (r ∷ rs) [] l e = absurd (omega arith)
+rules-same (r ∷ rs) (w ∷ ws) l e =
+    let d = parsed-same (sym (rule-complete r (linesText (ruleLines rs))) ∙ ap ruleLine e ∙ rule-complete w (linesText (ruleLines ws))) in
+    ap₂ (λ (x : Written) (xs : List Written). x ∷ xs) (d .0) (rules-same rs ws (omega arith) (d .1))
+
+-- so texts of one header that are the same do
+written-same : (n : ℕ) (qs : List ℕ) (rs ws : List Written)
+    → sheetText (record { count = n; hiddens = qs; written = rs }) ≡ sheetText (record { count = n; hiddens = qs; written = ws }) → rs ≡ ws
+unfolding linesText
+written-same n qs rs ws e =
+    let whole = sym (sheet-lines (record { count = n; hiddens = qs; written = rs })) ∙ e ∙ sheet-lines (record { count = n; hiddens = qs; written = ws }) in
+    let after = rest-same (lineText (hidden-line qs)) _ _ (rest-same (lineText (quantities n)) _ _ whole) in
+    let d = parsed-same (sym (rules-complete (length rs) (linesText (ruleLines rs))) ∙ ap (countLine rulesKey) after ∙ rules-complete (length ws) (linesText (ruleLines ws))) in
+    rules-same rs ws (d .0) (d .1)
+
+-- the rules of a key's text are those that it spells
+pub key-told : {c : Contents} {s : List ℕ} (k : KeyText c s) (ws : List Written) → s ≡ sheetText (record { count = c .count; hiddens = c .hiddens; written = ws })
+    → k .key ≡ ws
+key-told {c} k ws e = written-same (c .count) (c .hiddens) (k .key) ws (sym (k .spelled .text) ∙ e)

@@ -1,12 +1,15 @@
--- The laws of what the programs print: the text of a sheet's key and the report; a verdict's and a refusal's lines; and cases of whole texts.
+-- The laws of what the programs print: a key's text and what *key* prints; a verdict's and a refusal's lines and what *mark* prints; that what is printed tells the reply;
+-- cases of whole texts, and frauds.
+pub mod RefusalLengths
+pub mod PrintedReplies
 pub mod KeyTexts
-pub mod Refusals
-pub mod Telling
 pub mod Reports
-pub mod Calls
-pub mod Readings
-pub mod Marks
-pub mod Markings
+pub mod TableReports
+pub mod SheetTables
+pub mod MarkTexts
+pub mod MarkRoom
+pub mod PrintedIntegers
+pub mod MarkPromised
 pub mod Cases
 pub mod Shown
 pub mod Starred

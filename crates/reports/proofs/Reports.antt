@@ -2,7 +2,7 @@
 -- Assumes nothing.
 use mathlib.Core.Path.{_≡_, refl, sym, _∙_, ap, subst}
 use mathlib.Core.Bool.{Bool, true, false, cond}
-use mathlib.Core.List.{List, [], _++_}
+use mathlib.Core.List.{List, _++_}
 use mathlib.Core.Logic.{_↔_, _⊎_, inl, inr, ⊎-elim}
 use Prim.Native.Nat.{ℕ, _≤_}
 use native.Mathlib.Omega.{arith}
@@ -30,8 +30,8 @@ use Rattle.reading.proofs.Means.{Means, text-means, reads-check}
 use Rattle.scripts.specs.Meaning.{setIn, tableIn}
 use Rattle.scripts.proofs.Sheets.{keyIn, FineSheet, fine-table, sheet-refuted, sheet-unmet, sheet-met, key-length, key-meaning, key-text-length, key-text-short}
 use Rattle.reports.proofs.KeyTexts.{key-spells, key-spares}
-use Rattle.reports.proofs.Refusals.{refusal-width}
-use Rattle.reports.proofs.Telling.{refusal-same, fails-number, text-unlike}
+use Rattle.reports.proofs.RefusalLengths.{refusal-width}
+use Rattle.reports.proofs.PrintedReplies.{refusal-same, fails-number, text-unlike}
 
 -- ---- of a table
 

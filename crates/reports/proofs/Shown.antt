@@ -139,7 +139,7 @@ narrow-shown = record {
 -- ---- so *mark* may print both
 
 -- a text is read in one way
-one-reading : (paper : Paper) {s : List ℕ} {c d : Contents} → checkText paper s ≡ accepted c [] → Reads paper s d → d ≡ c
+pub one-reading : (paper : Paper) {s : List ℕ} {c d : Contents} → checkText paper s ≡ accepted c [] → Reads paper s d → d ≡ c
 one-reading paper {s} {c} {d} e r = reads-same paper s d c r (accepted-reads paper e)
 
 -- (0, 0, 6) for the script that is too wide

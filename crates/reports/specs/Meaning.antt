@@ -1,9 +1,10 @@
--- What is meant by what *key* prints: the text of a sheet's key, and that no integers satisfy a sheet. No step of the program is in it.
+-- What is meant by what the programs print: the text of a sheet's key, that no integers satisfy a sheet, the text of a verdict. No step of a program is in it.
 use mathlib.Core.Path.{_≡_}
 use mathlib.Core.Bool.{true}
 use mathlib.Core.Logic.{_↔_}
 use mathlib.Core.List.{List}
 use Prim.Native.Nat.{ℕ, _*_, _^_, _≤_}
+use lib.IntN.{ℤ}
 use lib.ListN.{length}
 use Rattle.rules.specs.Hidden.{hiddenIn, setOf, isListed}
 use Rattle.rules.specs.declared.paper.Paper.the-variants.{Sheet}
@@ -13,6 +14,14 @@ use Rattle.tables.specs.Meaning.{MeetsAll, NoneNames, SheetAllows}
 use Rattle.lines.specs.Spelling.{Written, writtenRules}
 use Rattle.reading.specs.Texts.{Contents}
 use Rattle.reading.specs.Meaning.{Spells, contentsLimit, Reads, rulesOf}
+use Rattle.marking.specs.declared.verdict.Verdict.{Verdict}
+use Rattle.marking.specs.Verdicts.{verdictNumber, carriedRule}
+use Rattle.scripts.specs.declared.room.Lengths.{Lengths}
+use Rattle.scripts.specs.Meaning.{AcceptedPair}
+use Rattle.scripts.specs.Promises.{PairJudged}
+use Rattle.reports.specs.Marks.{verdictText}
+
+-- ---- *key*
 
 -- the text is that of a key of these contents, with document 01's words of it
 pub record KeyText (c : Contents) (text : List ℕ) : Type 0 where
@@ -32,3 +41,13 @@ pub record Unmet (s : List ℕ) : Type 0 where
   pub contents : Contents
   pub reads : Reads Sheet s contents
   pub none : (σ : Assignment) → rulesOf contents σ → ⊥
+
+-- ---- *mark*
+
+-- the text is that of a verdict on two accepted texts: its name, the rule beside it and the integers listed, one for each quantity of the sheet, mean what demand 3 says
+pub record VerdictText {sheet script : List ℕ} {lent : Lengths} (t : AcceptedPair sheet script lent) (text : List ℕ) : Type 0 where
+  pub verdict : Verdict
+  pub values : List ℤ
+  pub size : length values ≡ t .of-sheet .count
+  pub spelled : text ≡ verdictText verdict values
+  pub judged : PairJudged t (verdictNumber verdict) (carriedRule verdict) values

@@ -10,15 +10,18 @@ use Rattle.rules.specs.declared.refusal.Refusal.{Refusal}
 use Rattle.rules.specs.declared.refusal.Refusal.the-variants.{NoAssignment}
 use Rattle.rules.specs.Limits.{maxQuantities}
 use Rattle.rules.specs.Meaning.{Assignment}
+use Rattle.rules.specs.Refusal.{refusalNumber}
+use Rattle.marking.specs.declared.verdict.Verdict.{Verdict}
 use Rattle.reading.specs.Texts.{Contents}
 use Rattle.reading.specs.Meaning.{Reads, rulesOf, FailsFor}
+use Rattle.scripts.specs.declared.reply.Subject.{Subject}
 use Rattle.scripts.specs.declared.reply.TextMarking.{TextMarking}
 use Rattle.scripts.specs.Promises.{TextsJudged}
-use Rattle.scripts.specs.Meaning.{ownLengths}
+use Rattle.scripts.specs.Meaning.{AcceptedPair, RefusedPair, ownLengths}
 use Rattle.reports.specs.Refusals.{refusalText}
-use Rattle.reports.specs.Marks.{markText}
+use Rattle.reports.specs.Marks.{verdictText, refusedMarkText, markText}
 use Rattle.reports.specs.Reports.{keyReport}
-use Rattle.reports.specs.Meaning.{KeyText, Unmet}
+use Rattle.reports.specs.Meaning.{KeyText, Unmet, VerdictText}
 
 -- what is printed for the text s: its refusal, exactly when it is refused; 5, exactly when it is accepted and no integers satisfy its rules; and the text
 -- of its key if some do
@@ -44,3 +47,10 @@ pub record MarkPrinted (sheet script out : List ℕ) (end : ℕ) (out' : List �
   -- so many bytes are there, as in `KeyPrinted`
   pub room : end ≤ length out'
   pub front : end ≡ length (take end out')
+  -- the bytes alone tell the reply: a refusal with its paper, exactly for its reasons
+  pub refused : (p : Subject) (f : Refusal) → (take end out' ≡ refusedMarkText p f) ↔ RefusedPair sheet script (ownLengths maxQuantities) p f
+  -- 5 is no reply of marking, and there is room for every sheet, so 6 does not come
+  pub never : (p : Subject) (f : Refusal) → take end out' ≡ refusedMarkText p f → ((refusalNumber f ≡ 5) → ⊥) × ((refusalNumber f ≡ 6) → ⊥)
+  -- a verdict, exactly where both texts are accepted, and what it means
+  pub accepted : (v : Verdict) (integers : List ℤ) → take end out' ≡ verdictText v integers → AcceptedPair sheet script (ownLengths maxQuantities)
+  pub verdict : (t : AcceptedPair sheet script (ownLengths maxQuantities)) → VerdictText t (take end out')

@@ -1,5 +1,6 @@
 // What the program *key* prints for a text.
 use crate::refusal;
+use crate::room;
 use keys::key;
 use reading::read;
 use reading::read::Reading;
@@ -21,8 +22,8 @@ ghost use Rattle.reports.specs.Reports.{tableReport};
 ghost use Rattle.reports.specs.Promises.{KeyPrinted};
 ghost use Rattle.reports.specs.Inner.{SheetTable};
 
-// Bytes enough for whatever is printed: 119 for a text's header, and 33 for each rule.
-pub const ROOM: usize = 119 + 33 * Sheet::MAX_RULES;
+// Bytes enough for whatever is printed.
+pub const ROOM: usize = room::HEADER + room::RULE_LINE * Sheet::MAX_RULES;
 
 // Writes the text of a table, for which there is room, at the start of the output; answers its length. The writer has nothing to refuse.
 fn print_text(n: usize, hidden: u32, table: &[i64], out: &mut [u8]) -> usize

@@ -2,3 +2,4 @@
 pub mod key;
 pub mod mark;
 mod refusal;
+mod room;

@@ -1,5 +1,6 @@
 // What the program *mark* prints for two texts.
 use crate::refusal;
+use crate::room;
 use marking::verdict::Verdict;
 use numerals::write;
 use rules::refusal::Refusal;
@@ -15,8 +16,8 @@ ghost use Rattle.numerals.specs.Writing.{Spliced};
 ghost use Rattle.reports.specs.Marks.{paperKey, wordText, integersText, valuesText, shownText, verdictText, paperName, refusedMarkText};
 ghost use Rattle.reports.specs.Promises.{MarkPrinted};
 
-// Bytes enough for whatever is printed, which is at most 726: 14 for the verdict's line, 33 for the rule's, 679 for the values'.
-pub const ROOM: usize = 1024;
+// Bytes enough for whatever is printed.
+pub const ROOM: usize = room::VERDICT_LINE + room::RULE_LINE + room::VALUES_LINE;
 
 // A line of a key and a word; answers the cursor after it.
 fn put_word(out: &mut [u8], at: usize, key: &[u8], word: &[u8]) -> usize

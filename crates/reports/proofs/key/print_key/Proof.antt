@@ -5,9 +5,9 @@ use lib.Seq.{length-take-le}
 use denote.Ref.{now}
 use borrow.Author.Needs.{needs}
 use Rattle.rules.specs.declared.paper.Paper.the-variants.{Sheet}
-use Rattle.reports.proofs.Refusals.{refusal-length}
+use Rattle.reports.proofs.RefusalLengths.{refusal-length}
 use Rattle.reports.proofs.Reports.{printed, report-refused}
-use Rattle.reports.proofs.Readings.{table-read, sheet-table, report-table, text-fails}
+use Rattle.reports.proofs.SheetTables.{table-read, sheet-table, report-table, text-fails}
 use Rattle.reports.proofs.key.print_key.Statement.{statement}
 use Rattle.reports.proofs.key.print_key.Tie as tie
 

@@ -1,7 +1,7 @@
 -- `key::print_table` meets its contract: the key's text where the call is done, its refusal where not; there is room for both. Assumes nothing.
 use native.Mathlib.Omega.{arith}
 use borrow.Author.Needs.{needs}
-use Rattle.reports.proofs.Calls.{report-room, key-serves, report-done, report-refusal}
+use Rattle.reports.proofs.TableReports.{report-room, key-serves, report-done, report-refusal}
 use Rattle.reports.proofs.key.print_table.Statement.{statement}
 use Rattle.reports.proofs.key.print_table.Tie as tie
 

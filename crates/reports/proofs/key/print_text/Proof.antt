@@ -1,6 +1,6 @@
 -- `key::print_text` meets its contract: the writer does not refuse, and its text stands at the start. Assumes nothing.
 use borrow.Author.Needs.{needs}
-use Rattle.reports.proofs.Calls.{never-refused, text-spliced}
+use Rattle.reports.proofs.TableReports.{never-refused, text-spliced}
 use Rattle.reports.proofs.key.print_text.Statement.{statement}
 use Rattle.reports.proofs.key.print_text.Tie as tie
 

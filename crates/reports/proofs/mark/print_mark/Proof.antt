@@ -1,7 +1,8 @@
 -- `mark::print_mark` meets its contract: what is printed is the reply's text, and there is room for it. Assumes nothing.
 use native.Mathlib.Omega.{arith}
 use borrow.Author.Needs.{needs}
-use Rattle.reports.proofs.Markings.{verdict-room, refusal-room, mark-printed, reply-marked, reply-refused}
+use Rattle.reports.proofs.MarkRoom.{verdict-room, refusal-room}
+use Rattle.reports.proofs.MarkPromised.{reply-marked, reply-refused, mark-printed}
 use Rattle.reports.proofs.mark.print_mark.Statement.{statement}
 use Rattle.reports.proofs.mark.print_mark.Tie as tie
 

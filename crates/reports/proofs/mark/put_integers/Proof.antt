@@ -13,7 +13,7 @@ use Rattle.words.specs.Change.{wordAt}
 use Rattle.numerals.specs.Decimal.{signedDecimal}
 use Rattle.numerals.specs.Writing.{Spliced}
 use Rattle.numerals.proofs.Splices.{spliced-none, spliced-more}
-use Rattle.reports.proofs.Marks.{laterText, later-none, later-more, later-more-length, later-longer, integers-none, integers-text, integers-length}
+use Rattle.reports.proofs.MarkTexts.{laterText, later-none, later-more, later-more-length, later-longer, integers-none, integers-text, integers-length}
 use Rattle.reports.proofs.mark.put_integers.Statement.{statement}
 use Rattle.reports.proofs.mark.put_integers.Tie as tie
 

@@ -2,7 +2,7 @@
 use native.Mathlib.Omega.{arith}
 use borrow.Author.Needs.{needs}
 use Rattle.numerals.proofs.Splices.{spliced-more}
-use Rattle.reports.proofs.Marks.{refused-text, refused-length}
+use Rattle.reports.proofs.MarkTexts.{refused-text, refused-length}
 use Rattle.reports.proofs.mark.put_refused.Statement.{statement}
 use Rattle.reports.proofs.mark.put_refused.Tie as tie
 

@@ -5,7 +5,7 @@ use denote.Ref.{now}
 use borrow.Author.Needs.{needs}
 use Rattle.numerals.proofs.Splices.{spliced-more}
 use Rattle.reports.specs.Marks.{shownText}
-use Rattle.reports.proofs.Marks.{shown-length}
+use Rattle.reports.proofs.MarkTexts.{shown-length}
 use Rattle.reports.proofs.mark.put_shown.Statement.{statement}
 use Rattle.reports.proofs.mark.put_shown.Tie as tie
 

@@ -4,7 +4,7 @@ use lib.ListN.{take}
 use denote.Ref.{now}
 use borrow.Author.Needs.{needs}
 use Rattle.numerals.proofs.Splices.{spliced-more}
-use Rattle.reports.proofs.Marks.{values-text, values-length}
+use Rattle.reports.proofs.MarkTexts.{values-text, values-length}
 use Rattle.reports.proofs.mark.put_values.Statement.{statement}
 use Rattle.reports.proofs.mark.put_values.Tie as tie
 

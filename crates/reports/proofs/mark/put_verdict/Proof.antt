@@ -8,7 +8,7 @@ use borrow.Author.Needs.{needs}
 use Rattle.numerals.specs.Bytes.{bytes}
 use Rattle.numerals.proofs.Splices.{spliced-more}
 use Rattle.reports.specs.Marks.{verdictKey, wordText}
-use Rattle.reports.proofs.Marks.{verdict-text, verdict-length}
+use Rattle.reports.proofs.MarkTexts.{verdict-text, verdict-length}
 use Rattle.reports.proofs.mark.put_verdict.Statement.{statement}
 use Rattle.reports.proofs.mark.put_verdict.Tie as tie
 

@@ -3,7 +3,7 @@ use native.Mathlib.Omega.{arith}
 use denote.Ref.{now}
 use borrow.Author.Needs.{needs}
 use Rattle.numerals.proofs.Splices.{spliced-more}
-use Rattle.reports.proofs.Marks.{word-text, word-length}
+use Rattle.reports.proofs.MarkTexts.{word-text, word-length}
 use Rattle.reports.proofs.mark.put_word.Statement.{statement}
 use Rattle.reports.proofs.mark.put_word.Tie as tie
 

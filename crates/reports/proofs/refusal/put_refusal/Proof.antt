@@ -3,7 +3,7 @@ use native.Mathlib.Omega.{arith}
 use borrow.Author.Needs.{needs}
 use Rattle.numerals.proofs.Splices.{spliced-more}
 use Rattle.reports.specs.Refusals.{refusalText}
-use Rattle.reports.proofs.Refusals.{refusal-parts}
+use Rattle.reports.proofs.RefusalLengths.{refusal-parts}
 use Rattle.reports.proofs.refusal.put_refusal.Statement.{statement}
 use Rattle.reports.proofs.refusal.put_refusal.Tie as tie
 

@@ -1,12 +1,11 @@
--- What marking two texts tells of the bytes that *mark* prints: there is room for them, and they are the contract's. Assumes nothing.
-use mathlib.Core.Path.{_≡_, refl, sym, _∙_, ap, subst}
-use mathlib.Core.List.{List, [], _∷_, _++_}
+-- How long a verdict's or a refusal's text is at most where two texts are marked, for which *mark* lends room enough. Assumes nothing.
+use mathlib.Core.Path.{_≡_, refl, ap, subst}
+use mathlib.Core.List.{List}
 use mathlib.Core.Logic.{inl, inr, ⊎-elim}
 use Prim.Native.Nat.{ℕ, _+_, _*_, _^_, _≤_, _<_}
 use native.Mathlib.Omega.{arith}
 use lib.IntN.{ℤ, pos}
-use lib.ListN.{length, take, drop, length-append}
-use lib.Seq.{length-take-le}
+use lib.ListN.{length, take}
 use Rattle.places.specs.Numbering.{blockStart}
 use Rattle.rules.specs.declared.rule.Rule.{Rule}
 use Rattle.rules.specs.declared.paper.Paper.the-variants.{Sheet, Script}
@@ -16,8 +15,6 @@ use Rattle.rules.specs.Hidden.{hiddenIn}
 use Rattle.rules.specs.Refusal.{refusalLine}
 use Rattle.rules.specs.Refusing.{RefusedBy}
 use Rattle.tables.specs.Meaning.{Solutions, WordsWithin}
-use Rattle.numerals.specs.Writing.{Spliced}
-use Rattle.numerals.proofs.Splices.{splice-start}
 use Rattle.marking.specs.declared.verdict.Verdict.{Verdict}
 use Rattle.marking.specs.declared.verdict.Verdict.the-variants.{Equal, Loose, Tight}
 use Rattle.marking.specs.Meaning.{LooseRule, TightRule, ValuesWithin}
@@ -25,6 +22,7 @@ use Rattle.reading.specs.Texts.{Contents}
 use Rattle.reading.specs.Meaning.{contentsLimit}
 use Rattle.reading.proofs.Limits.{limit-told}
 use Rattle.writing.specs.Writing.{ruleLineText}
+use Rattle.writing.specs.Promises.{maxLine}
 use Rattle.scripts.specs.declared.room.Lengths.{Lengths}
 use Rattle.scripts.specs.declared.reply.Subject.{Subject}
 use Rattle.scripts.specs.declared.reply.Subject.the-variants.{Sheet as OfSheet, Script as OfScript, Both as OfBoth}
@@ -34,39 +32,41 @@ use Rattle.scripts.specs.Replies.{textsReturned, textNumber, textRule, textSubj
 use Rattle.scripts.specs.Meaning.{setIn, tableIn, Matches, pairNeeds, AcceptedPair, RefusedPair, ownLengths}
 use Rattle.scripts.specs.Promises.{MarkedInOwnRoom}
 use Rattle.scripts.proofs.Sheets.{FineTable, FineSheet, fine-table, key-bounds}
-use Rattle.reports.specs.Marks.{verdictKey, wordText, shownText, verdictName, carriedText, verdictText, refusedMarkText, markText}
-use Rattle.reports.specs.Promises.{MarkPrinted}
-use Rattle.reports.proofs.Refusals.{refused-line}
-use Rattle.reports.proofs.Marks.{word-length, values-short, shown-length, broken-short, key-words, verdict-length, refused-short}
+use Rattle.reports.specs.Marks.{verdictKey, wordText, shownText, verdictName, carriedText, verdictText, refusedMarkText}
+use Rattle.reports.proofs.RefusalLengths.{refused-line}
+use Rattle.reports.proofs.MarkTexts.{maxValues, word-length, values-short, shown-length, broken-short, key-words, verdict-length, refused-short}
 
--- the bytes of the output that *mark* lends, `ROOM`: the proof of `print_mark` finds no room where that is less
+-- the first line of a verdict, and the bytes of the output that *mark* lends, `ROOM`: the proof of `print_mark` finds no room where that is less
+abbrev verdictLine : ℕ
+verdictLine = 14
+
 abbrev markRoom : ℕ
-markRoom = 1024
+markRoom = verdictLine + maxLine + maxValues
 
 -- ---- how long a verdict is at most
 
 -- the line of a loose verdict's rule
 loose-line : (c : Contents) → FineSheet c → {paper : Solutions} {r : Rule} → LooseRule (hiddenIn (setIn c)) (c .count) (tableIn c) paper r
-    → length (ruleLineText r) ≤ 33
+    → length (ruleLineText r) ≤ maxLine
 loose-line c s {paper} {r} =
     ⊎-elim (λ a. rw (a .1) (omega arith))
     (λ b. broken-short (contentsLimit Sheet c * 2 ^ length (c .hiddens)) (b .1) (s .most) (key-words c s) (key-bounds c s))
 
 -- the line of a tight verdict's rule
 tight-line : (c d : Contents) → FineSheet c → FineTable Script d → d .count ≡ c .count → {paper : Solutions} {r : Rule}
-    → TightRule (c .count) paper (tableIn d) r → length (ruleLineText r) ≤ 33
+    → TightRule (c .count) paper (tableIn d) r → length (ruleLineText r) ≤ maxLine
 tight-line c d s u e l =
     let small : contentsLimit Script d < 2 ^ 63 = omega (arith, limit-told Script (d .count) (setIn d) (u .most)) in
     broken-short (contentsLimit Script d) l (s .most) small
     (subst (λ (n : ℕ). WordsWithin (blockStart n) (pos (contentsLimit Script d)) (tableIn d)) e (u .bounds))
 
 -- that line and the line of an assignment in its range
-shown-short : (n : ℕ) (r : Rule) (values : List ℤ) → n ≤ maxQuantities → length (ruleLineText r) ≤ 33 → ValuesWithin n values
-    → length (shownText r (take n values)) ≤ 713
+shown-short : (n : ℕ) (r : Rule) (values : List ℤ) → n ≤ maxQuantities → length (ruleLineText r) ≤ maxLine → ValuesWithin n values
+    → length (shownText r (take n values)) ≤ maxLine + maxValues
 shown-short n r values h l f = omega (arith, shown-length r (take n values), values-short n values h f)
 
--- the first line has 14 bytes, whichever verdict it names
-first-line : (v : Verdict) → length (wordText verdictKey (verdictName v)) ≡ 14
+-- the first line is as long whichever verdict it names
+first-line : (v : Verdict) → length (wordText verdictKey (verdictName v)) ≡ verdictLine
 first-line Equal = word-length verdictKey (verdictName Equal)
 first-line (Loose r) = word-length verdictKey (verdictName (Loose r))
 first-line (Tight r) = word-length verdictKey (verdictName (Tight r))
@@ -88,13 +88,13 @@ refusal-line sheet script lent OfSheet f h = refused-line Sheet sheet f h
 refusal-line sheet script lent OfScript f h = refused-line Script script f (h .1)
 refusal-line sheet script lent OfBoth f h = omega (arith, pair-line (h .of-sheet) (h .of-script) lent f (h .fails))
 
--- ---- room for what is printed, and the contract
+-- ---- room for what is printed
 
 -- the script of two accepted texts fits the sheet, and the assignment has words enough
-accepted-matches : {sheet script : List ℕ} {lent : Lengths} (t : AcceptedPair sheet script lent) → Matches (t .of-sheet) (t .of-script)
+pub accepted-matches : {sheet script : List ℕ} {lent : Lengths} (t : AcceptedPair sheet script lent) → Matches (t .of-sheet) (t .of-script)
 accepted-matches t = t .met .1 .1 .1 .1 .0
 
-accepted-room : {sheet script : List ℕ} {lent : Lengths} (t : AcceptedPair sheet script lent) → t .of-sheet .count ≤ lent .values
+pub accepted-room : {sheet script : List ℕ} {lent : Lengths} (t : AcceptedPair sheet script lent) → t .of-sheet .count ≤ lent .values
 accepted-room t = t .met .1 .1 .1 .0
 
 module _ {sheet script : List ℕ} {before : List ℤ} {r : TextMarking} {values : List ℤ} (m : MarkedInOwnRoom sheet script before r values) where
@@ -106,8 +106,8 @@ module _ {sheet script : List ℕ} {before : List ℤ} {r : TextMarking} {values
   counted : {n : ℕ} {v : Verdict} (t : AcceptedPair sheet script (ownLengths (length before))) → r ≡ Marked n v → n ≡ t .of-sheet .count
   counted t e = let c = m .judged .counts t in let d = ap textCounts e in cc
 
-  -- what follows the first line of a verdict has at most 713 bytes
-  carried-short : (n : ℕ) (v : Verdict) → r ≡ Marked n v → length (carriedText v (take n values)) ≤ 713
+  -- what follows the first line of a verdict
+  carried-short : (n : ℕ) (v : Verdict) → r ≡ Marked n v → length (carriedText v (take n values)) ≤ maxLine + maxValues
   carried-short n Equal e = omega arith
   carried-short n (Loose rule) e =
       let t = both-accepted n (Loose rule) e in
@@ -138,33 +138,3 @@ module _ {sheet script : List ℕ} {before : List ℤ} {r : TextMarking} {values
   refusal-room p f e =
       let line = refusal-line sheet script (ownLengths (length before)) p f (m .judged .refused p f .0 (ap textsReturned e, ap textSubjects e)) in
       omega (arith, refused-short p f (omega (arith, line)))
-
-  -- the record of the contract, where the text printed is that of the reply
-  pub mark-printed : {out text : List ℕ} {end : ℕ} {out' : List ℕ} → length before ≡ maxQuantities → markText r values ≡ text
-      → Spliced out 0 text end out' → MarkPrinted sheet script out end out'
-  mark-printed {out} {text} {end} {out'} s e w =
-      let printed = markText r values in
-      let count : end ≡ length printed = omega (arith, w .cursor, ap length e) in
-      let bytes : out' ≡ printed ++ drop (length printed) out = rw e (w .buffer ∙ splice-start out text) in
-      let room : end ≤ length out' = omega (arith, ap length bytes, length-append printed (drop (length printed) out)) in
-      record {
-        reply = r;
-        values = values;
-        judged = rw s at (m .judged);
-        count = count;
-        bytes = bytes;
-        room = room;
-        front = sym (length-take-le end out' room);
-      }
-
--- ---- the text of a reply
-
--- of a verdict
-pub reply-marked : {n : ℕ} {v : Verdict} {r : TextMarking} (values : List ℤ) → r ≡ Marked n v → markText r values ≡ verdictText v (take n values)
-unfolding markText
-reply-marked values e = rw e
-
--- of a refusal
-pub reply-refused : {p : Subject} {f : Refusal} {r : TextMarking} (values : List ℤ) → r ≡ Refused p f → markText r values ≡ refusedMarkText p f
-unfolding markText
-reply-refused values e = rw e

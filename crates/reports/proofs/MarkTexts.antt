@@ -26,7 +26,8 @@ use Rattle.marking.specs.Meaning.{FirstBroken, ValuesWithin}
 use Rattle.reading.specs.Texts.{Contents}
 use Rattle.reading.specs.Meaning.{contentsLimit}
 use Rattle.writing.specs.Writing.{ruleLineText}
-use Rattle.writing.proofs.Lines.{word-short, line-short}
+use Rattle.writing.specs.Promises.{maxLine}
+use Rattle.writing.proofs.Lines.{wordWidth, word-short, line-short}
 use Rattle.scripts.specs.declared.reply.Subject.{Subject}
 use Rattle.scripts.specs.declared.reply.Subject.the-variants.{Sheet as OfSheet, Script as OfScript, Both as OfBoth}
 use Rattle.scripts.proofs.Sheets.{FineSheet, limit-most}
@@ -46,7 +47,7 @@ use Rattle.reports.specs.Marks.{
   paperName,
   refusedMarkText,
 }
-use Rattle.reports.proofs.Refusals.{refusal-parts, refusal-width}
+use Rattle.reports.proofs.RefusalLengths.{refusal-parts, refusal-width}
 
 -- ---- a line of a key and a word
 
@@ -164,12 +165,12 @@ refused-length p f = rw (refused-text p f) (simp length-append)
 
 -- ---- how long it is at most
 
--- the numeral of each of the first k words has at most 20 bytes
+-- the numerals of the first k words are those of words
 abbrev ShortWords : ℕ → List ℤ → Type 0
-ShortWords k t = (j : ℕ) → j < k → length (signedDecimal (wordAt t j)) ≤ 20
+ShortWords k t = (j : ℕ) → j < k → length (signedDecimal (wordAt t j)) ≤ wordWidth
 
--- with a comma before each they have at most 21 each
-further-short : (k : ℕ) (t : List ℤ) → ShortWords k t → length (furtherText (take k t)) ≤ 21 * k
+-- and have a comma before each
+further-short : (k : ℕ) (t : List ℤ) → ShortWords k t → length (furtherText (take k t)) ≤ (1 + wordWidth) * k
 unfolding furtherText
 further-short zero t f = omega arith
 further-short (suc k) [] f = omega arith
@@ -183,20 +184,24 @@ unfolding integersText furtherText
 integers-further [] = omega arith
 integers-further (v ∷ s) = omega arith
 
--- the line of an assignment in its range, of at most 32 quantities, has at most 680 bytes
-pub values-short : (n : ℕ) (values : List ℤ) → n ≤ maxQuantities → ValuesWithin n values → length (valuesText (take n values)) ≤ 680
+-- the line of an assignment: its key and its end, and a comma and a numeral for each quantity
+abbrev pub maxValues : ℕ
+maxValues = 8 + (1 + wordWidth) * maxQuantities
+
+-- that of one in its range is no longer
+pub values-short : (n : ℕ) (values : List ℤ) → n ≤ maxQuantities → ValuesWithin n values → length (valuesText (take n values)) ≤ maxValues
 values-short n values h f =
     let words : ShortWords n values = λ j l. word-short (wordAt values j) (within-word (omega arith) (f j l)) in
     omega (arith, values-length (take n values), integers-further (take n values), further-short n values words)
 
--- the line of a rule of a table whose bounds are words has at most 33 bytes
+-- the line of a rule of a table whose bounds are words is no longer than one of a text
 pub broken-short : {n : ℕ} {rules : List ℤ} {paper : Solutions} {r : Rule} (B : ℕ) → FirstBroken n rules paper r → n ≤ maxQuantities
-    → B < 2 ^ 63 → WordsWithin (blockStart n) (pos B) rules → length (ruleLineText r) ≤ 33
+    → B < 2 ^ 63 → WordsWithin (blockStart n) (pos B) rules → length (ruleLineText r) ≤ maxLine
 broken-short {n} {rules} {paper} {r} B f h g w =
     let k = f .place in
     let p = f .at .holds in
     let width = word-short (wordAt rules k) (within-word g (w .each k (p .inside) (p .there) (p .rule))) in
-    rw (f .is) (line-short n 20 (ruleIn rules k) h (ruleAt-hasPlace n k (wordAt rules k) (p .inside)) (rw (ruleAt-bound k (wordAt rules k)) width))
+    rw (f .is) (line-short n wordWidth (ruleIn rules k) h (ruleAt-hasPlace n k (wordAt rules k) (p .inside)) (rw (ruleAt-bound k (wordAt rules k)) width))
 
 -- the bounds of a sheet's key are words
 pub key-words : (c : Contents) → FineSheet c → contentsLimit Sheet c * 2 ^ length (c .hiddens) < 2 ^ 63

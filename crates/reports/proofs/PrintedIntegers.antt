@@ -20,7 +20,7 @@ use Rattle.tables.proofs.Values.{meets-named}
 use Rattle.marking.specs.Meaning.{FirstBroken, LooseRule, BreaksCarried, LooseShown, TightShown}
 use Rattle.reading.specs.Texts.{Contents}
 use Rattle.reading.specs.Meaning.{rulesOf}
-use Rattle.reading.specs.Promises.{TableRead}
+use Rattle.reading.specs.Promises.{TableHolds}
 use Rattle.scripts.specs.declared.room.Lengths.{Lengths}
 use Rattle.scripts.specs.Meaning.{setIn, tableIn, AcceptedPair}
 use Rattle.scripts.specs.Promises.{PairJudged}
@@ -31,7 +31,7 @@ abbrev ByFirst : ℕ → Solutions → Type 0
 ByFirst n paper = (σ τ : Assignment) → Agree n σ τ → paper σ → paper τ
 
 -- as the rules of contents are
-contents-first : (c : Contents) → TableRead c [] (tableIn c) → ByFirst (c .count) (rulesOf c)
+contents-first : (c : Contents) → TableHolds c (tableIn c) → ByFirst (c .count) (rulesOf c)
 contents-first c r σ τ a m = r .meaning τ .0 (satisfies-agree (c .count) (tableIn c) σ τ a (r .meaning σ .1 m))
 
 -- a rule names quantities of 1 to n alone

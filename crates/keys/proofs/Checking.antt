@@ -157,7 +157,7 @@ module _ (n set : ℕ) (t : List ℤ) (w : ℕ) where
     pub key-passes : setWithin n set ≡ true → boundsInLimit Sheet n set t ≡ true → KeyChecked n set t w Done
     key-passes f i = record {
       stands = λ g c. absurd (refused-done (sym c));
-      passes = λ c. let l = lent-tells n (length t) w e in (l .0, l .1, (f, bounds Sheet n set t .0 i));
+      passes = λ c. let l = lent-tells n (length t) w e in (l .0, (l .1, ((f, bounds Sheet n set t .0 i), tt)));
     }
 
 -- ---- and of the assignment call
@@ -185,5 +185,5 @@ module _ (n : ℕ) (t : List ℤ) (w v : ℕ) where
     pub assignment-passes : n ≤ v → boundsInLimit Sheet n 0 t ≡ true → AssignmentChecked n t w v Done
     assignment-passes k i = record {
       stands = λ g c. absurd (refused-done (sym c));
-      passes = λ c. let l = lent-tells n (length t) w e in (l .0, l .1, k, bounds Sheet n 0 t .0 i);
+      passes = λ c. let l = lent-tells n (length t) w e in (l .0, (l .1, (k, (bounds Sheet n 0 t .0 i, tt))));
     }

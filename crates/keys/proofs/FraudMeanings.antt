@@ -3,7 +3,7 @@
 use mathlib.Core.Path.{_≡_, refl}
 use mathlib.Core.List.{List}
 use mathlib.Core.Logic.{_↔_}
-use Prim.Native.Nat.{ℕ, _≤_}
+use Prim.Native.Nat.{ℕ}
 use native.Mathlib.Omega.{arith}
 use lib.IntN.{ℤ, pos, negsuc, negℤ, _+ℤ_}
 use lib.ListN.{length}
@@ -13,16 +13,15 @@ use Rattle.rules.specs.Hidden.{hiddenIn}
 use Rattle.rules.specs.Meaning.{Assignment, literalValue}
 use Rattle.rules.specs.Steps.{ruleOf, halvedOf}
 use Rattle.tables.specs.declared.reply.Reply.{Reply}
-use Rattle.rules.specs.declared.paper.Paper.the-variants.{Sheet}
-use Rattle.places.specs.Numbering.{blockStart}
 use Rattle.tables.specs.Tables.{emptyTable, cleared, ruleReply}
-use Rattle.tables.specs.Meaning.{TableSized, HoldsRule, Satisfies, Satisfiable, Unsatisfiable, SheetAllows, NamesVisible, joined}
+use Rattle.tables.specs.Meaning.{HoldsRule, Satisfies, Satisfiable, Unsatisfiable, SheetAllows, NamesVisible, joined}
 use Rattle.tables.proofs.Tests.{clash}
 use Rattle.tables.proofs.Lists.{AllAccepted, empty-satisfied, tableOf-length, tableOf-meaning}
 use Rattle.tables.proofs.SheetA.{rules, of-one-and-three, of-two, completes, allowed, not-allowed}
 use Rattle.tables.specs.Replies.{replyNumber}
 use Rattle.elimination.specs.Hiding.{eliminated}
-use Rattle.keys.specs.Meaning.{BoundsWithin, NumbersWithin}
+use Rattle.rules.specs.Refusing.{passed, AllMet}
+use Rattle.keys.specs.Meaning.{keyNeedsThen, assignmentNeedsThen}
 use Rattle.keys.specs.Promises.{Keyed, Assigned}
 use Rattle.keys.proofs.Sheets.{Case, sheetTable, sheetA, seenLate, steps}
 use Rattle.keys.proofs.Frauds.{chain, blanked}
@@ -39,14 +38,12 @@ MeansFive c number = (number ≡ 5) ↔ Unsatisfiable (c .n) (sheetTable c)
 pub key-promises : (c : Case) (workspace : List ℤ) (r : Reply) (key workspace' : List ℤ)
     → Keyed (c .n) (c .set) (sheetTable c) workspace r key workspace'
     → (replyNumber r ≡ 0 → MeansKey c key)
-    × (TableSized (c .n) (length (sheetTable c)) → blockStart (c .n) ≤ length workspace → NumbersWithin (c .n) (c .set) (sheetTable c)
-    → MeansFive c (replyNumber r))
+    × (AllMet (keyNeedsThen (c .n) (c .set) (sheetTable c) (length workspace) passed) → MeansFive c (replyNumber r))
 key-promises c workspace r key workspace' k = (λ e. k .made e .meaning, k .none)
 
 pub assignment-promises : (c : Case) (workspace values : List ℤ) (r : Reply) (workspace' values' : List ℤ)
     → Assigned (c .n) (sheetTable c) workspace values r workspace' values'
-    → TableSized (c .n) (length (sheetTable c)) → blockStart (c .n) ≤ length workspace → c .n ≤ length values → BoundsWithin Sheet (c .n) 0 (sheetTable c)
-    → MeansFive c (replyNumber r)
+    → AllMet (assignmentNeedsThen (c .n) (sheetTable c) (length workspace) (length values) passed) → MeansFive c (replyNumber r)
 assignment-promises c workspace values r workspace' values' a = a .none
 
 -- ---- the sheets' rules are accepted, so what satisfies their tables meets each rule as written

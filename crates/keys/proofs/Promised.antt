@@ -16,16 +16,17 @@ use Rattle.rules.specs.declared.paper.Paper.the-variants.{Sheet}
 use Rattle.rules.specs.declared.refusal.Refusal.{Refusal}
 use Rattle.rules.specs.declared.refusal.Refusal.the-variants.{NoAssignment}
 use Rattle.rules.specs.Limits.{boundLimit}
+use Rattle.rules.specs.Refusing.{passed, AllMet}
 use Rattle.rules.proofs.Refusals.{refusal-number}
 use Rattle.rules.specs.Hidden.{hiddenIn}
 use Rattle.tables.specs.declared.reply.Reply.{Reply}
 use Rattle.tables.specs.declared.reply.Reply.the-variants.{Done, Refused}
 use Rattle.tables.specs.Tables.{cleared}
 use Rattle.tables.proofs.Tests.{clash}
-use Rattle.tables.specs.Meaning.{TableSized, Satisfiable, Unsatisfiable, assignmentOf}
+use Rattle.tables.specs.Meaning.{Satisfiable, Unsatisfiable, assignmentOf}
 use Rattle.tables.proofs.Sizes.{serves-sized}
 use Rattle.tables.proofs.Refusing.{tied-returned, tied-number}
-use Rattle.keys.specs.Meaning.{BoundsWithin, NumbersWithin}
+use Rattle.keys.specs.Meaning.{BoundsWithin, keyNeedsThen, assignmentNeedsThen}
 use Rattle.tables.specs.Replies.{replyNumber, check}
 use Rattle.elimination.specs.Hiding.{paired, eliminated}
 use Rattle.keys.specs.Keys.{every, hideUpTo, keyOf, refuted, lentChecks, keyReply, assignmentReply, freesWorkspace}
@@ -36,8 +37,8 @@ use Rattle.keys.proofs.Fitting.{hide-ample, key-within}
 use Rattle.keys.proofs.Copying.{SameTable, copied, same-back, same-satisfies, same-fits}
 use Rattle.keys.proofs.Layers.{reduced-layered}
 use Rattle.keys.proofs.Filling.{fillDown-length, fillDown-rest, filled-range}
-use Rattle.keys.proofs.Deciding.{reduced-satisfies, reduced-refuted}
-use Rattle.keys.proofs.Checking.{bounds, checked-fits, decided-none, key-tied, assignment-tied}
+use Rattle.keys.proofs.Deciding.{reduced-satisfies, reduced-refuted, refuted-exactly}
+use Rattle.keys.proofs.Checking.{bounds, checked-fits, key-tied, assignment-tied}
 use Rattle.keys.proofs.Turns.{key-turns}
 
 -- ---- words past the table's
@@ -79,14 +80,17 @@ five-none n t r e d = (go (refuted n t) refl, λ u. rw (e, d .1 u))
 -- ---- the key call
 
 -- its reply past the checks before 5
-pub key-late : (n set : ℕ) (t : List ℤ) (w : ℕ) → TableSized n (length t) → blockStart n ≤ w → NumbersWithin n set t
-    → keyReply n set t w ≡ check (not (refuted n t)) NoAssignment Done
+pub key-late : (n set : ℕ) (t : List ℤ) (w : ℕ) → AllMet (keyNeedsThen n set t w passed) → keyReply n set t w ≡ check (not (refuted n t)) NoAssignment Done
 unfolding keyReply lentChecks
-key-late n set t w s l m = rw (serves-sized n (length t) .1 s, le-leb (blockStart n) w l, m .0, bounds Sheet n set t .1 (m .1))
+key-late n set t w (s, (l, (m, u))) = rw (serves-sized n (length t) .1 s, le-leb (blockStart n) w l, m .0, bounds Sheet n set t .1 (m .1))
 
-key-none : (n set : ℕ) (t : List ℤ) (w : ℕ) (r : Reply) → r ≡ keyReply n set t w → TableSized n (length t) → blockStart n ≤ w → NumbersWithin n set t
+-- and then sums fit
+pub key-fits : (n set : ℕ) (t : List ℤ) (w : ℕ) → AllMet (keyNeedsThen n set t w passed) → Fits n t
+key-fits n set t w (s, (l, (m, u))) = checked-fits n set t s (m .1)
+
+key-none : (n set : ℕ) (t : List ℤ) (w : ℕ) (r : Reply) → r ≡ keyReply n set t w → AllMet (keyNeedsThen n set t w passed)
     → (replyNumber r ≡ 5) ↔ Unsatisfiable n t
-key-none n set t w r e s l m = five-none n t r (e ∙ key-late n set t w s l m) (decided-none n set t s (m .1))
+key-none n set t w r e p = five-none n t r (e ∙ key-late n set t w p) (refuted-exactly n t (key-fits n set t w p))
 
 -- refused, with the table as it was
 pub key-refused : (n set : ℕ) (t w w' : List ℤ) (r : Reply) (f : Refusal) → r ≡ keyReply n set t (length w) → r ≡ Refused f
@@ -103,11 +107,11 @@ key-refused n set t w w' r f e d l = record {
 }
 
 -- the reply by the decision
-key-decided : (n set : ℕ) (t w w' : List ℤ) (b : Bool) → TableSized n (length t) × (blockStart n ≤ length w) × NumbersWithin n set t → Decided n t w b w'
+key-decided : (n set : ℕ) (t w w' : List ℤ) (b : Bool) → AllMet (keyNeedsThen n set t (length w) passed) → Decided n t w b w'
     → check (not b) NoAssignment Done ≡ keyReply n set t (length w)
-key-decided n set t w w' b p d = sym (key-late n set t (length w) (p .0) (p .1) (p .2) ∙ rw (← d .reply))
+key-decided n set t w w' b p d = sym (key-late n set t (length w) p ∙ rw (← d .reply))
 
-pub key-five : (n set : ℕ) (t w w' : List ℤ) → TableSized n (length t) × (blockStart n ≤ length w) × NumbersWithin n set t → Decided n t w true w'
+pub key-five : (n set : ℕ) (t w w' : List ℤ) → AllMet (keyNeedsThen n set t (length w) passed) → Decided n t w true w'
     → Keyed n set t w (Refused NoAssignment) t w'
 key-five n set t w w' p d = key-refused n set t w w' (Refused NoAssignment) NoAssignment (key-decided n set t w w' true p d) refl (d .lent)
 
@@ -123,10 +127,10 @@ key-made n set t f b s = record {
   };
 }
 
-pub key-done : (n set : ℕ) (t w t' w' : List ℤ) → TableSized n (length t) × (blockStart n ≤ length w) × NumbersWithin n set t → Decided n t w false w'
+pub key-done : (n set : ℕ) (t w t' w' : List ℤ) → AllMet (keyNeedsThen n set t (length w) passed) → Decided n t w false w'
     → t' ≡ keyOf (hiddenIn set) n t → Keyed n set t w Done t' w'
 key-done n set t w t' w' p d k =
-    let f = checked-fits n set t (p .0) (p .2 .1) in
+    let f = key-fits n set t (length w) p in
     let s = refuted-false n t (f .grows .room) (hide-ample every n t f) (sym (d .reply)) in
     let e = key-decided n set t w w' false p d in
     record {
@@ -137,19 +141,22 @@ key-done n set t w t' w' p d k =
       words = k;
       rest = rw k (rest-key (hiddenIn set) n t);
       lent = d .lent;
-      made = λ c. rw k (key-made n set t f (p .2 .1) s);
+      made = λ c. rw k (key-made n set t f (p .1 .1 .0 .1) s);
     }
 
 -- ---- the assignment call
 
-assignment-late : (n : ℕ) (t : List ℤ) (w v : ℕ) → TableSized n (length t) → blockStart n ≤ w → n ≤ v → BoundsWithin Sheet n 0 t
+assignment-late : (n : ℕ) (t : List ℤ) (w v : ℕ) → AllMet (assignmentNeedsThen n t w v passed)
     → assignmentReply n t w v ≡ check (not (refuted n t)) NoAssignment Done
 unfolding assignmentReply lentChecks
-assignment-late n t w v s l k b = rw (serves-sized n (length t) .1 s, le-leb (blockStart n) w l, le-leb n v k, bounds Sheet n 0 t .1 b)
+assignment-late n t w v (s, (l, (k, (b, u)))) = rw (serves-sized n (length t) .1 s, le-leb (blockStart n) w l, le-leb n v k, bounds Sheet n 0 t .1 b)
 
-assignment-none : (n : ℕ) (t : List ℤ) (w v : ℕ) (r : Reply) → r ≡ assignmentReply n t w v → TableSized n (length t) → blockStart n ≤ w → n ≤ v
-    → BoundsWithin Sheet n 0 t → (replyNumber r ≡ 5) ↔ Unsatisfiable n t
-assignment-none n t w v r e s l k b = five-none n t r (e ∙ assignment-late n t w v s l k b) (decided-none n 0 t s b)
+pub assignment-fits : (n : ℕ) (t : List ℤ) (w v : ℕ) → AllMet (assignmentNeedsThen n t w v passed) → Fits n t
+assignment-fits n t w v (s, (l, (k, (b, u)))) = checked-fits n 0 t s b
+
+assignment-none : (n : ℕ) (t : List ℤ) (w v : ℕ) (r : Reply) → r ≡ assignmentReply n t w v → AllMet (assignmentNeedsThen n t w v passed)
+    → (replyNumber r ≡ 5) ↔ Unsatisfiable n t
+assignment-none n t w v r e p = five-none n t r (e ∙ assignment-late n t w v p) (refuted-exactly n t (assignment-fits n t w v p))
 
 -- refused, with the assignment's words as they were
 pub assignment-refused : (n : ℕ) (t w v w' : List ℤ) (r : Reply) (f : Refusal) → r ≡ assignmentReply n t (length w) (length v) → r ≡ Refused f
@@ -165,12 +172,12 @@ assignment-refused n t w v w' r f e d l = record {
 }
 
 assignment-decided : (n : ℕ) (t w v w' : List ℤ) (b : Bool)
-    → TableSized n (length t) × (blockStart n ≤ length w) × (n ≤ length v) × BoundsWithin Sheet n 0 t → Decided n t w b w'
+    → AllMet (assignmentNeedsThen n t (length w) (length v) passed) → Decided n t w b w'
     → check (not b) NoAssignment Done ≡ assignmentReply n t (length w) (length v)
-assignment-decided n t w v w' b p d = sym (assignment-late n t (length w) (length v) (p .0) (p .1) (p .2) (p .3) ∙ rw (← d .reply))
+assignment-decided n t w v w' b p d = sym (assignment-late n t (length w) (length v) p ∙ rw (← d .reply))
 
 pub assignment-five : (n : ℕ) (t w v w' : List ℤ)
-    → TableSized n (length t) × (blockStart n ≤ length w) × (n ≤ length v) × BoundsWithin Sheet n 0 t → Decided n t w true w'
+    → AllMet (assignmentNeedsThen n t (length w) (length v) passed) → Decided n t w true w'
     → Assigned n t w v (Refused NoAssignment) w' v
 assignment-five n t w v w' p d =
     assignment-refused n t w v w' (Refused NoAssignment) NoAssignment (assignment-decided n t w v w' true p d) refl (d .lent)
@@ -207,11 +214,11 @@ values-found n t w v w' v' g m l p d k =
     })
 
 pub assignment-done : (n : ℕ) (t w v w' v' : List ℤ)
-    → TableSized n (length t) × (blockStart n ≤ length w) × (n ≤ length v) × BoundsWithin Sheet n 0 t → Decided n t w false w'
+    → AllMet (assignmentNeedsThen n t (length w) (length v) passed) → Decided n t w false w'
     → v' ≡ fillDown n w' n v → Assigned n t w v Done w' v'
 assignment-done n t w v w' v' p d k =
     let e = assignment-decided n t w v w' false p d in
-    let a = values-found n t w v w' v' (checked-fits n 0 t (p .0) (p .3)) (p .0 .room) (p .1) (p .2) d k in
+    let a = values-found n t w v w' v' (assignment-fits n t (length w) (length v) p) (p .0 .room) (p .1 .0) (p .1 .1 .0) d k in
     record {
       reply = e;
       refused = tied-returned _ Done _ e (assignment-tied n t (length w) (length v));

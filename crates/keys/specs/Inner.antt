@@ -12,17 +12,17 @@ use lib.ListN.{length, set}
 use Rattle.words.specs.Change.{change, copying}
 use Rattle.words.specs.Lent.{Lent}
 use Rattle.places.specs.Numbering.{blockStart}
-use Rattle.rules.specs.declared.paper.Paper.the-variants.{Sheet}
+use Rattle.rules.specs.Refusing.{passed, AllMet}
 use Rattle.rules.specs.declared.refusal.Refusal.{Refusal}
 use Rattle.rules.specs.Limits.{maxQuantities}
 use Rattle.tables.specs.declared.reply.Reply.{Reply}
 use Rattle.tables.specs.declared.reply.Reply.the-variants.{Done, Refused}
-use Rattle.tables.specs.Meaning.{TableSized, Unsatisfiable, WordsWithin}
+use Rattle.tables.specs.Meaning.{Unsatisfiable, WordsWithin}
 use Rattle.elimination.specs.Hiding.{paired, contradicts}
 use Rattle.elimination.specs.Magnitude.{addLimit, Past, OwnWithin, Unnamed}
 use Rattle.elimination.specs.Choosing.{choice}
 use Rattle.keys.specs.Keys.{refuted, keyReply, assignmentReply}
-use Rattle.keys.specs.Meaning.{BoundsWithin, NumbersWithin}
+use Rattle.keys.specs.Meaning.{keyNeedsThen, assignmentNeedsThen}
 
 -- quantity j + 1 is paired with the quantities past the first so many
 abbrev pub pairedFrom : Bool → ℕ → ℕ
@@ -93,8 +93,8 @@ pub record Decided (n : ℕ) (table workspace : List ℤ) (r : Bool) (workspace'
 
 pub record KeyChecked (n set : ℕ) (t : List ℤ) (w : ℕ) (r : Reply) : Type 0 where
   pub stands : (f : Refusal) → r ≡ Refused f → r ≡ keyReply n set t w
-  pub passes : r ≡ Done → TableSized n (length t) × (blockStart n ≤ w) × NumbersWithin n set t
+  pub passes : r ≡ Done → AllMet (keyNeedsThen n set t w passed)
 
 pub record AssignmentChecked (n : ℕ) (t : List ℤ) (w v : ℕ) (r : Reply) : Type 0 where
   pub stands : (f : Refusal) → r ≡ Refused f → r ≡ assignmentReply n t w v
-  pub passes : r ≡ Done → TableSized n (length t) × (blockStart n ≤ w) × (n ≤ v) × BoundsWithin Sheet n 0 t
+  pub passes : r ≡ Done → AllMet (assignmentNeedsThen n t w v passed)

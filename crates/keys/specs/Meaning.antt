@@ -26,24 +26,30 @@ BoundsWithin paper n set t = WordsWithin (blockStart n) (pos (boundLimit paper n
 abbrev pub NumbersWithin : ℕ → ℕ → List ℤ → Type 0
 NumbersWithin n set t = (setWithin n set ≡ true) × BoundsWithin Sheet n set t
 
--- the key call on a table and a workspace of w words: 1, 6, 3, 5
-abbrev pub keyNeeds : ℕ → ℕ → List ℤ → ℕ → Needs
-keyNeeds n set t w =
+-- the key call on a table and a workspace of w words: 1, 6, 3, then others
+abbrev pub keyNeedsThen : ℕ → ℕ → List ℤ → ℕ → Needs → Needs
+keyNeedsThen n set t w rest =
     TableSized n (length t) or Size then
     (blockStart n ≤ w) or TooShort (blockStart n) then
     NumbersWithin n set t or OutOfLimit 0 then
-    Satisfiable n t or NoAssignment then
-    passed
+    rest
 
--- the assignment call on a table, a workspace of w words and v words for the assignment: 1, 6 for the workspace, 6 for the assignment, 3, 5
-abbrev pub assignmentNeeds : ℕ → List ℤ → ℕ → ℕ → Needs
-assignmentNeeds n t w v =
+-- and last 5
+abbrev pub keyNeeds : ℕ → ℕ → List ℤ → ℕ → Needs
+keyNeeds n set t w = keyNeedsThen n set t w (Satisfiable n t or NoAssignment then passed)
+
+-- the assignment call on a table, a workspace of w words and v words for the assignment: 1, 6 for the workspace, 6 for the assignment, 3, then others
+abbrev pub assignmentNeedsThen : ℕ → List ℤ → ℕ → ℕ → Needs → Needs
+assignmentNeedsThen n t w v rest =
     TableSized n (length t) or Size then
     (blockStart n ≤ w) or TooShort (blockStart n) then
     (n ≤ v) or TooShort n then
     BoundsWithin Sheet n 0 t or OutOfLimit 0 then
-    Satisfiable n t or NoAssignment then
-    passed
+    rest
+
+-- and last 5
+abbrev pub assignmentNeeds : ℕ → List ℤ → ℕ → ℕ → Needs
+assignmentNeeds n t w v = assignmentNeedsThen n t w v (Satisfiable n t or NoAssignment then passed)
 
 -- ---- several quantities hidden
 

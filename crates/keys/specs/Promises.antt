@@ -3,25 +3,24 @@ use mathlib.Core.Bool.{cond}
 use mathlib.Core.Path.{_≡_}
 use mathlib.Core.Logic.{_↔_}
 use mathlib.Core.List.{List}
-use Prim.Native.Nat.{ℕ, _≤_, _<_}
+use Prim.Native.Nat.{ℕ, _<_}
 use lib.IntN.{ℤ}
 use lib.ListN.{length, drop}
 use Rattle.integers.specs.Bound.{Within}
 use Rattle.words.specs.Change.{wordAt}
 use Rattle.words.specs.Lent.{Lent}
 use Rattle.places.specs.Numbering.{blockStart}
-use Rattle.rules.specs.declared.paper.Paper.the-variants.{Sheet}
 use Rattle.rules.specs.declared.refusal.Refusal.{Refusal}
 use Rattle.rules.specs.Refusal.{refusedAs}
-use Rattle.rules.specs.Refusing.{RefusedBy, AllMet}
+use Rattle.rules.specs.Refusing.{passed, RefusedBy, AllMet}
 use Rattle.rules.specs.Hidden.{hiddenIn}
 use Rattle.rules.specs.Meaning.{Assignment}
 use Rattle.tables.specs.declared.reply.Reply.{Reply}
 use Rattle.tables.specs.Replies.{isDone, replyReturned, replyNumber}
-use Rattle.tables.specs.Meaning.{TableSized, Satisfies, Satisfiable, Unsatisfiable, SheetAllows, KeyLike, assignmentOf}
+use Rattle.tables.specs.Meaning.{Satisfies, Satisfiable, Unsatisfiable, SheetAllows, KeyLike, assignmentOf}
 use Rattle.elimination.specs.Magnitude.{valueLimit}
 use Rattle.keys.specs.Keys.{keyOf, keyReply, assignmentReply, freesWorkspace}
-use Rattle.keys.specs.Meaning.{BoundsWithin, NumbersWithin, keyNeeds, assignmentNeeds, HiddenInTurn}
+use Rattle.keys.specs.Meaning.{keyNeedsThen, keyNeeds, assignmentNeedsThen, assignmentNeeds, HiddenInTurn}
 
 -- ---- the key call
 
@@ -39,7 +38,7 @@ pub record Keyed (n set : ℕ) (table workspace : List ℤ) (r : Reply) (table' 
   pub refused : (f : Refusal) → (replyReturned r ≡ refusedAs f) ↔ RefusedBy (keyNeeds n set table (length workspace)) f
   pub accepted : (replyNumber r ≡ 0) ↔ AllMet (keyNeeds n set table (length workspace))
   -- demand 2: past the checks before it, 5 exactly when no integers satisfy the sheet
-  pub none : TableSized n (length table) → blockStart n ≤ length workspace → NumbersWithin n set table → (replyNumber r ≡ 5) ↔ Unsatisfiable n table
+  pub none : AllMet (keyNeedsThen n set table (length workspace) passed) → (replyNumber r ≡ 5) ↔ Unsatisfiable n table
   pub words : table' ≡ cond (isDone r) (keyOf (hiddenIn set) n table) table
   pub rest : drop (blockStart n) table' ≡ drop (blockStart n) table
   pub lent : Lent (blockStart n) (freesWorkspace r) workspace workspace'
@@ -58,8 +57,7 @@ pub record Assigned (n : ℕ) (table workspace values : List ℤ) (r : Reply) (w
   pub refused : (f : Refusal) → (replyReturned r ≡ refusedAs f) ↔ RefusedBy (assignmentNeeds n table (length workspace) (length values)) f
   pub accepted : (replyNumber r ≡ 0) ↔ AllMet (assignmentNeeds n table (length workspace) (length values))
   -- past the checks before it, 5 exactly when no integers satisfy the table
-  pub none : TableSized n (length table) → blockStart n ≤ length workspace → n ≤ length values → BoundsWithin Sheet n 0 table
-      → (replyNumber r ≡ 5) ↔ Unsatisfiable n table
+  pub none : AllMet (assignmentNeedsThen n table (length workspace) (length values) passed) → (replyNumber r ≡ 5) ↔ Unsatisfiable n table
   pub lent : Lent (blockStart n) (freesWorkspace r) workspace workspace'
   pub written : Lent n (isDone r) values values'
   pub found : replyNumber r ≡ 0 → AssignmentFound n table values'

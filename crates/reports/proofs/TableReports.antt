@@ -75,8 +75,8 @@ module _ {n set : ℕ} {t w : List ℤ} {r : Reply} {t' w' : List ℤ} (k : Keye
   replied-key =
       let c = s .contents in
       k .reply ∙ rw (s .counts, s .hides, s .holds)
-      (key-late (c .count) (setIn c) (tableIn c) (length w) (table-sized Sheet c fine) (omega (arith, small-start (c .count) (fine .most)))
-      (fine .range, fine .bounds))
+      (key-late (c .count) (setIn c) (tableIn c) (length w)
+      (table-sized Sheet c fine, (omega (arith, small-start (c .count) (fine .most)), ((fine .range, fine .bounds), tt))))
 
   decided : (b : Bool) → check (not b) NoAssignment Done ≡ Done → b ≡ false
   decided true e = absurd (refused-done e)

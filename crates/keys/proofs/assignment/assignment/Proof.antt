@@ -1,7 +1,6 @@
 -- `assignment::assignment` meets its contract: the checks, the decision in the workspace, then the values. Assumes nothing.
 use borrow.Author.Needs.{needs}
-use Rattle.keys.proofs.Checking.{checked-fits}
-use Rattle.keys.proofs.Promised.{untouched, assignment-refused, assignment-five, assignment-done, decided-layered}
+use Rattle.keys.proofs.Promised.{untouched, assignment-fits, assignment-refused, assignment-five, assignment-done, decided-layered}
 use Rattle.keys.proofs.assignment.assignment.Statement.{statement}
 use Rattle.keys.proofs.assignment.assignment.Tie as tie
 
@@ -22,7 +21,7 @@ decide-requires : tie.Need-decide-requires
 decide-requires c κs =
     let a = c .before in
     let p = a .before .before .check .ensures .passes (a .enum-told .given .1) in
-    (checked-fits _ _ _ (p .0) (p .3), p .1)
+    (assignment-fits _ _ _ _ p, p .1 .0)
 
 same-length : tie.Need-same-length
 same-length c = search needs
@@ -40,7 +39,7 @@ fill-requires c κs =
     let d = o .before .before in
     let a = d .before .before in
     let p = a .before .before .check .ensures .passes (a .enum-told .given .1) in
-    (decided-layered _ _ _ _ _ (checked-fits _ _ _ (p .0) (p .3)) (p .1) (o .if1 .left) (d .decide .ensures), p .2)
+    (decided-layered _ _ _ _ _ (assignment-fits _ _ _ _ p) (p .1 .0) (o .if1 .left) (d .decide .ensures), p .1 .1 .0)
 
 same-length-2 : tie.Need-same-length-2
 same-length-2 c = search needs

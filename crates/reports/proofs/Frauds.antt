@@ -1,6 +1,6 @@
--- Frauds of *key*: for a named sheet each breaks what is promised of the text printed, by its count and its bytes alone; and texts that are no key's by what they
--- mean. And two of *mark*: equal printed for a script that is too wide, refuted by what that name means; and a line of the assignment with fewer integers than the
--- sheet has quantities. Assumes nothing.
+-- Frauds of *key*: for a named sheet each breaks what is promised of the text printed, by its count and its bytes alone; and texts that are no key's by what
+-- they mean. And two of *mark*: equal printed for a script that is too wide, refuted by what that name means; and a line of the assignment with fewer integers
+-- than the sheet has quantities. Assumes nothing.
 use mathlib.Core.Path.{_≡_, sym, _∙_, refl, ap}
 use mathlib.Core.Bool.{false}
 use mathlib.Core.List.{List, [], _∷_, _++_}
@@ -107,8 +107,9 @@ pub too-narrow : KeyText contentsA (bytes (narrow .script)) → ⊥
 unfolding setOf
 too-narrow k =
     let e = key-told k (contentsNarrow .written) (accepted-reads Script narrow-writes .spelled .text) in
-    let allowed : SheetAllows (hiddenIn 2) (rulesOf contentsA) (assignmentOf three-one-zero) = record { hiddens = assignmentOf three-one-zero; complete = narrow-shown .complete } in
-    narrow-shown .forbidden (rw e at (k .meaning (assignmentOf three-one-zero) .1 allowed))
+    let σ = assignmentOf three-one-zero in
+    let allowed : SheetAllows (hiddenIn 2) (rulesOf contentsA) σ = record { hiddens = σ; complete = narrow-shown .complete } in
+    narrow-shown .forbidden (rw e at (k .meaning σ .1 allowed))
 
 -- the sheet's own rules: they name quantity 2, which is hidden
 pub hidden-named : KeyText contentsA (bytes (sheetA .sheet)) → ⊥

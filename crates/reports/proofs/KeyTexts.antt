@@ -1,5 +1,5 @@
--- The text of a sheet's key: every line of it is fine, with bounds by how many quantities are hidden, and no rule of it names a hidden one; and it tells its rules.
--- Assumes nothing.
+-- The text of a sheet's key: every line of it is fine, with bounds by how many quantities are hidden, no rule of it names a hidden one, and it tells its
+-- rules. Assumes nothing.
 use mathlib.Core.Path.{_≡_, refl, sym, _∙_, ap, ap₂}
 use mathlib.Core.Bool.{Bool, true, false, cond}
 use mathlib.Core.List.{List, [], _∷_}
@@ -100,7 +100,9 @@ unfolding linesText
 written-same n qs rs ws e =
     let whole = sym (sheet-lines (record { count = n; hiddens = qs; written = rs })) ∙ e ∙ sheet-lines (record { count = n; hiddens = qs; written = ws }) in
     let after = rest-same (lineText (hidden-line qs)) _ _ (rest-same (lineText (quantities n)) _ _ whole) in
-    let d = parsed-same (sym (rules-complete (length rs) (linesText (ruleLines rs))) ∙ ap (countLine rulesKey) after ∙ rules-complete (length ws) (linesText (ruleLines ws))) in
+    let first = rules-complete (length rs) (linesText (ruleLines rs)) in
+    let second = rules-complete (length ws) (linesText (ruleLines ws)) in
+    let d = parsed-same (sym first ∙ ap (countLine rulesKey) after ∙ second) in
     rules-same rs ws (d .0) (d .1)
 
 -- the rules of a key's text are those that it spells

@@ -1,4 +1,4 @@
--- The laws of what the programs print: a key's text and what *key* prints; a verdict's and a refusal's lines and what *mark* prints; that what is printed tells the reply;
+-- The laws of what the programs print: that it tells the reply; a key's text and what *key* prints; a verdict's and a refusal's lines and what *mark* prints;
 -- cases of whole texts, and frauds.
 pub mod RefusalLengths
 pub mod PrintedReplies

@@ -1,5 +1,5 @@
--- What *mark* prints for two texts is what its contract promises: the text of the reply, which tells the refusal and its paper, or the verdict and what it means.
--- Assumes nothing.
+-- What *mark* prints for two texts is what its contract promises: the text of the reply, which tells the refusal and its paper, or the verdict and what it
+-- means. Assumes nothing.
 use mathlib.Core.Path.{_≡_, refl, sym, _∙_, ap}
 use mathlib.Core.List.{List, _++_}
 use mathlib.Core.Logic.{_↔_}
@@ -52,7 +52,7 @@ module _ {sheet script : List ℕ} {lent : Lengths} {r : TextMarking} {values : 
     λ x. reply-refused values (returned-refused r p f .0 (j .refused p f .1 x)),
   )
 
-  -- 5 does not come
+  -- and never 5
   never-printed : (textNumber r ≡ 6 → ⊥) → (p : Subject) (f : Refusal) → markText r values ≡ refusedMarkText p f
       → ((refusalNumber f ≡ 5) → ⊥) × ((refusalNumber f ≡ 6) → ⊥)
   never-printed six p f e =

@@ -104,6 +104,7 @@ judged-firsts t number r values enough j =
     let c = t .of-sheet in
     let d = t .of-script in
     let n = c .count in
+    let hidden = hiddenIn (setIn c) in
     let by-sheet = contents-first c (j .sheet-table) in
     let by-script : ByFirst n (rulesOf d) = subst (λ (k : ℕ). ByFirst k (rulesOf d)) (accepted-matches t .count) (contents-first d (j .script-table)) in
     let m = j .means in
@@ -117,9 +118,9 @@ judged-firsts t number r values enough j =
         key = m .key;
         loose = λ e.
             let x = m .loose e in
-            (x .0, loose-firsts n values enough (hiddenIn (setIn c)) (rulesOf c) (rulesOf d) by-sheet by-script r (loose-first (hiddenIn (setIn c)) n (tableIn c) (x .0)) (x .1));
+            (x .0, loose-firsts n values enough hidden (rulesOf c) (rulesOf d) by-sheet by-script r (loose-first hidden n (tableIn c) (x .0)) (x .1));
         tight = λ e.
             let x = m .tight e in
-            (x .0, tight-firsts n values enough (hiddenIn (setIn c)) (rulesOf c) (rulesOf d) by-sheet by-script r (broken-first (x .0)) (x .1));
+            (x .0, tight-firsts n values enough hidden (rulesOf c) (rulesOf d) by-sheet by-script r (broken-first (x .0)) (x .1));
       };
     }

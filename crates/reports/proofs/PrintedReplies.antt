@@ -1,5 +1,5 @@
--- What is printed tells the reply: a refusal's text its number, its line and, for *mark*, its paper; a verdict's text its number; and no text of a key or a verdict is a
--- refusal's. Assumes nothing.
+-- What is printed tells the reply: a refusal's text its number, its line and, for *mark*, its paper; a verdict's text its number; and no text of a key or a
+-- verdict is a refusal's. Assumes nothing.
 use mathlib.Core.Path.{_≡_, refl, sym, _∙_, ap}
 use mathlib.Core.Bool.{true, cond}
 use mathlib.Core.Logic.{inl, inr}

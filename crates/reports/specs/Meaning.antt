@@ -44,7 +44,8 @@ pub record Unmet (s : List ℕ) : Type 0 where
 
 -- ---- *mark*
 
--- the text is that of a verdict on two accepted texts: its name, the rule beside it and the integers listed, one for each quantity of the sheet, mean what demand 3 says
+-- the text is that of a verdict on two accepted texts: its name, the rule after it and the integers listed, one for each quantity of the sheet, mean what
+-- demand 3 says
 pub record VerdictText {sheet script : List ℕ} {lent : Lengths} (t : AcceptedPair sheet script lent) (text : List ℕ) : Type 0 where
   pub verdict : Verdict
   pub values : List ℤ

@@ -29,10 +29,10 @@ use Rattle.tables.specs.Places.{ruleAt, findPlace}
 use Rattle.tables.specs.Tables.{hasRule}
 use Rattle.tables.specs.Meaning.{HoldsRule, ruleIn}
 use Rattle.tables.proofs.Places.{found-two}
-use Rattle.tables.proofs.Tests.{clash, both-true}
+use Rattle.tables.proofs.Tests.{clash, both-true, neither}
 use Rattle.elimination.specs.Hiding.{bareBelow, pairWord, loneWord, anyBare, contradicts}
 use Rattle.elimination.proofs.TermWords.{quantity-cases, pair-first, pair-second, pair-apart, pair-sym, lone-at, pair-at}
-use Rattle.elimination.proofs.Step.{bare-clear, anyBare-clear, neither}
+use Rattle.elimination.proofs.Step.{bare-clear, anyBare-clear}
 
 -- ---- the rule that two rests give
 

@@ -1,7 +1,7 @@
 -- What pairing the rules of one quantity does to the words of a table, and that it is exact: the paired table's rules on the other literals hold, with no
 -- contradiction, exactly where the table's own and every sum do. Assumes nothing.
 use mathlib.Core.Path.{_≡_, refl}
-use mathlib.Core.Bool.{Bool, true, false, _&&_, _||_}
+use mathlib.Core.Bool.{Bool, true, false, _&&_}
 use mathlib.Core.List.{List}
 use mathlib.Core.Logic.{_↔_}
 use Prim.Native.Nat.{ℕ, zero, suc, _+_, _*_, _/_, _≤_, _<_}
@@ -23,7 +23,7 @@ use Rattle.rules.specs.Meaning.{Assignment, literalValue}
 use Rattle.rules.proofs.Literals.{value-negated}
 use Rattle.tables.specs.Tables.{hasRule}
 use Rattle.tables.specs.Meaning.{WordsWithin}
-use Rattle.tables.proofs.Tests.{clash}
+use Rattle.tables.proofs.Tests.{neither}
 use Rattle.elimination.specs.Hiding.{bareBelow, pairWord, loneWord, anyBare, paired, contradicts}
 use Rattle.elimination.proofs.Projection.{Sums}
 use Rattle.elimination.proofs.Terms.{TermsMet, Others}
@@ -76,11 +76,6 @@ bare-clear a b = (to, of (hasRule a) (hasRule b))
     of true true k = le-ltZ (a +ℤ b) (pos 0) (k refl refl)
     of true false k = refl
     of false d k = refl
-
--- neither of two tests passes
-pub neither : (a b : Bool) → (_||_ a b ≡ false) ↔ ((a ≡ false) × (b ≡ false))
-neither true b = (λ e. clash refl e, λ p. p .0)
-neither false b = (λ e. (refl, e), λ p. p .1)
 
 -- none of the bare sums of the literals below k, past the first `from` quantities, is a contradiction
 abbrev pub NoneBare : ℕ → (ℕ → ℤ) → (ℕ → ℤ) → ℕ → Type 0

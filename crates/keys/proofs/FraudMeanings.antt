@@ -1,7 +1,7 @@
 -- Document 01's frauds about keys and refusal 5 refuted by demand 2, over unbounded integers: on a named sheet some integers show each one false,
--- whatever steps made the answer. Assumes nothing.
+-- whatever steps made the answer. Last, values out of their range and words that are not the call's to change. Assumes nothing.
 use mathlib.Core.Path.{_≡_, refl}
-use mathlib.Core.List.{List}
+use mathlib.Core.List.{List, [], _∷_}
 use mathlib.Core.Logic.{_↔_}
 use Prim.Native.Nat.{ℕ}
 use native.Mathlib.Omega.{arith}
@@ -13,6 +13,8 @@ use Rattle.rules.specs.Hidden.{hiddenIn}
 use Rattle.rules.specs.Meaning.{Assignment, literalValue}
 use Rattle.rules.specs.Steps.{ruleOf, halvedOf}
 use Rattle.tables.specs.declared.reply.Reply.{Reply}
+use Rattle.tables.specs.declared.reply.Reply.the-variants.{Refused}
+use Rattle.rules.specs.declared.refusal.Refusal.{Refusal}
 use Rattle.tables.specs.Tables.{emptyTable, cleared, ruleReply}
 use Rattle.tables.specs.Meaning.{HoldsRule, Satisfies, Satisfiable, Unsatisfiable, SheetAllows, NamesVisible, joined}
 use Rattle.tables.proofs.Tests.{clash}
@@ -22,7 +24,7 @@ use Rattle.tables.specs.Replies.{replyNumber}
 use Rattle.elimination.specs.Hiding.{eliminated}
 use Rattle.rules.specs.Refusing.{passed, AllMet}
 use Rattle.keys.specs.Meaning.{keyNeedsThen, assignmentNeedsThen}
-use Rattle.keys.specs.Promises.{Keyed, Assigned}
+use Rattle.keys.specs.Promises.{Keyed, AssignmentFound, Assigned}
 use Rattle.keys.proofs.Sheets.{Case, sheetTable, sheetA, seenLate, steps}
 use Rattle.keys.proofs.Frauds.{chain, blanked}
 
@@ -129,3 +131,26 @@ seenLate-unsatisfiable σ s =
 -- so 5 decided on the hidden quantities only, or before any pair is added, breaks the promise: neither gives 5 there
 pub missed-meaning : MeansFive seenLate 0 → ⊥
 missed-meaning m = omega (arith, m .1 seenLate-unsatisfiable)
+
+-- ---- values
+
+-- an assignment with 2 ^ 62 + 1 in it is past the range, whatever the table is
+pub past-range : (t : List ℤ) → AssignmentFound 1 t (pos 4611686018427387905 ∷ []) → ⊥
+unfolding positivePart negativePart
+past-range t f = omega (linear, f .range 0 (omega arith) .below)
+
+-- and so is one with -2 ^ 62 - 1
+pub below-range : (t : List ℤ) → AssignmentFound 1 t (negsuc 4611686018427387904 ∷ []) → ⊥
+unfolding positivePart negativePart
+below-range t f = omega (linear, f .range 0 (omega arith) .above)
+
+-- ---- words
+
+-- a key call of n 1 that changes the third word of the table, whatever it replies
+pub past-table-changed : (set : ℕ) (w w' : List ℤ) (r : Reply) → Keyed 1 set (pos 1 ∷ pos 2 ∷ pos 3 ∷ []) w r (pos 1 ∷ pos 2 ∷ pos 4 ∷ []) w' → ⊥
+unfolding blockStart
+past-table-changed set w w' r k = let e = k .rest in let z : _≡_ {A = ℕ} 4 3 = cc in omega arith
+
+-- one that changes the first on a refusal
+pub refused-changed : (set : ℕ) (w w' : List ℤ) (f : Refusal) → Keyed 1 set (pos 1 ∷ pos 2 ∷ []) w (Refused f) (pos 0 ∷ pos 2 ∷ []) w' → ⊥
+refused-changed set w w' f k = let e = k .words in let z : _≡_ {A = ℕ} 0 1 = cc in omega arith

@@ -10,10 +10,11 @@ use lib.ListN.{length}
 use borrow.Author.Tests.{ltb-true, ltb-false}
 use Rattle.places.specs.Numbering.{blockStart}
 use Rattle.rules.specs.Meaning.{Assignment}
+use Rattle.tables.proofs.Tests.{neither}
 use Rattle.elimination.specs.Hiding.{pairWord, loneWord, paired, contradicts}
 use Rattle.elimination.specs.Magnitude.{Past}
 use Rattle.elimination.proofs.Terms.{TermsMet}
-use Rattle.elimination.proofs.Step.{SumsOf, neither, pair-early, lone-early, step-lower}
+use Rattle.elimination.proofs.Step.{SumsOf, pair-early, lone-early, step-lower}
 use Rattle.elimination.proofs.Exact.{upward-room}
 use Rattle.keys.specs.Inner.{pairUpTo, clashUpTo, Fits}
 use Rattle.keys.proofs.Pairing.{pair-room}

@@ -15,12 +15,12 @@ use Rattle.places.specs.Numbering.{blockStart, blockOf}
 use Rattle.places.proofs.Numbering.{block-below}
 use Rattle.rules.specs.Meaning.{Assignment, names}
 use Rattle.tables.specs.Meaning.{HoldsRule, ruleIn, Satisfies, Satisfiable, Unsatisfiable, joined, SheetAllows, NamesVisible}
-use Rattle.tables.proofs.Tests.{clash}
+use Rattle.tables.proofs.Tests.{clash, neither}
 use Rattle.tables.proofs.Meanings.{in-range, satisfies-agree}
 use Rattle.tables.proofs.Places.{own-named}
 use Rattle.elimination.specs.Hiding.{contradicts, eliminated}
 use Rattle.elimination.specs.Magnitude.{Unnamed}
-use Rattle.elimination.proofs.Step.{Adds, neither}
+use Rattle.elimination.proofs.Step.{Adds}
 use Rattle.elimination.proofs.Exact.{eliminate-exact, eliminate-none, eliminate-length}
 use Rattle.elimination.proofs.Unnamed.{eliminated-unnamed, unnamed-eliminated}
 use Rattle.keys.specs.Keys.{hideUpTo, keyOf, every, refutedUpTo, refuted}

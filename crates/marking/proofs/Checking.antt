@@ -1,12 +1,12 @@
 -- The checks of marking two tables: which refusal stands at each, and that they are document 01's, in its order. Assumes nothing.
-use mathlib.Core.Path.{_≡_, refl, sym, _∙_}
+use mathlib.Core.Path.{_≡_}
 use mathlib.Core.Bool.{Bool, true, false, not, _&&_, and-false}
 use mathlib.Core.List.{List}
 use mathlib.Core.Logic.{_↔_}
 use Prim.Native.Nat.{ℕ, _*_, _≤_, _<_}
 use native.Mathlib.Omega.{arith}
 use lib.IntN.{ℤ}
-use lib.ListN.{length, take}
+use lib.ListN.{length}
 use borrow.Author.Tests.{le-leb, lt-leb}
 use Rattle.places.specs.Numbering.{blockStart}
 use Rattle.rules.specs.declared.paper.Paper.the-variants.{Sheet, Script}
@@ -15,18 +15,17 @@ use Rattle.rules.specs.Hidden.{hiddenIn, setWithin}
 use Rattle.rules.specs.Limits.{maxQuantities}
 use Rattle.rules.specs.Refusing.{AllMet}
 use Rattle.tables.specs.declared.reply.Reply.the-variants.{Done, Refused}
-use Rattle.tables.specs.Tables.{serves}
+use Rattle.tables.specs.Tables.{serves, tableNamesHidden}
 use Rattle.tables.specs.Replies.{check}
-use Rattle.tables.specs.Meaning.{NamesVisible}
-use Rattle.tables.proofs.Tests.{clash, both-true}
+use Rattle.tables.proofs.Tests.{both-true}
 use Rattle.tables.proofs.Sizes.{small-start, serves-tells, long-serves}
 use Rattle.tables.proofs.Refusing.{Tied, tied-done, tied-more}
+use Rattle.tables.proofs.Naming.{names-test}
 use Rattle.keys.specs.Keys.{boundsInLimit}
 use Rattle.keys.proofs.Checking.{length-test, bounds}
 use Rattle.marking.specs.Meaning.{workspaceSize, Sized, InLimits, markNeeds}
-use Rattle.marking.specs.Marking.{anyNamesHidden, tableNamesHidden, numbersWithin, markChecks}
+use Rattle.marking.specs.Marking.{numbersWithin, markChecks}
 use Rattle.marking.specs.Inner.{TablesAccepted}
-use Rattle.marking.proofs.Naming.{names-visible}
 
 -- ---- the tests, and what they mean
 
@@ -54,13 +53,6 @@ module _ (n set : ℕ) (sheet script : List ℤ) where
           let q = both-true (boundsInLimit Sheet n set sheet) (boundsInLimit Script n set script) (p .1) in
           record { set-within = p .0; sheet-within = bounds Sheet n set sheet .0 (q .0); script-within = bounds Script n set script .0 (q .1) }
 
-  pub script-names : blockStart n ≤ length script → (not (tableNamesHidden (hiddenIn set) n script) ≡ true) ↔ NamesVisible n (hiddenIn set) script
-  script-names l = (to (tableNamesHidden (hiddenIn set) n script) refl, λ v. rw (names-visible (hiddenIn set) n script l .1 v))
-    where
-      to : (b : Bool) → tableNamesHidden (hiddenIn set) n script ≡ b → not b ≡ true → NamesVisible n (hiddenIn set) script
-      to true e c = clash refl (sym c)
-      to false e c = names-visible (hiddenIn set) n script l .0 e
-
 -- marking is refused by the first need that is not met
 pub mark-tied : (n set : ℕ) (sheet script : List ℤ) (w v : ℕ) → Tied (markNeeds n set sheet script w v) (markChecks n set sheet script w v)
 unfolding markChecks
@@ -69,7 +61,7 @@ mark-tied n set sheet script w v =
     tied-more _ _ _ _ _ (length-test (workspaceSize n) w) (λ l.
     tied-more _ _ _ _ _ (length-test n v) (λ k.
     tied-more _ _ _ _ _ (within-limits n set sheet script) (λ m.
-    tied-more _ _ _ _ _ (script-names n set sheet script (s .script-room)) (λ x. tied-done)))))
+    tied-more _ _ _ _ _ (names-test (hiddenIn set) n script (s .script-room)) (λ x. tied-done)))))
 
 -- where all are met, that is what a verdict asks
 pub met-accepted : (n set : ℕ) (sheet script : List ℤ) (w v : ℕ) → AllMet (markNeeds n set sheet script w v) → TablesAccepted n set sheet script w v
@@ -116,10 +108,6 @@ pub both-small : (n m : ℕ) (sheet script : List ℤ) → BothServe n m sheet s
 both-small n m sheet script b =
     omega (arith, b .size, small-start n (serves-tells n (length sheet) (b .sheet-serves) .most))
 
--- and the script has as many words
-pub both-room : (n m : ℕ) (sheet script : List ℤ) → BothServe n m sheet script → m ≤ length script
-both-room n m sheet script b = omega (arith, b .size, serves-tells n (length script) (b .script-serves) .room)
-
 module _ (n set m : ℕ) (sheet script : List ℤ) (w v : ℕ) (b : BothServe n m sheet script) where
   -- a workspace that is too short
   pub workspace-refused : w < 2 * m → Refused (TooShort (2 * m)) ≡ markChecks n set sheet script w v
@@ -139,8 +127,8 @@ module _ (n set m : ℕ) (sheet script : List ℤ) (w v : ℕ) (b : BothServe n 
       numbers-refused e = rw (b .sheet-serves, b .script-serves, le-leb (workspaceSize n) w (omega (arith, b .size)), le-leb n v k, e)
 
       -- all limits kept, the names decide
-      pub names-answered : (named : Bool) → numbersWithin n set sheet script ≡ true → named ≡ anyNamesHidden (hiddenIn set) 0 (take m script)
+      pub names-answered : (named : Bool) → numbersWithin n set sheet script ≡ true → named ≡ tableNamesHidden (hiddenIn set) n script
           → check (not named) Mismatch Done ≡ markChecks n set sheet script w v
       unfolding markChecks
       names-answered named e d =
-          rw (b .sheet-serves, b .script-serves, le-leb (workspaceSize n) w (omega (arith, b .size)), le-leb n v k, e, d, b .size)
+          rw (b .sheet-serves, b .script-serves, le-leb (workspaceSize n) w (omega (arith, b .size)), le-leb n v k, e, d)

@@ -1,14 +1,12 @@
 -- The records of marking's contracts, from plain facts. Assumes nothing.
 use mathlib.Core.Path.{_≡_, refl, sym, _∙_, ap}
 use mathlib.Core.Bool.{Bool, true, false}
-use mathlib.Core.List.{List, [], _∷_}
-use mathlib.Core.Logic.{_↔_, inl, inr}
+use mathlib.Core.List.{List}
+use mathlib.Core.Logic.{_↔_}
 use Prim.Native.Nat.{ℕ, suc, _≤_}
 use native.Mathlib.Omega.{arith}
 use lib.IntN.{ℤ, pos}
 use lib.ListN.{length}
-use types.Run.{OneOf}
-use denote.Enum.Declared.{tagOf}
 use Rattle.words.specs.Change.{wordAt, change, copying}
 use Rattle.words.specs.Lent.{Lent}
 use Rattle.places.specs.Numbering.{blockStart}
@@ -21,7 +19,6 @@ use Rattle.rules.specs.Refusal.{Returned, refusedAs}
 use Rattle.rules.specs.Refusing.{RefusedBy, AllMet}
 use Rattle.rules.proofs.Refusals.{same-refusal}
 use Rattle.rules.specs.Steps.{trivialRule}
-use Rattle.rules.proofs.rule.Rule.{the-type}
 use Rattle.rules.specs.Meaning.{hasTerm}
 use Rattle.tables.specs.declared.reply.Reply.{Reply}
 use Rattle.tables.specs.declared.reply.Reply.the-variants.{Done}
@@ -218,17 +215,6 @@ pass-bare : (carry : Rule → Verdict) (r : Rule) (next : Verdict) → hasTerm r
 pass-bare carry (One x c) next e = clash refl e
 pass-bare carry (Two x y c) next e = clash refl e
 pass-bare carry (Nothing c) next e = refl
-
--- a bare rule is of no quantity
-pub bare-term : (r : Rule) (c : ℤ) → r ≡ Nothing c → hasTerm r ≡ false
-bare-term r c e = rw e
-
--- a rule of one of the other two cases is of one or two
-pub other-term : (r : Rule) → OneOf (0 ∷ 1 ∷ []) (tagOf the-type r) → hasTerm r ≡ true
-other-term (One x c) o = refl
-other-term (Two x y c) o = refl
-other-term (Nothing c) (inl o) = let z : ⊥ = omega arith in absurd z
-other-term (Nothing c) (inr o) = let z : ⊥ = omega arith in absurd z
 
 -- loose where a rule of the key is broken
 pub loose-given : (n set : ℕ) (sheet script w v u : List ℤ) (r : Rule) (w' v' : List ℤ) → TablesAccepted n set sheet script (length w) (length v)

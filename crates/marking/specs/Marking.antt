@@ -1,5 +1,5 @@
 -- Marking two tables (document 01, 'Marking', 'Returned to the caller'): the verdict and the reply, which compute.
-use mathlib.Core.Bool.{Bool, false, cond, not, _&&_, _||_}
+use mathlib.Core.Bool.{Bool, cond, not, _&&_}
 use mathlib.Core.List.{List, [], _∷_}
 use Prim.Native.Nat.{ℕ, suc}
 use lib.Dec.{leb}
@@ -11,13 +11,12 @@ use Rattle.rules.specs.declared.rule.Rule.the-variants.{One, Two, Nothing}
 use Rattle.rules.specs.declared.paper.Paper.the-variants.{Sheet, Script}
 use Rattle.rules.specs.declared.refusal.Refusal.the-variants.{Size, OutOfLimit, TooShort, Mismatch}
 use Rattle.rules.specs.Hidden.{hiddenIn, setWithin}
-use Rattle.rules.specs.Literal.{quantityOf}
 use Rattle.rules.specs.Steps.{trivialRule, oppositeOf}
 use Rattle.tables.specs.declared.reply.Reply.{Reply}
 use Rattle.tables.specs.declared.reply.Reply.the-variants.{Done}
 use Rattle.tables.specs.declared.reply.Reply.the-variants.{Refused as NotDone}
 use Rattle.tables.specs.Places.{ruleAt}
-use Rattle.tables.specs.Tables.{hasRule, serves, putRule}
+use Rattle.tables.specs.Tables.{hasRule, serves, putRule, tableNamesHidden}
 use Rattle.tables.specs.Replies.{check}
 use Rattle.keys.specs.Keys.{keyOf, refuted, boundsInLimit}
 use Rattle.marking.specs.declared.verdict.Verdict.{Verdict}
@@ -56,21 +55,6 @@ verdictOf hidden n sheet script =
     (orElse Loose (firstBroken n (keyOf hidden n sheet) script) (orElse Tight (firstBroken n script sheet) Equal))
 
 -- ---- the checks
-
--- does a rule name a hidden quantity?
-unfoldable pub namesHidden : (ℕ → Bool) → Rule → Bool
-namesHidden hidden (One x c) = hidden (quantityOf x)
-namesHidden hidden (Two x y c) = hidden (quantityOf x) || hidden (quantityOf y)
-namesHidden hidden (Nothing c) = false
-
--- does one of the rules of words, the first being the word of place k?
-unfoldable pub anyNamesHidden : (ℕ → Bool) → ℕ → List ℤ → Bool
-anyNamesHidden hidden k [] = false
-anyNamesHidden hidden k (w ∷ ws) = (hasRule w && namesHidden hidden (ruleAt k w)) || anyNamesHidden hidden (suc k) ws
-
--- does one of the rules of a table?
-abbrev pub tableNamesHidden : (ℕ → Bool) → ℕ → List ℤ → Bool
-tableNamesHidden hidden n t = anyNamesHidden hidden 0 (take (blockStart n) t)
 
 -- are the hidden set and the bounds of both tables in their limits?
 unfoldable pub numbersWithin : ℕ → ℕ → List ℤ → List ℤ → Bool

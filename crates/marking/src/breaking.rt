@@ -58,7 +58,8 @@ fn first_broken(n: usize, table: &[i64], workspace: &mut [i64]) -> Place
 // Writes an assignment of the table that breaks the rule: one of the table with the rule's opposite put in.
 fn break_rule(n: usize, table: &[i64], rule: Rule, workspace: &mut [i64], values: &mut [i64])
     requires { ⌜ RuleBreakable n (now table) rule (now workspace) (now values) ⌝ }
-    ensures { λ _. ⌜ RuleBroken n (now (table .entry)) rule (now (workspace .entry)) (now (values .entry)) (now (workspace .exit)) (now (values .exit)) ⌝ }
+    ensures { λ _. ⌜ RuleBroken n (now (table .entry)) rule
+        (now (workspace .entry)) (now (values .entry)) (now (workspace .exit)) (now (values .exit)) ⌝ }
 {
     words::copy(workspace, table, table::size(n));
     table::put(n, workspace, rule.opposite());
@@ -74,7 +75,8 @@ pub(crate) fn break_first(
     values: &mut [i64],
 ) -> Rule
     requires { ⌜ FrontBreakable n (now table) (now workspace) (now values) ⌝ }
-    ensures { λ r. ⌜ FrontBroken n (now (table .entry)) (now (workspace .entry)) (now (values .entry)) r (now (workspace .exit)) (now (values .exit)) ⌝ }
+    ensures { λ r. ⌜ FrontBroken n (now (table .entry))
+        (now (workspace .entry)) (now (values .entry)) r (now (workspace .exit)) (now (values .exit)) ⌝ }
 {
     let found = first_broken(n, table, workspace);
     let Place::At(k) = found else {

@@ -9,12 +9,12 @@ use keys::key;
 use rules::rule::Rule;
 use tables::reply::Reply;
 use tables::table;
-ghost use mathlib.Core.Path.{_≡_};
-ghost use Rattle.marking.specs.Promises.{TablesMarked};
-ghost use Rattle.marking.specs.Inner.{TablesAccepted, VerdictGiven};
 ghost use mathlib.Core.Bool.{true};
+ghost use mathlib.Core.Path.{_≡_};
 ghost use lib.ListN.{length};
 ghost use Rattle.keys.specs.Keys.{refuted};
+ghost use Rattle.marking.specs.Promises.{TablesMarked};
+ghost use Rattle.marking.specs.Inner.{TablesAccepted, VerdictGiven};
 
 // The verdict where no integers satisfy the sheet: the script is equal if none satisfy it either, and else loose with no rule.
 fn unsatisfiable_sheet(
@@ -27,7 +27,8 @@ fn unsatisfiable_sheet(
 ) -> Verdict
     requires { ⌜ TablesAccepted n set (now sheet) (now script) (length (now workspace)) (length (now values)) ⌝ }
     requires { ⌜ refuted n (now sheet) ≡ true ⌝ }
-    ensures { λ r. ⌜ VerdictGiven n set (now (sheet .entry)) (now (script .entry)) (now (workspace .entry)) (now (values .entry)) r (now (workspace .exit)) (now (values .exit)) ⌝ }
+    ensures { λ r. ⌜ VerdictGiven n set (now (sheet .entry)) (now (script .entry))
+        (now (workspace .entry)) (now (values .entry)) r (now (workspace .exit)) (now (values .exit)) ⌝ }
 {
     if decide::decide(n, script, workspace) {
         return Verdict::Equal;
@@ -46,7 +47,8 @@ fn verdict(
     values: &mut [i64],
 ) -> Verdict
     requires { ⌜ TablesAccepted n set (now sheet) (now script) (length (now workspace)) (length (now values)) ⌝ }
-    ensures { λ r. ⌜ VerdictGiven n set (now (sheet .entry)) (now (script .entry)) (now (workspace .entry)) (now (values .entry)) r (now (workspace .exit)) (now (values .exit)) ⌝ }
+    ensures { λ r. ⌜ VerdictGiven n set (now (sheet .entry)) (now (script .entry))
+        (now (workspace .entry)) (now (values .entry)) r (now (workspace .exit)) (now (values .exit)) ⌝ }
 {
     if decide::decide(n, sheet, workspace) {
         return unsatisfiable_sheet(n, set, sheet, script, workspace, values);
@@ -54,14 +56,14 @@ fn verdict(
     words::copy(workspace, sheet, table::size(n));
     key::hide_set(n, set, workspace);
     let loose = breaking::break_first(n, script, workspace, values);
-    let Rule::Nothing { bound: _ } = loose else {
+    if loose.has_term() {
         return Verdict::Loose(loose);
-    };
+    }
     words::copy(workspace, script, table::size(n));
     let tight = breaking::break_first(n, sheet, workspace, values);
-    let Rule::Nothing { bound: _ } = tight else {
+    if tight.has_term() {
         return Verdict::Tight(tight);
-    };
+    }
     Verdict::Equal
 }
 
@@ -75,7 +77,8 @@ pub fn mark(
     workspace: &mut [i64],
     values: &mut [i64],
 ) -> Marking
-    ensures { λ r. ⌜ TablesMarked n hidden (now (sheet .entry)) (now (script .entry)) (now (workspace .entry)) (now (values .entry)) r (now (workspace .exit)) (now (values .exit)) ⌝ }
+    ensures { λ r. ⌜ TablesMarked n hidden (now (sheet .entry)) (now (script .entry))
+        (now (workspace .entry)) (now (values .entry)) r (now (workspace .exit)) (now (values .exit)) ⌝ }
 {
     let checked = check::check(n, hidden, sheet, script, workspace.len(), values.len());
     match checked {

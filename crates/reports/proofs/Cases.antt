@@ -15,12 +15,12 @@ use Rattle.rules.specs.Limits.{maxQuantities, boundLimit}
 use Rattle.rules.specs.Meaning.{names}
 use Rattle.rules.specs.Steps.{ruleOf, oppositeOf, halvedOf}
 use Rattle.tables.specs.Places.{ruleAt, findPlace}
-use Rattle.tables.specs.Tables.{putAt, putHalved, putRule, putAll, cleared}
+use Rattle.tables.specs.Tables.{putAt, putHalved, putRule, putAll, cleared, namesHidden, anyNamesHidden}
 use Rattle.elimination.specs.Hiding.{withSum, withHalf, bareBelow, pairWord, onOne, onTwo, lowestAt, pairing, anyBare, paired, contradicts, eliminated}
 use Rattle.keys.specs.Keys.{hideUpTo, keyOf, refutedUpTo, refuted}
 use Rattle.marking.specs.Verdicts.{isShown}
 use Rattle.marking.specs.Meaning.{LooseShown, TightShown}
-use Rattle.marking.specs.Marking.{breakable, firstRule, firstBroken, verdictOf, namesHidden, anyNamesHidden}
+use Rattle.marking.specs.Marking.{breakable, firstRule, firstBroken, verdictOf}
 use Rattle.numerals.specs.Bytes.{bytes}
 use Rattle.numerals.specs.Decimal.{decimalUpTo, signedDecimal}
 use Rattle.numerals.proofs.Decimals.{up-to-enough}

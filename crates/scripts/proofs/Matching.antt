@@ -25,9 +25,10 @@ use Rattle.rules.specs.Meaning.{boundOf, names}
 use Rattle.rules.specs.Steps.{halvedOf}
 use Rattle.tables.specs.declared.reply.Reply.the-variants.{Done}
 use Rattle.tables.specs.Places.{ruleAt, findPlace, HasPlace}
-use Rattle.tables.specs.Tables.{hasRule, emptyTable, ruleReply, putAt, putHalved, putRule, putAll, tableOf}
+use Rattle.tables.specs.Tables.{hasRule, emptyTable, ruleReply, putAt, putHalved, putRule, putAll, tableOf, tableNamesHidden}
 use Rattle.tables.specs.Meaning.{HoldsRule, NoneNames, NamesVisible}
 use Rattle.tables.proofs.Tests.{clash, both-true}
+use Rattle.tables.proofs.Naming.{names-test}
 use Rattle.tables.proofs.Places.{placeOf, hasPlace-below, found-two, names-bound, place-names}
 use Rattle.tables.proofs.Putting.{different-quantities, one-accepted, two-accepted}
 use Rattle.tables.proofs.Lists.{AllAccepted, put-length}
@@ -35,8 +36,6 @@ use Rattle.lines.specs.Spelling.{writtenRules}
 use Rattle.reading.specs.Texts.{Contents}
 use Rattle.reading.specs.Meaning.{FineLines, contentsLimit}
 use Rattle.reading.proofs.FineRules.{contents-accepted}
-use Rattle.marking.specs.Marking.{tableNamesHidden}
-use Rattle.marking.proofs.Checking.{script-names}
 use Rattle.elimination.proofs.SumWords.{hasRule-mono}
 use Rattle.scripts.specs.Meaning.{setIn, tableIn, Matches}
 use Rattle.scripts.specs.Marking.{sameHeaders, fitsSheet}
@@ -206,7 +205,7 @@ module _ (c d : Contents) (f : FineLines (contentsLimit Sheet c) c) (g : FineLin
       to e =
           let p = both-true (sameHeaders (c .count) (setIn c) (d .count) (setIn d)) (not (tableNamesHidden (hiddenIn (setIn c)) (c .count) (tableIn d))) e in
           let h = headed (p .0) in
-          visible-matches (h .0) (h .1) (script-names (c .count) (setIn c) (tableIn c) (tableIn d) (room (h .0)) .0 (p .1))
+          visible-matches (h .0) (h .1) (names-test (hiddenIn (setIn c)) (c .count) (tableIn d) (room (h .0)) .0 (p .1))
 
       of : Matches c d → fitsSheet c d ≡ true
       of m =
@@ -214,5 +213,5 @@ module _ (c d : Contents) (f : FineLines (contentsLimit Sheet c) c) (g : FineLin
           rw (
             eq-eqb (c .count) (d .count) (sym (m .count)),
             eq-eqb (setIn c) (setIn d) (sym s),
-            script-names (c .count) (setIn c) (tableIn c) (tableIn d) (room (m .count)) .1 (matches-visible m),
+            names-test (hiddenIn (setIn c)) (c .count) (tableIn d) (room (m .count)) .1 (matches-visible m),
           )

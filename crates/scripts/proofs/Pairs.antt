@@ -1,7 +1,7 @@
 -- Two fine texts with room and one header: their reply is that of marking their tables, and what it says of the tables it says of the rules as written.
 -- Assumes nothing.
 use mathlib.Core.Path.{_≡_, refl, sym, _∙_, ap}
-use mathlib.Core.Bool.{Bool, true, false, not}
+use mathlib.Core.Bool.{Bool, true, not}
 use mathlib.Core.List.{List, _++_}
 use Prim.Native.Nat.{ℕ, _≤_}
 use native.Mathlib.Omega.{arith}
@@ -18,7 +18,7 @@ use Rattle.tables.specs.declared.reply.Reply.{Reply}
 use Rattle.tables.specs.declared.reply.Reply.the-variants.{Done}
 use Rattle.tables.specs.declared.reply.Reply.the-variants.{Refused as NotDone}
 use Rattle.tables.specs.Replies.{check}
-use Rattle.tables.specs.Tables.{serves}
+use Rattle.tables.specs.Tables.{serves, tableNamesHidden}
 use Rattle.tables.specs.Meaning.{Satisfies}
 use Rattle.tables.proofs.Tests.{clash}
 use Rattle.tables.proofs.Sizes.{long-serves}
@@ -30,14 +30,13 @@ use Rattle.marking.specs.declared.verdict.Marking.the-variants.{Refused as NotM
 use Rattle.marking.specs.declared.verdict.Marking.the-variants.{Marked as TablesMarkedAs}
 use Rattle.marking.specs.Verdicts.{verdictNumber, carriedRule, isMarked}
 use Rattle.marking.specs.Meaning.{workspaceSize}
-use Rattle.marking.specs.Marking.{verdictOf, tableNamesHidden, numbersWithin, markChecks, markedAs, markReply}
+use Rattle.marking.specs.Marking.{verdictOf, numbersWithin, markChecks, markedAs, markReply}
 use Rattle.marking.specs.Promises.{TablesMarked}
 use Rattle.reading.specs.Texts.{Contents}
 use Rattle.reading.specs.Meaning.{Reads, rulesOf}
 use Rattle.reading.proofs.Means.{reads-check, reads-same}
 use Rattle.scripts.specs.declared.room.Lengths.{Lengths}
 use Rattle.scripts.specs.declared.reply.Subject.the-variants.{Both}
-use Rattle.scripts.specs.declared.reply.TextMarking.the-variants.{Marked}
 use Rattle.scripts.specs.Replies.{textNumber, textRule, isTextShown}
 use Rattle.scripts.specs.Meaning.{lengthsOf, setIn, tableIn, AcceptedPair}
 use Rattle.scripts.specs.Marking.{pairChecks, markedOr, pairReply, textsReply, countIn}

@@ -2,8 +2,6 @@
 -- Assumes nothing.
 use mathlib.Core.Path.{_≡_, refl, sym, _∙_}
 use mathlib.Core.Bool.{Bool, true, false, not, _&&_, and-false}
-use mathlib.Core.Logic.{_↔_}
-use mathlib.Core.List.{List}
 use Prim.Native.Nat.{ℕ, _≤_, _<_}
 use lib.Dec.{leb, eqb}
 use borrow.Author.Tests.{le-leb, lt-leb, eqb-true, eq-eqb, ne-eqb}
@@ -16,16 +14,16 @@ use Rattle.rules.specs.Refusing.{Needs, passed, _or_then_}
 use Rattle.tables.specs.declared.reply.Reply.{Reply}
 use Rattle.tables.specs.declared.reply.Reply.the-variants.{Done, Refused}
 use Rattle.tables.specs.Replies.{check}
-use Rattle.tables.proofs.Tests.{both-true, clash, refused-done}
-use Rattle.tables.proofs.Refusing.{Tied, tied-done, tied-more, Before, before-none, before-more, refusal-in}
+use Rattle.tables.specs.Tables.{tableNamesHidden}
+use Rattle.tables.proofs.Tests.{both-true, refused-done}
+use Rattle.tables.proofs.Refusing.{Tied, tied-done, tied-more, Before, before-none, before-more}
 use Rattle.keys.proofs.Checking.{length-test}
 use Rattle.marking.specs.Meaning.{workspaceSize}
-use Rattle.marking.specs.Marking.{tableNamesHidden}
 use Rattle.reading.specs.Texts.{Contents}
 use Rattle.reading.specs.Meaning.{FineLines, contentsLimit}
 use Rattle.scripts.specs.declared.room.Lengths.{Lengths}
 use Rattle.scripts.specs.Meaning.{setIn, tableIn, pairNeeds}
-use Rattle.scripts.specs.Marking.{roomChecks, sameHeaders, fitsSheet, pairChecks}
+use Rattle.scripts.specs.Marking.{roomChecks, sameHeaders, pairChecks}
 use Rattle.scripts.specs.Inner.{firstChecks}
 use Rattle.scripts.proofs.Matching.{fits-matches}
 

@@ -12,9 +12,10 @@ use Rattle.tables.specs.declared.reply.Reply.{Reply}
 use Rattle.tables.specs.declared.reply.Reply.the-variants.{Done}
 use Rattle.tables.specs.declared.reply.Reply.the-variants.{Refused as NotDone}
 use Rattle.tables.specs.Replies.{check}
+use Rattle.tables.specs.Tables.{tableNamesHidden}
 use Rattle.marking.specs.declared.verdict.Verdict.{Verdict}
 use Rattle.marking.specs.Meaning.{workspaceSize}
-use Rattle.marking.specs.Marking.{tableNamesHidden, verdictOf}
+use Rattle.marking.specs.Marking.{verdictOf}
 use Rattle.lines.specs.Lines.{Judged, accepted, refused}
 use Rattle.reading.specs.Texts.{Contents}
 use Rattle.reading.specs.Reading.{checkText}

@@ -49,7 +49,8 @@ fn check_fit(n: usize, hidden: u32, script_n: usize, script_hidden: u32, lent: L
 
 // Checks two texts and what is lent for them; the first check that fails refuses them.
 pub(crate) fn check_pair(sheet: &[u8], script: &[u8], lent: Lengths) -> PairChecked
-    ensures { λ r. ⌜ r ≡ checkedPair (checkedOf (checkText Sheet (now (sheet .entry)))) (checkedOf (checkText Script (now (script .entry)))) lent ⌝ }
+    ensures { λ r. ⌜ r ≡ checkedPair (checkedOf (checkText Sheet (now (sheet .entry))))
+        (checkedOf (checkText Script (now (script .entry)))) lent ⌝ }
 {
     match check::check(sheet, Paper::Sheet) {
         Checked::Refused { refusal } => PairChecked::Refused {

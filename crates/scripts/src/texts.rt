@@ -20,7 +20,9 @@ pub fn mark_texts(
     workspace: &mut [i64],
     values: &mut [i64],
 ) -> TextMarking
-    ensures { λ r. ⌜ TextsMarked (now (sheet .entry)) (now (script .entry)) (now («sheet_table» .entry)) (now («script_table» .entry)) (now (workspace .entry)) (now (values .entry)) r (now («sheet_table» .exit)) (now («script_table» .exit)) (now (workspace .exit)) (now (values .exit)) ⌝ }
+    ensures { λ r. ⌜ TextsMarked (now (sheet .entry)) (now (script .entry))
+        (now («sheet_table» .entry)) (now («script_table» .entry)) (now (workspace .entry)) (now (values .entry)) r
+        (now («sheet_table» .exit)) (now («script_table» .exit)) (now (workspace .exit)) (now (values .exit)) ⌝ }
 {
     let lent = Lengths {
         sheet: sheet_table.len(),

@@ -1,6 +1,6 @@
 -- What a computed reply or test tells. Assumes nothing.
 use mathlib.Core.Path.{_≡_, refl}
-use mathlib.Core.Bool.{Bool, true, false, cond, _&&_}
+use mathlib.Core.Bool.{Bool, true, false, cond, _&&_, _||_}
 use mathlib.Core.Logic.{_↔_}
 use Prim.Native.Nat.{ℕ}
 use native.Mathlib.Omega.{arith}
@@ -23,6 +23,11 @@ passed false r f e = absurd (refused-done e)
 pub both-true : (a b : Bool) → _&&_ a b ≡ true → (a ≡ true) × (b ≡ true)
 both-true true b e = (refl, e)
 both-true false b e = clash e refl
+
+-- neither of two tests passes
+pub neither : (a b : Bool) → (_||_ a b ≡ false) ↔ ((a ≡ false) × (b ≡ false))
+neither true b = (λ e. clash refl e, λ p. p .0)
+neither false b = (λ e. (refl, e), λ p. p .1)
 
 -- a test that fails says that what it tests is not so, and back
 pub fails : {P : Type 0} {b : Bool} → (b ≡ true) ↔ P → b ≡ false → P → ⊥

@@ -1,5 +1,5 @@
 -- What the functions on a table promise: the reply and every word, for every input, and what the table means afterwards.
-use mathlib.Core.Bool.{Bool, true, cond}
+use mathlib.Core.Bool.{Bool, true, false, cond}
 use mathlib.Core.Path.{_≡_}
 use mathlib.Core.Logic.{_↔_}
 use mathlib.Core.List.{List, _++_}
@@ -20,8 +20,8 @@ use Rattle.rules.specs.Steps.{inOrder}
 use Rattle.tables.specs.Places.{ruleAt, findPlace, HasPlace}
 use Rattle.tables.specs.declared.reply.Reply.{Reply}
 use Rattle.tables.specs.Replies.{isDone, replyReturned, replyNumber}
-use Rattle.tables.specs.Tables.{emptyTable, emptyReply, putReply, putRule, clearReply, cleared, wordsInLimit}
-use Rattle.tables.specs.Meaning.{TableSized, RuleSized, Cancels, Meetable, Satisfies, SatisfiesWithout, WordsWithin}
+use Rattle.tables.specs.Tables.{emptyTable, emptyReply, putReply, putRule, clearReply, cleared, wordsInLimit, tableNamesHidden}
+use Rattle.tables.specs.Meaning.{TableSized, RuleSized, Cancels, Meetable, Satisfies, SatisfiesWithout, WordsWithin, NamesVisible}
 
 -- what emptying a table of so many words needs
 abbrev pub emptyNeeds : ℕ → ℕ → Needs
@@ -68,6 +68,11 @@ pub record Cleared (n q : ℕ) (before : List ℤ) (r : Reply) (after : List ℤ
 pub record InLimit (m : ℕ) (B : ℤ) (t : List ℤ) (r : Bool) : Type 0 where
   pub reply : r ≡ wordsInLimit m B t
   pub meaning : (r ≡ true) ↔ WordsWithin m B t
+
+-- the answer whether a rule of a table names a hidden quantity
+pub record HiddenNamed (n : ℕ) (hidden : ℕ → Bool) (t : List ℤ) (r : Bool) : Type 0 where
+  pub reply : r ≡ tableNamesHidden hidden n t
+  pub meaning : (r ≡ false) ↔ NamesVisible n hidden t
 
 -- the rule of a place: its term has just that place, in every table that has the place, and of two quantities the lower stands first
 pub record AtPlace (k : ℕ) (c : ℤ) (r : Rule) : Type 0 where

@@ -1,10 +1,10 @@
--- The table's steps: its size, its empty form, a rule put in, a quantity's places cleared, and the test of its words.
-use mathlib.Core.Bool.{Bool, true, false, cond, not, _&&_}
+-- The table's steps: its size, its empty form, a rule put in, a quantity's places cleared, and the tests of its words and of the quantities that they name.
+use mathlib.Core.Bool.{Bool, true, false, cond, not, _&&_, _||_}
 use mathlib.Core.List.{List, [], _∷_}
 use Prim.Native.Nat.{ℕ, zero, suc, _*_}
 use lib.Dec.{leb, ltb, eqb}
 use lib.IntN.{ℤ, pos, negℤ}
-use lib.ListN.{replicate}
+use lib.ListN.{replicate, take}
 use lib.Signed.{ltZ, leZ}
 use Rattle.integers.specs.Bound.{smaller}
 use Rattle.words.specs.Change.{change, lowered}
@@ -15,7 +15,7 @@ use Rattle.rules.specs.declared.rule.Rule.{Rule}
 use Rattle.rules.specs.declared.rule.Rule.the-variants.{One, Two, Nothing}
 use Rattle.rules.specs.declared.refusal.Refusal.the-variants.{Size, OutOfLimit, Cancelling, NoAssignment}
 use Rattle.rules.specs.Limits.{maxQuantities, noRule}
-use Rattle.rules.specs.Literal.{negated}
+use Rattle.rules.specs.Literal.{negated, quantityOf}
 use Rattle.rules.specs.Meaning.{boundOf, names}
 use Rattle.rules.specs.Steps.{halvedOf}
 use Rattle.tables.specs.declared.reply.Reply.{Reply}
@@ -124,3 +124,18 @@ unfoldable pub wordsInLimit : ℕ → ℤ → List ℤ → Bool
 wordsInLimit zero B t = true
 wordsInLimit (suc m) B [] = true
 wordsInLimit (suc m) B (w ∷ t) = inLimit B w && wordsInLimit m B t
+
+-- does a rule name a hidden quantity?
+unfoldable pub namesHidden : (ℕ → Bool) → Rule → Bool
+namesHidden hidden (One x c) = hidden (quantityOf x)
+namesHidden hidden (Two x y c) = hidden (quantityOf x) || hidden (quantityOf y)
+namesHidden hidden (Nothing c) = false
+
+-- does one of the rules of words, the first being the word of place k?
+unfoldable pub anyNamesHidden : (ℕ → Bool) → ℕ → List ℤ → Bool
+anyNamesHidden hidden k [] = false
+anyNamesHidden hidden k (w ∷ ws) = (hasRule w && namesHidden hidden (ruleAt k w)) || anyNamesHidden hidden (suc k) ws
+
+-- does one of the rules of a table?
+abbrev pub tableNamesHidden : (ℕ → Bool) → ℕ → List ℤ → Bool
+tableNamesHidden hidden n t = anyNamesHidden hidden 0 (take (blockStart n) t)

@@ -1,5 +1,6 @@
 // Tables of rules: one word for each term over n quantities (document 01, 'The table').
 pub mod limit;
+pub mod names;
 pub mod place;
 pub mod reply;
 pub mod table;

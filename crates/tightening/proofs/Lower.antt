@@ -18,13 +18,13 @@ use Rattle.rules.specs.Literal.{negated}
 use Rattle.rules.specs.Meaning.{names}
 use Rattle.tables.specs.Tables.{hasRule, cleared}
 use Rattle.tables.specs.Meaning.{ruleIn}
-use Rattle.tables.proofs.Tests.{clash}
+use Rattle.tables.proofs.Tests.{clash, neither}
 use Rattle.tables.proofs.Without.{cleared-word}
 use Rattle.elimination.specs.Hiding.{pairWord, loneWord, bareBelow, anyBare, paired, contradicts, eliminated}
 use Rattle.elimination.proofs.TermWords.{quantity-cases, pair-apart, pair-first, pair-second, pair-sym, lone-at, pair-at}
 use Rattle.elimination.proofs.SumWords.{hasRule-mono, le-trans}
 use Rattle.elimination.proofs.PairedWords.{lone-elim, lone-lowered, lone-plus, lone-minus, lone-half, pair-elim, pair-lowered, pair-sum}
-use Rattle.elimination.proofs.Step.{paired-length, bare-clear, neither, anyBare-clear}
+use Rattle.elimination.proofs.Step.{paired-length, bare-clear, anyBare-clear}
 use Rattle.keys.specs.Keys.{hideUpTo, keyOf, every, refutedUpTo}
 use Rattle.keys.specs.Inner.{pairUpTo, clashUpTo}
 use Rattle.keys.proofs.Several.{hideUpTo-length}

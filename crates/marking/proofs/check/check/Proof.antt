@@ -8,9 +8,9 @@ use borrow.Author.Tests.{not-true, not-false}
 use Rattle.rules.specs.declared.refusal.Refusal.the-variants.{Mismatch}
 use Rattle.tables.specs.declared.reply.Reply.the-variants.{Done}
 use Rattle.tables.specs.Replies.{check}
-use Rattle.tables.proofs.Sizes.{serves-tells, size-known}
+use Rattle.tables.proofs.Sizes.{serves-tells, size-known, serves-sized}
 use Rattle.marking.specs.Marking.{markChecks}
-use Rattle.marking.proofs.Checking.{BothServe, both-small, both-room}
+use Rattle.marking.proofs.Checking.{BothServe, both-small}
 use Rattle.marking.proofs.Checking.{sheet-refused, script-refused, workspace-refused, values-refused, numbers-refused, names-answered}
 use Rattle.marking.proofs.check.check.Statement.{statement}
 use Rattle.marking.proofs.check.check.Tie as tie
@@ -65,7 +65,7 @@ returns-5 c =
     (sym (c .before .numbers-within .ensures) ∙ not-true _ (c .if5 .taken))
 
 any-names-hidden-requires : tie.Need-any-names-hidden-requires
-any-names-hidden-requires c κs = let b = both (c .before .before .before .before) in (both-room _ _ _ _ b, both-small _ _ _ _ b)
+any-names-hidden-requires c κs = serves-sized _ _ .0 (both (c .before .before .before .before) .script-serves)
 
 -- past all limits
 names-tell : (c : tie.After-any-names-hidden) → let s = c .before .before .before .before .before .before .before .before .before .before in
@@ -75,7 +75,7 @@ names-tell c = let within = c .before in
     let room = within .before .before in
     let long = room .before in
     names-answered _ _ _ _ _ _ _ (both (long .before)) (long .if3 .left) (room .if4 .left) _
-    (sym (within .before .numbers-within .ensures) ∙ not-false _ (within .if5 .left)) (c .any-names-hidden .ensures)
+    (sym (within .before .numbers-within .ensures) ∙ not-false _ (within .if5 .left)) (c .any-names-hidden .ensures .reply)
 
 returns-6 : tie.Need-returns-6
 returns-6 c = rw (c .if6 .taken) at (names-tell (c .before))

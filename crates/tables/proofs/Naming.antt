@@ -1,6 +1,6 @@
--- The names of a script's rules: whether one names a hidden quantity, by the words of its table and as they are read one after the other. Assumes nothing.
+-- The quantities that a table's rules name: whether one is hidden, by all words at once and as they are read one after the other. Assumes nothing.
 use mathlib.Core.Path.{_≡_, refl, sym, _∙_}
-use mathlib.Core.Bool.{Bool, true, false, _&&_, _||_, or-true}
+use mathlib.Core.Bool.{Bool, true, false, not, _&&_, _||_, or-true}
 use mathlib.Core.List.{List, [], _∷_}
 use mathlib.Core.Logic.{_↔_}
 use Prim.Native.Nat.{ℕ, zero, suc, _+_, _≤_, _<_}
@@ -16,12 +16,11 @@ use Rattle.rules.specs.declared.rule.Rule.{Rule}
 use Rattle.rules.specs.declared.rule.Rule.the-variants.{One, Two, Nothing}
 use Rattle.rules.specs.Literal.{quantityOf}
 use Rattle.rules.specs.Meaning.{names}
 use Rattle.tables.specs.Places.{ruleAt}
-use Rattle.tables.specs.Tables.{hasRule}
+use Rattle.tables.specs.Tables.{hasRule, namesHidden, anyNamesHidden, tableNamesHidden}
 use Rattle.tables.specs.Meaning.{HoldsRule, ruleIn, NamesVisible}
-use Rattle.tables.proofs.Tests.{clash}
-use Rattle.elimination.proofs.Step.{neither}
-use Rattle.marking.specs.Marking.{namesHidden, anyNamesHidden, tableNamesHidden}
+use Rattle.tables.specs.Promises.{HiddenNamed}
+use Rattle.tables.proofs.Tests.{clash, neither}
 
 -- a rule names no hidden quantity exactly where each that it names is visible
 rule-visible : (hidden : ℕ → Bool) (r : Rule) → (namesHidden hidden r ≡ false) ↔ ((q : ℕ) → names q r ≡ true → hidden q ≡ false)
@@ -101,7 +100,19 @@ names-visible hidden n t l = (λ e. record { each = to (none-named hidden 0 fron
         let i : k < blockStart n = rw size at h in
         rw (from k, same k i) (rule-visible hidden (ruleIn t k) .1 (v .each k (record { inside = i; there = omega arith; rule = rw (same k i) at d })))
 
--- ---- the loop over a script's words
+-- so it passes the test of a script exactly where they do
+pub names-test : (hidden : ℕ → Bool) (n : ℕ) (t : List ℤ) → blockStart n ≤ length t → (not (tableNamesHidden hidden n t) ≡ true) ↔ NamesVisible n hidden t
+names-test hidden n t l = (to (tableNamesHidden hidden n t) refl, λ v. rw (names-visible hidden n t l .1 v))
+  where
+    to : (b : Bool) → tableNamesHidden hidden n t ≡ b → not b ≡ true → NamesVisible n hidden t
+    to true e c = clash refl (sym c)
+    to false e c = names-visible hidden n t l .0 e
+
+-- and that answer is what is promised
+pub names-answered : (hidden : ℕ → Bool) (n : ℕ) (t : List ℤ) (r : Bool) → blockStart n ≤ length t → r ≡ tableNamesHidden hidden n t → HiddenNamed n hidden t r
+names-answered hidden n t r l e = record { reply = e; meaning = rw e (names-visible hidden n t l) }
+
+-- ---- the loop over a table's words
 
 -- the present word decides, or the words after it
 naming-more : (hidden : ℕ → Bool) (m k : ℕ) (t : List ℤ) → m ≤ length t → k < m

@@ -1,9 +1,9 @@
--- `check::names_hidden` meets its contract: the literals' quantities are looked up in the set, one after the other. Assumes nothing.
+-- `names::names_hidden` meets its contract: the literals' quantities are looked up in the set, one after the other. Assumes nothing.
 use mathlib.Core.Path.{sym}
 use borrow.Author.Needs.{needs}
-use Rattle.marking.specs.Marking.{namesHidden}
-use Rattle.marking.proofs.check.names_hidden.Statement.{statement}
-use Rattle.marking.proofs.check.names_hidden.Tie as tie
+use Rattle.tables.specs.Tables.{namesHidden}
+use Rattle.tables.proofs.names.names_hidden.Statement.{statement}
+use Rattle.tables.proofs.names.names_hidden.Tie as tie
 
 enum-known-rule : tie.Need-enum-known-rule
 enum-known-rule c = search needs

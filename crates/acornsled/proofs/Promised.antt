@@ -16,10 +16,9 @@ use Rattle.keys.specs.Promises.{Keyed, Assigned}
 use Rattle.rules.specs.declared.refusal.Refusal.{Refusal}
 use Rattle.rules.specs.Limits.{maxQuantities}
 use Rattle.rules.specs.declared.paper.Paper.the-variants.{Script as OfScript}
-use Rattle.rules.specs.declared.rule.Rule.{Rule}
 use Rattle.rules.specs.Refusal.{refusalNumber, refusalValue, Returned, refusedAs}
 use Rattle.rules.proofs.Refusals.{same-refusal-value, same-refusal, refusal-number, refusal-below}
-use Rattle.rules.specs.RuleWords.{ruleIn}
+use Rattle.rules.specs.RuleWords.{ruleValues, ruleIn}
 use Rattle.tables.proofs.Tests.{clash}
 use Rattle.tables.specs.Replies.{replyReturned, replyNumber, replyValue}
 use Rattle.marking.specs.declared.verdict.Verdict.{Verdict}
@@ -32,7 +31,7 @@ use Rattle.scripts.specs.declared.room.Lengths.{Lengths}
 use Rattle.scripts.specs.declared.reply.TextMarking.{TextMarking}
 use Rattle.scripts.specs.declared.reply.TextMarking.the-variants.{Marked}
 use Rattle.scripts.specs.declared.reply.TextMarking.the-variants.{Refused as NotMarked}
-use Rattle.scripts.specs.Replies.{textNumber, textRule, textValue, paperNumber, textPaper}
+use Rattle.scripts.specs.Replies.{textsReturned, textNumber, textValue, paperNumber, textPaper}
 use Rattle.scripts.specs.Marking.{textsReply, countIn}
 use Rattle.scripts.specs.Meaning.{AcceptedPair, RefusedPair, ownLengths}
 use Rattle.scripts.specs.Promises.{PairJudged, TextsJudged, MarkedInOwnRoom}
@@ -209,16 +208,17 @@ told-count before (Marked n v) j t = let e = j .counts t in cc
 told-count before (NotMarked w f) j t = clash (j .accepted .1 t) refl
 
 -- the words that come with a loose or tight verdict are of the rule that it carries
-told-rule : (before : List ℤ) (r : TextMarking) (k : ℕ) → textNumber r ≡ k → 100 < k → ruleIn (ruleMarked before r) ≡ textRule r
-told-rule before (Marked n Equal) k e h = absurd (omega (arith, e))
-told-rule before (Marked n (Loose rule)) k e h = words-rule rule
-told-rule before (Marked n (Tight rule)) k e h = words-rule rule
-told-rule before (NotMarked w f) k e h = absurd (omega (arith, e, refusal-below f))
+told-same : (before : List ℤ) (x : TextMarking) → 100 < textNumber x
+    → _≡_ {A = Returned} (record { number = textNumber x; values = ruleValues (ruleIn (ruleMarked before x)) }) (textsReturned x)
+told-same before (Marked n Equal) h = absurd (omega arith)
+told-same before (Marked n (Loose rule)) h = rw (words-rule rule)
+told-same before (Marked n (Tight rule)) h = rw (words-rule rule)
+told-same before (NotMarked w f) h = absurd (omega (arith, refusal-below f))
 
--- what a verdict means it means with another name of its rule
-judged-rule : {sheet script : List ℕ} {lent : Lengths} (t : AcceptedPair sheet script lent) (number : ℕ) (r s : Rule) (values : List ℤ)
-    → (number ≡ 101 → s ≡ r) → (number ≡ 102 → s ≡ r) → PairJudged t number r values → PairJudged t number s values
-judged-rule t number r s values l h j = record {
+-- what is told of a verdict means what the verdict does
+judged-told : {sheet script : List ℕ} {lent : Lengths} (t : AcceptedPair sheet script lent) (before : List ℤ) (x : TextMarking) (values : List ℤ)
+    → PairJudged t (textsReturned x) values → PairJudged t (record { number = textNumber x; values = ruleValues (ruleIn (ruleMarked before x)) }) values
+judged-told t before x values j = record {
   members = j .members;
   sheet-table = j .sheet-table;
   script-table = j .script-table;
@@ -226,8 +226,8 @@ judged-rule t number r s values l h j = record {
     demand = j .means .demand;
     visibles = j .means .visibles;
     key = j .means .key;
-    loose = λ e. rw (l e) (j .means .loose e);
-    tight = λ e. rw (h e) (j .means .tight e);
+    loose = λ rule e. j .means .loose rule (sym (told-same before x (omega (arith, ap number e))) ∙ e);
+    tight = λ rule e. j .means .tight rule (sym (told-same before x (omega (arith, ap number e))) ∙ e);
   };
 }
 
@@ -238,8 +238,7 @@ reply-told sheet script lent reply n rule values j = record {
   refused = told-refused sheet script lent reply (j .reply);
   accepted = reply-accepted reply j;
   count = told-count n reply j;
-  judged = λ t. judged-rule t (textNumber reply) (textRule reply) (ruleIn (ruleMarked rule reply)) values
-      (λ e. told-rule rule reply 101 e (omega arith)) (λ e. told-rule rule reply 102 e (omega arith)) (j .judged t);
+  judged = λ t. judged-told t rule reply values (j .judged t);
 }
 
 -- marking without the reasons gives the same number, where the assignment is not too short

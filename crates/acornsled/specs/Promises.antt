@@ -11,7 +11,7 @@ use Rattle.rules.specs.declared.refusal.Refusal.{Refusal}
 use Rattle.rules.specs.Limits.{maxQuantities}
 use Rattle.rules.specs.Refusal.{refusalNumber, refusalValue}
 use Rattle.rules.specs.Refusing.{RefusedBy, AllMet}
-use Rattle.rules.specs.RuleWords.{ruleIn}
+use Rattle.rules.specs.RuleWords.{ruleValues, ruleIn}
 use Rattle.tables.specs.Replies.{replyNumber, replyValue}
 use Rattle.keys.specs.Keys.{keyReply, assignmentReply}
 use Rattle.keys.specs.Meaning.{keyNeeds, assignmentNeeds}
@@ -30,7 +30,7 @@ use Rattle.scripts.specs.declared.room.Lengths.{Lengths}
 use Rattle.scripts.specs.declared.reply.TextMarking.{TextMarking}
 use Rattle.scripts.specs.declared.reply.TextMarking.the-variants.{Marked}
 use Rattle.scripts.specs.declared.reply.TextMarking.the-variants.{Refused as NotMarked}
-use Rattle.scripts.specs.Replies.{textNumber, textRule, textValue, textPaper, paperNumber, isTextShown}
+use Rattle.scripts.specs.Replies.{textsReturned, textNumber, textValue, textPaper, paperNumber, isTextShown}
 use Rattle.scripts.specs.Meaning.{AcceptedPair, RefusedPair, ownLengths}
 use Rattle.scripts.specs.Marking.{textsReply, countIn}
 use Rattle.scripts.specs.Promises.{PairJudged}
@@ -102,7 +102,7 @@ pub record MarkAnswer (sheet script : List ℕ) (r : ℕ) : Type 0 where
   pub never : ((r ≡ 5) → ⊥) × ((r ≡ 6) → ⊥)
   -- the number means what demand 3 says; the rule of the verdict and an assignment that shows it are not told
   pub values : List ℤ
-  pub judged : (t : AcceptedPair sheet script (ownLengths maxQuantities)) → PairJudged t r (textRule (hostReply sheet script maxQuantities)) values
+  pub judged : (t : AcceptedPair sheet script (ownLengths maxQuantities)) → PairJudged t (record { number = r; values = textsReturned (hostReply sheet script maxQuantities) .values }) values
 
 -- n after marking: with a verdict the sheet's, else as it was
 abbrev pub countMarked : ℕ → TextMarking → ℕ
@@ -123,7 +123,7 @@ pub record Told (sheet script : List ℕ) (lent : Lengths) (r p v n : ℕ) (rule
   pub accepted : (100 ≤ r) ↔ AcceptedPair sheet script lent
   pub count : (t : AcceptedPair sheet script lent) → n ≡ t .of-sheet .count
   -- it means what demand 3 says; the rule of a loose or tight verdict is the one of these words, and the assignment shows the verdict and breaks it
-  pub judged : (t : AcceptedPair sheet script lent) → PairJudged t r (ruleIn rule) values
+  pub judged : (t : AcceptedPair sheet script lent) → PairJudged t (record { number = r; values = ruleValues (ruleIn rule) }) values
 
 -- marking two texts with the reasons: n, the rule's words and the assignment before the call, then the number r, the paper p and the line or length v, and the
 -- same three after it

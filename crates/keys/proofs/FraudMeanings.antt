@@ -14,6 +14,7 @@ use Rattle.rules.specs.Meaning.{Assignment, literalValue}
 use Rattle.rules.specs.Steps.{ruleOf, halvedOf}
 use Rattle.tables.specs.declared.reply.Reply.{Reply}
 use Rattle.tables.specs.declared.reply.Reply.the-variants.{Refused}
+use Rattle.places.specs.Numbering.{blockStart}
 use Rattle.rules.specs.declared.refusal.Refusal.{Refusal}
 use Rattle.tables.specs.Tables.{emptyTable, cleared, ruleReply}
 use Rattle.tables.specs.Meaning.{HoldsRule, Satisfies, Satisfiable, Unsatisfiable, SheetAllows, NamesVisible, joined}

@@ -53,6 +53,44 @@ signed-back x = go (eqb (x % 2) 0) refl
     go true e = rw next (let z = eqb-true (x % 2) 0 e in omega arith)
     go false e = rw next (let z = eqb-false (x % 2) 0 e in omega arith)
 
+-- the rule of some values
+unfoldable ruleFor : List ℤ → Rule
+ruleFor [] = trivialRule
+ruleFor (p ∷ []) = trivialRule
+ruleFor (p ∷ c ∷ []) = One (literalOf p) c
+ruleFor (p ∷ q ∷ c ∷ zs) = Two (literalOf p) (literalOf q) c
+
+-- it is the rule that has them, where that has a term
+rule-for : (r : Rule) → hasTerm r ≡ true → ruleFor (ruleValues r) ≡ r
+unfolding ruleFor
+rule-for (One x c) e = rw (signed-back x)
+rule-for (Two x y c) e = rw (signed-back x, signed-back y)
+rule-for (Nothing c) e = clash e refl
+
+-- has a list a first element?
+unfoldable hasFirst : List ℤ → Bool
+hasFirst [] = false
+hasFirst (z ∷ zs) = true
+
+-- a rule has a term exactly where it has values
+term-first : (r : Rule) → hasFirst (ruleValues r) ≡ hasTerm r
+unfolding hasFirst
+term-first (One x c) = refl
+term-first (Two x y c) = refl
+term-first (Nothing c) = refl
+
+-- rules with the same values both have a term or both have none
+same-term : (r s : Rule) → ruleValues r ≡ ruleValues s → hasTerm r ≡ hasTerm s
+same-term r s e = sym (term-first r) ∙ ap hasFirst e ∙ term-first s
+
+-- so two rules with the same values are the same, or neither has a term
+same-rule : (r s : Rule) → ruleValues r ≡ ruleValues s → (r ≡ s) ⊎ ((hasTerm r ≡ false) × (hasTerm s ≡ false))
+same-rule r s e = go (hasTerm r) refl
+  where
+    go : (b : Bool) → hasTerm r ≡ b → (r ≡ s) ⊎ ((hasTerm r ≡ false) × (hasTerm s ≡ false))
+    go true h = inl (sym (rule-for r h) ∙ ap ruleFor e ∙ rule-for s (sym (same-term r s e) ∙ h))
+    go false h = inr (h, sym (same-term r s e) ∙ h)
+
 -- ---- its words for a host
 
 -- a signed quantity number names a quantity
@@ -81,3 +119,56 @@ ruleAt-term k c = go (isOne k)
     go : (b : Bool) → hasTerm (cond b (One (higherAt k) c) (Two (lowerAt k) (higherAt k) c)) ≡ true
     go true = refl
     go false = refl
+
+-- a rule with no term asks nothing to be broken
+bare-broken : (σ : Assignment) (r : Rule) → hasTerm r ≡ false → BreaksCarried σ r
+bare-broken σ (One x c) e = clash refl e
+bare-broken σ (Two x y c) e = clash refl e
+bare-broken σ (Nothing c) e = tt
+
+-- ---- what is known of the rule that a verdict carries is known of any rule with its values
+
+module _ (r s : Rule) (e : ruleValues r ≡ ruleValues s) where
+  -- the first broken rule is returned by its values alone
+  pub first-alike : (n : ℕ) (rules : List ℤ) (paper : Solutions) → FirstBroken n rules paper r → FirstBroken n rules paper s
+  first-alike n rules paper f = go (same-rule r s e)
+    where
+      go : (r ≡ s) ⊎ ((hasTerm r ≡ false) × (hasTerm s ≡ false)) → FirstBroken n rules paper s
+      go (inl d) = rw d at f
+      go (inr h) = clash (ap hasTerm (f .is) ∙ ruleAt-term (f .place) (wordAt rules (f .place))) (h .0)
+
+  -- so is the rule of a loose verdict
+  pub loose-alike : (hidden : ℕ → Bool) (n : ℕ) (sheet : List ℤ) (script : Solutions) → LooseRule hidden n sheet script r → LooseRule hidden n sheet script s
+  loose-alike hidden n sheet script (inl h) = inl (h .0, sym (same-term r s e) ∙ h .1)
+  loose-alike hidden n sheet script (inr h) = inr (h .0, first-alike n _ script (h .1))
+
+  -- and what breaks the one rule breaks the other
+  breaks-alike : (σ : Assignment) → BreaksCarried σ r → BreaksCarried σ s
+  breaks-alike σ b = go (same-rule r s e)
+    where
+      go : (r ≡ s) ⊎ ((hasTerm r ≡ false) × (hasTerm s ≡ false)) → BreaksCarried σ s
+      go (inl d) = rw d at b
+      go (inr h) = bare-broken σ s (h .1)
+
+  -- so the same assignment shows a loose verdict
+  pub loose-shown-alike : (n : ℕ) (hidden : ℕ → Bool) (sheet script : Solutions) (values : List ℤ) → LooseShown n hidden sheet script r values
+      → LooseShown n hidden sheet script s values
+  loose-shown-alike n hidden sheet script values l = record {
+    allowed = l .allowed;
+    incomplete = l .incomplete;
+    breaks = breaks-alike _ (l .breaks);
+    zero = l .zero;
+    there = l .there;
+    range = l .range;
+  }
+
+  -- and a tight one
+  pub tight-shown-alike : (n : ℕ) (hidden : ℕ → Bool) (sheet script : Solutions) (values : List ℤ) → TightShown n hidden sheet script r values
+      → TightShown n hidden sheet script s values
+  tight-shown-alike n hidden sheet script values t = record {
+    complete = t .complete;
+    forbidden = t .forbidden;
+    breaks = breaks-alike _ (t .breaks);
+    there = t .there;
+    range = t .range;
+  }

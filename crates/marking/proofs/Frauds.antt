@@ -267,7 +267,7 @@ no-rule-given s (inr p) =
 
 -- one that gives a rule though the sheet allows nothing: hidden 1, +1+2:1, -1-2:-1, +1-2:0, -1+2:0
 pub rule-of-nothing : (s : Solutions) (r : Rule) → hasTerm r ≡ true → LooseRule (hiddenIn 1) 2 (sheetTable seenLate) s r → ⊥
-rule-of-nothing s r h (inl u) = clash h (ap hasTerm (u .1))
+rule-of-nothing s r h (inl u) = clash h (u .1)
 rule-of-nothing s r h (inr p) = seenLate-unsatisfiable (p .0 .assignment) (p .0 .satisfies)
 
 -- ---- the assignment

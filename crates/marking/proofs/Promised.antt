@@ -38,13 +38,13 @@ use Rattle.marking.specs.declared.verdict.Verdict.{Verdict}
 use Rattle.marking.specs.declared.verdict.Verdict.the-variants.{Equal, Loose, Tight}
 use Rattle.marking.specs.declared.verdict.Marking.the-variants.{Marked, Refused}
 use Rattle.marking.specs.declared.verdict.Marking.{Marking}
-use Rattle.marking.specs.Verdicts.{verdictNumber, carriedRule, markingReturned, isMarked}
+use Rattle.marking.specs.Verdicts.{verdictNumber, carriedRule, verdictReturned, markingReturned, isMarked}
 use Rattle.marking.specs.Marking.{firstBroken, orElse, verdictOf, markChecks, markedAs, markReply}
 use Rattle.marking.specs.Meaning.{LooseShown, TightShown, VerdictMeans, workspaceSize, markNeeds}
 use Rattle.marking.specs.Promises.{TablesMarked}
 use Rattle.marking.specs.Inner.{TablesAccepted, VerdictGiven, FrontBreakable, FrontBroken}
 use Rattle.marking.proofs.Checking.{mark-tied, met-accepted}
-use Rattle.marking.proofs.Carried.{verdict-refusal}
+use Rattle.marking.proofs.Carried.{verdict-refusal, first-alike, loose-alike, loose-shown-alike, tight-shown-alike}
 use Rattle.marking.proofs.Zeros.{unnamed-zero}
 use Rattle.marking.proofs.Opposed.{visible-unnamed, sheet-fitting, script-fitting, tight-opposed, loose-opposed, tight-small, loose-small}
 use Rattle.marking.proofs.Demand.{verdict-demand, verdict-loose, verdict-tight}
@@ -278,7 +278,7 @@ equal-given n set sheet script w v y x u r w' v' e p f b h =
 -- what a verdict means
 verdict-told : (n set : ℕ) (sheet script : List ℤ) (w v : List ℤ) (r : Verdict) (w' v' : List ℤ)
     → TablesAccepted n set sheet script (length w) (length v) → VerdictGiven n set sheet script w v r w' v'
-    → VerdictMeans n set (Satisfies n sheet) (Satisfies n script) sheet script (verdictNumber r) (carriedRule r) v'
+    → VerdictMeans n set (Satisfies n sheet) (Satisfies n script) sheet script (verdictReturned r) v'
 verdict-told n set sheet script w v r w' v' m g = record {
   demand = rw (g .reply) (verdict-demand n set sheet script (length w) (length v) m);
   visibles = record {
@@ -286,10 +286,16 @@ verdict-told n set sheet script w v r w' v' m g = record {
     sheet-visible = table-allows-visible n (hiddenIn set) sheet;
   };
   key = key-made n set sheet (sheet-fitting n set sheet script (length w) (length v) m) (m .limits .sheet-within);
-  loose = λ e. let p = is-loose r e in
-      (verdict-loose n set sheet script (length w) (length v) m (carriedRule r) (sym (g .reply) ∙ p), g .loose-shown (carriedRule r) p);
-  tight = λ e. let p = is-tight r e in
-      (verdict-tight n set sheet script (length w) (length v) m (carriedRule r) (sym (g .reply) ∙ p), g .tight-shown (carriedRule r) p);
+  loose = λ rule e. let p = is-loose r (ap (λ (x : Returned). x .number) e) in let d = ap (λ (x : Returned). x .values) e in (
+    loose-alike (carriedRule r) rule d (hiddenIn set) n sheet (Satisfies n script)
+    (verdict-loose n set sheet script (length w) (length v) m (carriedRule r) (sym (g .reply) ∙ p)),
+    loose-shown-alike (carriedRule r) rule d n (hiddenIn set) (Satisfies n sheet) (Satisfies n script) v' (g .loose-shown (carriedRule r) p),
+  );
+  tight = λ rule e. let p = is-tight r (ap (λ (x : Returned). x .number) e) in let d = ap (λ (x : Returned). x .values) e in (
+    first-alike (carriedRule r) rule d n script (Satisfies n sheet)
+    (verdict-tight n set sheet script (length w) (length v) m (carriedRule r) (sym (g .reply) ∙ p)),
+    tight-shown-alike (carriedRule r) rule d n (hiddenIn set) (Satisfies n sheet) (Satisfies n script) v' (g .tight-shown (carriedRule r) p),
+  );
 }
 
 -- a reply made of checks is refused as they are

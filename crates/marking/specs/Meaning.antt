@@ -17,13 +17,15 @@ use Rattle.rules.specs.declared.refusal.Refusal.the-variants.{Size, OutOfLimit,
 use Rattle.rules.specs.Hidden.{hiddenIn, setWithin}
 use Rattle.rules.specs.Limits.{maxQuantities}
 use Rattle.rules.specs.Refusing.{Needs, passed, _or_then_}
-use Rattle.rules.specs.Steps.{trivialRule}
-use Rattle.rules.specs.Meaning.{Assignment, Meets}
+use Rattle.rules.specs.Refusal.{Returned}
+use Rattle.rules.specs.Meaning.{Assignment, Meets, hasTerm}
 use Rattle.tables.specs.Meaning.{HoldsRule, ruleIn, Satisfiable, Unsatisfiable, Solutions, Completes, SheetAllows, ScriptAllows, ScriptForbids, Breaks, NamesVisible, SameVisible, assignmentOf}
 use Rattle.elimination.specs.Magnitude.{valueLimit}
 use Rattle.keys.specs.Keys.{keyOf}
 use Rattle.keys.specs.Meaning.{BoundsWithin}
 use Rattle.keys.specs.Promises.{KeyMade}
+use Rattle.marking.specs.declared.verdict.Verdict.the-variants.{Loose, Tight}
+use Rattle.marking.specs.Verdicts.{verdictReturned}
 
 -- ---- demand 3
 
@@ -80,7 +82,7 @@ NoneBroken n rules paper = (k : ℕ) → HoldsRule n rules k → Breaks paper (r
 -- a loose verdict carries the first key rule by place that some assignment allowed by the script breaks, and none where the sheet itself allows nothing
 abbrev pub LooseRule : (ℕ → Bool) → ℕ → List ℤ → Solutions → Rule → Type 0
 LooseRule hidden n sheet script r =
-    (Unsatisfiable n sheet × (r ≡ trivialRule)) ⊎ (Satisfiable n sheet × FirstBroken n (keyOf hidden n sheet) script r)
+    (Unsatisfiable n sheet × (hasTerm r ≡ false)) ⊎ (Satisfiable n sheet × FirstBroken n (keyOf hidden n sheet) script r)
 
 -- a tight one the first script rule by place that some assignment of the sheet breaks
 abbrev pub TightRule : ℕ → Solutions → List ℤ → Rule → Type 0
@@ -117,15 +119,17 @@ pub record TightShown (n : ℕ) (hidden : ℕ → Bool) (sheet script : Solution
 
 -- ---- what a verdict means
 
--- demand 3 with the rule and the assignment, of two papers over n quantities, their hidden set and their tables: a verdict of this number, which carries this rule and
--- comes with these words
-pub record VerdictMeans (n set : ℕ) (sheet script : Solutions) (sheet-table script-table : List ℤ) (number : ℕ) (rule : Rule) (values : List ℤ) : Type 0 where
-  pub demand : ByDemand (hiddenIn set) sheet script number
+-- demand 3 with the rule and the assignment, of two papers over n quantities, their hidden set and their tables: a verdict that is returned so and comes with these words
+pub record VerdictMeans (n set : ℕ) (sheet script : Solutions) (sheet-table script-table : List ℤ) (returned : Returned) (values : List ℤ) : Type 0 where
+  pub demand : ByDemand (hiddenIn set) sheet script (returned .number)
   pub visibles : ByVisible n (hiddenIn set) sheet script
   -- the key of which a loose verdict carries a rule is one by demand 2
   pub key : Satisfiable n sheet-table → KeyMade n set sheet-table (keyOf (hiddenIn set) n sheet-table)
-  pub loose : number ≡ 101 → LooseRule (hiddenIn set) n sheet-table script rule × LooseShown n (hiddenIn set) sheet script rule values
-  pub tight : number ≡ 102 → TightRule n sheet script-table rule × TightShown n (hiddenIn set) sheet script rule values
+  -- the rule is the one whose values are returned
+  pub loose : (rule : Rule) → returned ≡ verdictReturned (Loose rule)
+      → LooseRule (hiddenIn set) n sheet-table script rule × LooseShown n (hiddenIn set) sheet script rule values
+  pub tight : (rule : Rule) → returned ≡ verdictReturned (Tight rule)
+      → TightRule n sheet script-table rule × TightShown n (hiddenIn set) sheet script rule values
 
 -- ---- what marking two tables needs
 

@@ -12,7 +12,7 @@ use Rattle.rules.specs.Refusal.{refusedAs}
 use Rattle.rules.specs.Refusing.{RefusedBy, AllMet}
 use Rattle.tables.specs.Meaning.{Satisfies}
 use Rattle.marking.specs.declared.verdict.Marking.{Marking}
-use Rattle.marking.specs.Verdicts.{markingReturned, markingNumber, markingRule, isMarked, isMarkingShown}
+use Rattle.marking.specs.Verdicts.{markingReturned, isMarked, isMarkingShown}
 use Rattle.marking.specs.Meaning.{VerdictMeans, workspaceSize, markNeeds}
 use Rattle.marking.specs.Marking.{markReply}
 
@@ -27,4 +27,4 @@ pub record TablesMarked (n set : ℕ) (sheet script workspace values : List ℤ)
   pub accepted : (isMarked r ≡ true) ↔ AllMet (markNeeds n set sheet script (length workspace) (length values))
   -- demand 3, with the rule and the assignment
   pub means : isMarked r ≡ true
-      → VerdictMeans n set (Satisfies n sheet) (Satisfies n script) sheet script (markingNumber r) (markingRule r) values'
+      → VerdictMeans n set (Satisfies n sheet) (Satisfies n script) sheet script (markingReturned r) values'

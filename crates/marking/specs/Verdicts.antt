@@ -50,11 +50,6 @@ markingReturned (Refused f) = refusedAs f
 abbrev pub markingNumber : Marking → ℕ
 markingNumber r = markingReturned r .number
 
--- the rule of a verdict
-abbrev pub markingRule : Marking → Rule
-markingRule (Marked v) = carriedRule v
-markingRule (Refused f) = trivialRule
-
 -- a refusal's line or length as one number, 0 where there is none
 abbrev pub markingValue : Marking → ℕ
 markingValue (Marked v) = 0

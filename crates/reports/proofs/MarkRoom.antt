@@ -113,16 +113,16 @@ module _ {sheet script : List ℕ} {before : List ℤ} {r : TextMarking} {values
       let t = both-accepted n (Loose rule) e in
       let s = fine-table Sheet (t .of-sheet) (t .sheet-reads .spelled .fine) in
       let q = counted t e in
-      let x = m .judged .judged t .means .loose (ap textNumber e) in
-      let line = loose-line (t .of-sheet) s (rw (ap textRule e) at (x .0)) in
+      let x = m .judged .judged t .means .loose rule (ap textsReturned e) in
+      let line = loose-line (t .of-sheet) s (x .0) in
       rw q (shown-short (t .of-sheet .count) rule values (s .most) line (x .1 .range))
   carried-short n (Tight rule) e =
       let t = both-accepted n (Tight rule) e in
       let s = fine-table Sheet (t .of-sheet) (t .sheet-reads .spelled .fine) in
       let u = fine-table Script (t .of-script) (t .script-reads .spelled .fine) in
       let q = counted t e in
-      let x = m .judged .judged t .means .tight (ap textNumber e) in
-      let line = tight-line (t .of-sheet) (t .of-script) s u (accepted-matches t .count) (rw (ap textRule e) at (x .0)) in
+      let x = m .judged .judged t .means .tight rule (ap textsReturned e) in
+      let line = tight-line (t .of-sheet) (t .of-script) s u (accepted-matches t .count) (x .0) in
       rw q (shown-short (t .of-sheet .count) rule values (s .most) line (x .1 .range))
 
   -- a verdict's n is no more than the words of the assignment, and there is room for its text

@@ -15,7 +15,7 @@ use Rattle.lines.specs.Spelling.{Written, writtenRules}
 use Rattle.reading.specs.Texts.{Contents}
 use Rattle.reading.specs.Meaning.{Spells, contentsLimit, Reads, rulesOf}
 use Rattle.marking.specs.declared.verdict.Verdict.{Verdict}
-use Rattle.marking.specs.Verdicts.{verdictNumber, carriedRule}
+use Rattle.marking.specs.Verdicts.{verdictReturned}
 use Rattle.scripts.specs.declared.room.Lengths.{Lengths}
 use Rattle.scripts.specs.Meaning.{AcceptedPair}
 use Rattle.scripts.specs.Promises.{PairJudged}
@@ -51,4 +51,4 @@ pub record VerdictText {sheet script : List ℕ} {lent : Lengths} (t : AcceptedP
   pub values : List ℤ
   pub size : length values ≡ t .of-sheet .count
   pub spelled : text ≡ verdictText verdict values
-  pub judged : PairJudged t (verdictNumber verdict) (carriedRule verdict) values
+  pub judged : PairJudged t (verdictReturned verdict) values

@@ -6,6 +6,7 @@ use Prim.Native.Nat.{ℕ}
 use lib.IntN.{ℤ}
 use Rattle.rules.specs.declared.rule.Rule.{Rule}
 use Rattle.rules.specs.Hidden.{hiddenIn}
+use Rattle.rules.specs.Refusal.{Returned}
 use Rattle.rules.specs.Meaning.{Assignment}
 use Rattle.tables.specs.Meaning.{Solutions, joined, SheetAllows, Breaks, assignmentOf}
 use Rattle.marking.specs.Meaning.{AllowSame, IsLoose, IsNarrow, ByDemand, ByVisible, FirstBroken, LooseRule, LooseShown, TightShown, VerdictMeans}
@@ -117,12 +118,12 @@ alike-tight-shown n hidden r values h g s = record {
 
 -- ---- all that a verdict means
 
-pub alike-means : {A B C D : Solutions} (n set : ℕ) (sheet script : List ℤ) (number : ℕ) (r : Rule) (values : List ℤ) → Alike A B → Alike C D
-    → VerdictMeans n set A C sheet script number r values → VerdictMeans n set B D sheet script number r values
-alike-means n set sheet script number r values h g m = record {
-  demand = alike-demand (hiddenIn set) number h g (m .demand);
+pub alike-means : {A B C D : Solutions} (n set : ℕ) (sheet script : List ℤ) (returned : Returned) (values : List ℤ) → Alike A B → Alike C D
+    → VerdictMeans n set A C sheet script returned values → VerdictMeans n set B D sheet script returned values
+alike-means n set sheet script returned values h g m = record {
+  demand = alike-demand (hiddenIn set) (returned .number) h g (m .demand);
   visibles = alike-visible n (hiddenIn set) h g (m .visibles);
   key = m .key;
-  loose = λ e. let x = m .loose e in (alike-loose-rule (hiddenIn set) n sheet r g (x .0), alike-loose-shown n (hiddenIn set) r values h g (x .1));
-  tight = λ e. let x = m .tight e in (alike-broken n script r h (x .0), alike-tight-shown n (hiddenIn set) r values h g (x .1));
+  loose = λ r e. let x = m .loose r e in (alike-loose-rule (hiddenIn set) n sheet r g (x .0), alike-loose-shown n (hiddenIn set) r values h g (x .1));
+  tight = λ r e. let x = m .tight r e in (alike-broken n script r h (x .0), alike-tight-shown n (hiddenIn set) r values h g (x .1));
 }

@@ -31,7 +31,7 @@ use Rattle.scripts.specs.declared.reply.Subject.the-variants.{Sheet as O
 use Rattle.scripts.specs.declared.reply.Subject.the-variants.{Script as OfScript}
 use Rattle.scripts.specs.declared.reply.TextMarking.{TextMarking}
 use Rattle.scripts.specs.declared.reply.TextMarking.the-variants.{Marked, Refused}
-use Rattle.scripts.specs.Replies.{textsReturned, textNumber, textRule, textCounts, textSubjects, isTextMarked}
+use Rattle.scripts.specs.Replies.{textsReturned, textNumber, textCounts, textSubjects, isTextMarked}
 use Rattle.scripts.specs.Meaning.{pairNeeds, AcceptedPair, PairFails, RefusedPair}
 use Rattle.scripts.specs.Marking.{pairChecks, markedOr, pairReply, textsReply, countIn}
 use Rattle.scripts.specs.Promises.{PairJudged, TextsJudged}
@@ -201,7 +201,7 @@ module _ (sheet script : List ℕ) (lent : Lengths) where
 
   -- a reply with what a verdict means is judged as promised
   pub texts-judged : (r : TextMarking) (values : List ℤ) → r ≡ textsReply sheet script lent
-      → ((t : AcceptedPair sheet script lent) → PairJudged t (textNumber r) (textRule r) values) → TextsJudged sheet script lent r values
+      → ((t : AcceptedPair sheet script lent) → PairJudged t (textsReturned r) values) → TextsJudged sheet script lent r values
   texts-judged r values e j = record {
     reply = e;
     refused = λ p f. let w = returned-refused r p f in let t = texts-refused p f in

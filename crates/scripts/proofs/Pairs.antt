@@ -28,7 +28,7 @@ use Rattle.marking.specs.declared.verdict.Verdict.{Verdict}
 use Rattle.marking.specs.declared.verdict.Marking.{Marking}
 use Rattle.marking.specs.declared.verdict.Marking.the-variants.{Refused as NotMarked}
 use Rattle.marking.specs.declared.verdict.Marking.the-variants.{Marked as TablesMarkedAs}
-use Rattle.marking.specs.Verdicts.{verdictNumber, carriedRule, isMarked}
+use Rattle.marking.specs.Verdicts.{verdictReturned, isMarked}
 use Rattle.marking.specs.Meaning.{workspaceSize}
 use Rattle.marking.specs.Marking.{verdictOf, numbersWithin, markChecks, markedAs, markReply}
 use Rattle.marking.specs.Promises.{TablesMarked}
@@ -37,7 +37,7 @@ use Rattle.reading.specs.Meaning.{Reads, rulesOf}
 use Rattle.reading.proofs.Means.{reads-check, reads-same}
 use Rattle.scripts.specs.declared.room.Lengths.{Lengths}
 use Rattle.scripts.specs.declared.reply.Subject.the-variants.{Both}
-use Rattle.scripts.specs.Replies.{textNumber, textRule, isTextShown}
+use Rattle.scripts.specs.Replies.{textsReturned, isTextShown}
 use Rattle.scripts.specs.Meaning.{lengthsOf, setIn, tableIn, AcceptedPair}
 use Rattle.scripts.specs.Marking.{pairChecks, markedOr, pairReply, textsReply, countIn}
 use Rattle.scripts.specs.Inner.{firstChecks, markedTexts}
@@ -151,7 +151,7 @@ module _ (sheet script : List ℕ) (sheet-table script-table workspace values : 
     script-alike σ = rw (← counts) (of-script .held .meaning σ)
 
     -- a verdict means what is promised
-    verdict-judged : (x : Verdict) → TablesAre (TablesMarkedAs x) → (t : AcceptedPair sheet script lent) → PairJudged t (verdictNumber x) (carriedRule x) values'
+    verdict-judged : (x : Verdict) → TablesAre (TablesMarkedAs x) → (t : AcceptedPair sheet script lent) → PairJudged t (verdictReturned x) values'
     verdict-judged x m t =
         let e = reads-same Sheet sheet (t .of-sheet) c (t .sheet-reads) p in
         let f = reads-same Script script (t .of-script) d (t .script-reads) q in
@@ -159,12 +159,12 @@ module _ (sheet script : List ℕ) (sheet-table script-table workspace values : 
           members = rw e (of-sheet .members);
           sheet-table = rw e (of-sheet .held);
           script-table = rw f (of-script .held);
-          means = rw (e, f) (alike-means (c .count) (setIn c) (tableIn c) (tableIn d) (verdictNumber x) (carriedRule x) values' sheet-alike script-alike
+          means = rw (e, f) (alike-means (c .count) (setIn c) (tableIn c) (tableIn d) (verdictReturned x) values' sheet-alike script-alike
               (m .means refl));
         }
 
     judged : (r : Marking) → TablesAre r → (t : AcceptedPair sheet script lent)
-        → PairJudged t (textNumber (markedTexts (c .count) r)) (textRule (markedTexts (c .count) r)) values'
+        → PairJudged t (textsReturned (markedTexts (c .count) r)) values'
     judged (TablesMarkedAs x) m t = verdict-judged x m t
     judged (NotMarked f) m t = refused-accepted sheet script lent Both f (reply-same (NotMarked f) m) t
 

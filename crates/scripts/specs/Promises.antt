@@ -10,10 +10,9 @@ use Rattle.words.specs.Lent.{Lent}
 use Rattle.places.specs.Numbering.{blockStart}
 use Rattle.rules.specs.declared.paper.Paper.the-variants.{Sheet, Script}
 use Rattle.rules.specs.declared.refusal.Refusal.{Refusal}
-use Rattle.rules.specs.declared.rule.Rule.{Rule}
 use Rattle.rules.specs.Hidden.{hiddenIn, isListed}
 use Rattle.rules.specs.Limits.{maxQuantities}
-use Rattle.rules.specs.Refusal.{refusedAs}
+use Rattle.rules.specs.Refusal.{Returned, refusedAs}
 use Rattle.marking.specs.Meaning.{VerdictMeans, workspaceSize}
 use Rattle.reading.specs.Texts.{Contents}
 use Rattle.reading.specs.Meaning.{Reads, Readable, rulesOf}
@@ -21,20 +20,20 @@ use Rattle.reading.specs.Promises.{TableHolds}
 use Rattle.scripts.specs.declared.room.Lengths.{Lengths}
 use Rattle.scripts.specs.declared.reply.Subject.{Subject}
 use Rattle.scripts.specs.declared.reply.TextMarking.{TextMarking}
-use Rattle.scripts.specs.Replies.{textsReturned, textNumber, textRule, textValue, textCounts, textSubjects, isTextMarked, isTextShown}
+use Rattle.scripts.specs.Replies.{textsReturned, textNumber, textValue, textCounts, textSubjects, isTextMarked, isTextShown}
 use Rattle.scripts.specs.Meaning.{lengthsOf, ownLengths, setIn, tableIn, AcceptedPair, RefusedPair}
 use Rattle.scripts.specs.Marking.{textsReply, countIn}
 
--- what is promised of two texts that are accepted: the hidden set and the tables are what the texts write, and a verdict of this number, with this rule and these
+-- what is promised of two texts that are accepted: the hidden set and the tables are what the texts write, and a verdict that is returned so, with these
 -- words, means what demand 3 says of the rules as written
-pub record PairJudged {sheet script : List ℕ} {lent : Lengths} (t : AcceptedPair sheet script lent) (number : ℕ) (rule : Rule) (values : List ℤ) : Type 0 where
+pub record PairJudged {sheet script : List ℕ} {lent : Lengths} (t : AcceptedPair sheet script lent) (returned : Returned) (values : List ℤ) : Type 0 where
   -- the set has the quantities that are listed
   pub members : (q : ℕ) → hiddenIn (setIn (t .of-sheet)) q ≡ isListed q (t .of-sheet .hiddens)
   -- each place of a table holds the smallest bound that rules of its text have there, and what satisfies it meets the rules
   pub sheet-table : TableHolds (t .of-sheet) (tableIn (t .of-sheet))
   pub script-table : TableHolds (t .of-script) (tableIn (t .of-script))
   pub means : VerdictMeans (t .of-sheet .count) (setIn (t .of-sheet)) (rulesOf (t .of-sheet)) (rulesOf (t .of-script)) (tableIn (t .of-sheet)) (tableIn (t .of-script))
-      number rule values
+      returned values
 
 -- the reply r for two texts with so many words lent, and the assignment that comes with it
 pub record TextsJudged (sheet script : List ℕ) (lent : Lengths) (r : TextMarking) (values : List ℤ) : Type 0 where
@@ -48,7 +47,7 @@ pub record TextsJudged (sheet script : List ℕ) (lent : Lengths) (r : TextMarki
   pub count : (c : Contents) → Reads Sheet sheet c → countIn sheet ≡ c .count
   pub counts : (t : AcceptedPair sheet script lent) → textCounts r ≡ t .of-sheet .count ∷ []
   -- demand 3, with the rule and the assignment
-  pub judged : (t : AcceptedPair sheet script lent) → PairJudged t (textNumber r) (textRule r) values
+  pub judged : (t : AcceptedPair sheet script lent) → PairJudged t (textsReturned r) values
 
 -- two texts marked. The words that the sheet's n needs of the tables and the workspace are free after every reply; the assignment is written for loose and
 -- tight alone; no word past these changes, and none at all where the sheet's text is refused, whose n is not known

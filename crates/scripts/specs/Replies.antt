@@ -2,10 +2,8 @@
 use mathlib.Core.Bool.{Bool, true, false}
 use mathlib.Core.List.{List, [], _∷_}
 use Prim.Native.Nat.{ℕ}
-use Rattle.rules.specs.declared.rule.Rule.{Rule}
 use Rattle.rules.specs.Refusal.{refusalValue, Returned, refusedAs}
-use Rattle.rules.specs.Steps.{trivialRule}
-use Rattle.marking.specs.Verdicts.{carriedRule, verdictReturned, isShown}
+use Rattle.marking.specs.Verdicts.{verdictReturned, isShown}
 use Rattle.scripts.specs.declared.reply.Subject.{Subject}
 use Rattle.scripts.specs.declared.reply.Subject.the-variants.{Sheet, Script, Both}
 use Rattle.scripts.specs.declared.reply.TextMarking.{TextMarking}
@@ -18,11 +16,6 @@ textsReturned (Refused p f) = refusedAs f
 
 abbrev pub textNumber : TextMarking → ℕ
 textNumber r = textsReturned r .number
-
--- the rule of a verdict
-abbrev pub textRule : TextMarking → Rule
-textRule (Marked n v) = carriedRule v
-textRule (Refused p f) = trivialRule
 
 -- a refusal's line or length as one number, 0 where there is none
 abbrev pub textValue : TextMarking → ℕ

@@ -1,6 +1,6 @@
 -- Document 01's frauds and traps about marking: on named sheets and scripts each one breaks demand 3's conditions, or carries another rule or another
 -- assignment than the promises ask for. Assumes nothing.
-use mathlib.Core.Path.{_≡_, refl, _∙_, ap}
+use mathlib.Core.Path.{_≡_, refl, sym, _∙_, ap}
 use mathlib.Core.Bool.{Bool, true, not}
 use mathlib.Core.List.{List, [], _∷_}
 use mathlib.Core.Logic.{inl, inr}
@@ -27,12 +27,14 @@ use Rattle.tables.proofs.Lists.{AllAccepted, empty-satisfied, tableOf-meaning}
 use Rattle.tables.proofs.Places.{placeOf, ruleAt-place, ruleAt-hasPlace}
 use Rattle.tables.proofs.SheetA.{rules, hidden, sheet, of-one-and-three, of-two, completes, not-allowed, wide, wide-allows}
 use Rattle.keys.specs.Keys.{keyOf, refuted}
+use Rattle.keys.specs.Inner.{pairUpTo}
 use Rattle.keys.proofs.Sheets.{sheetTable, seenLate, steps}
 use Rattle.keys.proofs.FraudMeanings.{seenLate-unsatisfiable}
+use Rattle.tightening.specs.Tightening.{strengthening, strengthened, tightened}
 use Rattle.marking.specs.declared.verdict.Verdict.{Verdict}
 use Rattle.marking.specs.declared.verdict.Verdict.the-variants.{Equal, Loose, Tight}
 use Rattle.marking.specs.Verdicts.{verdictNumber}
-use Rattle.marking.specs.Meaning.{IsLoose, ByDemand, FirstBroken, LooseRule, TightRule, TightShown}
+use Rattle.marking.specs.Meaning.{IsLoose, ByDemand, FirstBroken, LooseRule, TightRule, LooseShown, TightShown}
 use Rattle.marking.specs.Marking.{breakable, firstRule, firstBroken, orElse}
 
 -- ---- scripts for sheet A, beside `wide`, which is +1:3
@@ -270,7 +272,38 @@ pub rule-of-nothing : (s : Solutions) (r : Rule) → hasTerm r ≡ true → Loos
 rule-of-nothing s r h (inl u) = clash h (u .1)
 rule-of-nothing s r h (inr p) = seenLate-unsatisfiable (p .0 .assignment) (p .0 .satisfies)
 
+-- n 2, none hidden, +1+2:0, +1-2:0: the sum of the two is +1:0 halved, which the tightest table has at place 0, and the key, which is the sheet, has not
+unfoldable pub implied : List Rule
+implied = ruleOf (pos 1) (pos 2) (pos 0) ∷ ruleOf (pos 1) (negsuc 1) (pos 0) ∷ []
+
+tightened-holds : ruleIn (tightened 2 (tableOf 2 implied)) 0 ≡ ruleOf (pos 1) (pos 0) (pos 0)
+unfolding marks implied pairUpTo strengthening strengthened tightened
+tightened-holds = refl
+
+-- a marker that gives a rule of the tightest table, which follows from the key's
+pub tightened-rule : (s : Solutions) → LooseRule (hiddenIn 0) 2 (tableOf 2 implied) s (ruleOf (pos 1) (pos 0) (pos 0)) → ⊥
+unfolding marks implied placeOf
+tightened-rule s (inl u) = clash refl (ap hasTerm (u .1))
+tightened-rule s (inr p) =
+    let f = p .1 in
+    let e : f .place ≡ 0 = sym (ap placeOf (f .is) ∙ ruleAt-place (f .place) (wordAt (keyOf (hiddenIn 0) 2 (tableOf 2 implied)) (f .place))) in
+    clash (rw e at (f .at .holds .rule)) refl
+
 -- ---- the assignment
+
+-- one that leaves a hidden word other than 0 with loose: 0, 1 and 6
+pub hidden-word-one : (p s : Solutions) (r : Rule) → LooseShown 3 hidden p s r (pos 0 ∷ pos 1 ∷ pos 6 ∷ []) → ⊥
+hidden-word-one p s r l = let e = l .zero 2 (omega arith) (omega arith) refl in let z : _≡_ {A = ℕ} 1 0 = cc in omega arith
+
+-- one that shows loose by 2 ^ 62 + 1,
+pub loose-past-range : (p s : Solutions) (r : Rule) → LooseShown 1 (hiddenIn 0) p s r (pos 4611686018427387905 ∷ []) → ⊥
+unfolding positivePart negativePart
+loose-past-range p s r l = omega (linear, l .range 0 (omega arith) .below)
+
+-- or tight by -2 ^ 62 - 1
+pub tight-past-range : (p s : Solutions) (r : Rule) → TightShown 1 (hiddenIn 0) p s r (negsuc 4611686018427387904 ∷ []) → ⊥
+unfolding positivePart negativePart
+tight-past-range p s r t = omega (linear, t .range 0 (omega arith) .above)
 
 -- a marker that reports tight without completing the hidden values: 3, 0 and 0 break +1-2:2 of the sheet
 pub not-completed : (s : Solutions) (r : Rule) → TightShown 3 hidden sheet s r (pos 3 ∷ pos 0 ∷ pos 0 ∷ []) → ⊥

@@ -1,6 +1,6 @@
 -- The laws of marking two tables: the checks; a verdict by its number and values; a rule's opposite put in, and that sums fit
 -- with it; the first rule that is broken; the verdict by demand 3 and the assignment that shows it; what the functions' proofs share; the frauds on named
--- tables; and cases of what is returned.
+-- tables, and calls that are ruled out whatever the verdict.
 pub mod Checking
 pub mod Carried
 pub mod Puts
@@ -14,3 +14,4 @@ pub mod Lending
 pub mod Showing
 pub mod Promised
 pub mod Frauds
+mod FraudCalls

@@ -9,3 +9,4 @@ pub mod Alike
 pub mod Pairs
 pub mod Promised
 pub mod OwnRoom
+mod Frauds

@@ -283,7 +283,7 @@ tightened-holds = refl
 -- a marker that gives a rule of the tightest table, which follows from the key's
 pub tightened-rule : (s : Solutions) → LooseRule (hiddenIn 0) 2 (tableOf 2 implied) s (ruleOf (pos 1) (pos 0) (pos 0)) → ⊥
 unfolding marks implied placeOf
-tightened-rule s (inl u) = clash refl (ap hasTerm (u .1))
+tightened-rule s (inl u) = clash refl (u .1)
 tightened-rule s (inr p) =
     let f = p .1 in
     let e : f .place ≡ 0 = sym (ap placeOf (f .is) ∙ ruleAt-place (f .place) (wordAt (keyOf (hiddenIn 0) 2 (tableOf 2 implied)) (f .place))) in

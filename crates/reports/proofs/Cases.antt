@@ -11,6 +11,7 @@ use lib.ListN.{take}
 use Rattle.integers.specs.Bound.{half, oppositeBound, smaller}
 use Rattle.words.specs.Change.{changeFrom, change, lowered}
 use Rattle.places.specs.Numbering.{blockStart, placeOfOne, placeOfPair, placeOfTwo, findTwo, blockUpTo, blockOf, offsetOf, isOne, higherAt, lowerAt}
+use Rattle.rules.specs.declared.rule.Rule.{Rule}
 use Rattle.rules.specs.Limits.{maxQuantities, boundLimit}
 use Rattle.rules.specs.Meaning.{names}
 use Rattle.rules.specs.Steps.{ruleOf, oppositeOf, halvedOf}
@@ -18,7 +19,8 @@ use Rattle.tables.specs.Places.{ruleAt, findPlace}
 use Rattle.tables.specs.Tables.{putAt, putHalved, putRule, putAll, cleared, namesHidden, anyNamesHidden}
 use Rattle.elimination.specs.Hiding.{withSum, withHalf, bareBelow, pairWord, onOne, onTwo, lowestAt, pairing, anyBare, paired, contradicts, eliminated}
 use Rattle.keys.specs.Keys.{hideUpTo, keyOf, refutedUpTo, refuted}
-use Rattle.marking.specs.Verdicts.{isShown}
+use Rattle.marking.specs.declared.verdict.Verdict.the-variants.{Loose, Tight}
+use Rattle.marking.specs.Verdicts.{verdictReturned, isShown}
 use Rattle.marking.specs.Meaning.{LooseShown, TightShown}
 use Rattle.marking.specs.Marking.{breakable, firstRule, firstBroken, verdictOf}
 use Rattle.numerals.specs.Bytes.{bytes}
@@ -34,7 +36,7 @@ use Rattle.reading.specs.Reading.{onward, rulesFrom, linesFrom, checkText}
 use Rattle.writing.specs.Writing.{writtenOf, rulesAt, hiddenFrom, writtenText, countText}
 use Rattle.scripts.specs.declared.reply.TextMarking.{TextMarking}
 use Rattle.scripts.specs.declared.reply.TextMarking.the-variants.{Marked, Refused}
-use Rattle.scripts.specs.Replies.{textNumber, textRule}
+use Rattle.scripts.specs.Replies.{textsReturned}
 use Rattle.scripts.specs.Marking.{roomChecks, pairChecks, pairReply, textsReply}
 use Rattle.scripts.specs.Meaning.{ownLengths, setIn, AcceptedPair}
 use Rattle.reports.specs.Refusals.{refusalText}
@@ -71,11 +73,11 @@ MarkPasses c = (values : List ℤ) → markText (replyFor c) values ≡ bytes (c
 
 -- this assignment shows it, as the contract asks
 abbrev pub MayShow : MarkCase → List ℤ → Type 0
-MayShow c values = (t : AcceptedPair (bytes (c .sheet)) (bytes (c .script)) (ownLengths maxQuantities))
-    → (textNumber (replyFor c) ≡ 101
-    → LooseShown (t .of-sheet .count) (hiddenIn (setIn (t .of-sheet))) (rulesOf (t .of-sheet)) (rulesOf (t .of-script)) (textRule (replyFor c)) values)
-    × (textNumber (replyFor c) ≡ 102
-    → TightShown (t .of-sheet .count) (hiddenIn (setIn (t .of-sheet))) (rulesOf (t .of-sheet)) (rulesOf (t .of-script)) (textRule (replyFor c)) values)
+MayShow c values = (t : AcceptedPair (bytes (c .sheet)) (bytes (c .script)) (ownLengths maxQuantities)) (rule : Rule)
+    → (textsReturned (replyFor c) ≡ verdictReturned (Loose rule)
+    → LooseShown (t .of-sheet .count) (hiddenIn (setIn (t .of-sheet))) (rulesOf (t .of-sheet)) (rulesOf (t .of-script)) rule values)
+    × (textsReturned (replyFor c) ≡ verdictReturned (Tight rule)
+    → TightShown (t .of-sheet .count) (hiddenIn (setIn (t .of-sheet))) (rulesOf (t .of-sheet)) (rulesOf (t .of-script)) rule values)
 
 -- a case of one program or the other, or an assignment that shows a verdict
 pub data Case : Type 0 where

@@ -26,7 +26,7 @@ use Rattle.reading.proofs.Frauds.{contentsA}
 use Rattle.marking.specs.declared.verdict.Verdict.the-variants.{Equal, Loose}
 use Rattle.scripts.specs.declared.reply.TextMarking.{TextMarking}
 use Rattle.scripts.specs.declared.reply.TextMarking.the-variants.{Marked}
-use Rattle.scripts.specs.Replies.{textNumber, isTextMarked, textCounts}
+use Rattle.scripts.specs.Replies.{textsReturned, isTextMarked, textCounts}
 use Rattle.scripts.proofs.Judging.{accepted-reads}
 use Rattle.reports.specs.Reports.{keyReport}
 use Rattle.reports.specs.Marks.{wordText, integersText, valuesText, verdictText, markText}
@@ -140,7 +140,7 @@ pub three-integers : {out : List ℕ} {end : ℕ} {out' : List ℕ} (p : WidePri
 three-integers p =
     let e : p .reply ≡ Marked 3 (Loose sumRule) = p .judged .reply ∙ wide-loose in
     let t = p .judged .accepted .0 (ap isTextMarked e) in
-    let shown = p .judged .judged t .means .loose (ap textNumber e) .1 in
+    let shown = p .judged .judged t .means .loose sumRule (ap textsReturned e) .1 in
     let c : 3 ∷ [] ≡ t .of-sheet .count ∷ [] = sym (ap textCounts e) ∙ p .judged .counts t in
     let n : 3 ≡ t .of-sheet .count = cc in
     omega (arith, shown .there)

@@ -73,7 +73,7 @@ module _ {sheet script : List ℕ} {lent : Lengths} {r : TextMarking} {values : 
             values = take (t .of-sheet .count) values;
             size = length-take-le (t .of-sheet .count) values enough;
             spelled = rw (← size) (reply-marked values e);
-            judged = judged-firsts t _ _ values enough (rw e at (j .judged t));
+            judged = judged-firsts t _ values enough (rw e at (j .judged t));
           }
       go (Refused p f) e = clash (j .accepted .1 t) (ap isTextMarked e)
 

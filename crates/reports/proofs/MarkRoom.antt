@@ -28,7 +28,7 @@ use Rattle.scripts.specs.declared.reply.Subject.{Subject}
 use Rattle.scripts.specs.declared.reply.Subject.the-variants.{Sheet as OfSheet, Script as OfScript, Both as OfBoth}
 use Rattle.scripts.specs.declared.reply.TextMarking.{TextMarking}
 use Rattle.scripts.specs.declared.reply.TextMarking.the-variants.{Marked, Refused}
-use Rattle.scripts.specs.Replies.{textsReturned, textNumber, textRule, textSubjects, isTextMarked, textCounts}
+use Rattle.scripts.specs.Replies.{textsReturned, textNumber, textSubjects, isTextMarked, textCounts}
 use Rattle.scripts.specs.Meaning.{setIn, tableIn, Matches, pairNeeds, AcceptedPair, RefusedPair, ownLengths}
 use Rattle.scripts.specs.Promises.{MarkedInOwnRoom}
 use Rattle.scripts.proofs.Sheets.{FineTable, FineSheet, fine-table, key-bounds}

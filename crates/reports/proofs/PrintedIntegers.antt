@@ -12,12 +12,13 @@ use Rattle.words.specs.Change.{wordAt}
 use Rattle.rules.specs.declared.rule.Rule.{Rule}
 use Rattle.rules.specs.declared.rule.Rule.the-variants.{One, Two, Nothing}
 use Rattle.rules.specs.Hidden.{hiddenIn}
-use Rattle.rules.specs.Meaning.{Assignment, Meets, names}
+use Rattle.rules.specs.Meaning.{Assignment, Meets, names, hasTerm}
 use Rattle.tables.specs.Meaning.{Solutions, joined, assignmentOf}
 use Rattle.tables.proofs.Meanings.{Agree, in-range, satisfies-agree, allows-visible}
 use Rattle.tables.proofs.Tests.{clash}
 use Rattle.tables.proofs.Values.{meets-named}
 use Rattle.marking.specs.Meaning.{FirstBroken, LooseRule, BreaksCarried, LooseShown, TightShown}
+use Rattle.rules.specs.Refusal.{Returned}
 use Rattle.reading.specs.Texts.{Contents}
 use Rattle.reading.specs.Meaning.{rulesOf}
 use Rattle.reading.specs.Promises.{TableHolds}
@@ -42,9 +43,14 @@ NamesFirst n r = (q : ℕ) → names q r ≡ true → (1 ≤ q) × (q ≤ n)
 broken-first : {n : ℕ} {rules : List ℤ} {paper : Solutions} {r : Rule} → FirstBroken n rules paper r → NamesFirst n r
 broken-first {n} {rules} f q e = in-range n rules (f .place) (f .at .holds) q (rw (f .is) at e)
 
-loose-first : (hidden : ℕ → Bool) (n : ℕ) (sheet : List ℤ) {script : Solutions} {r : Rule} → LooseRule hidden n sheet script r → NamesFirst n r
+bare-first : (n : ℕ) (r : Rule) → hasTerm r ≡ false → NamesFirst n r
 unfolding names
-loose-first hidden n sheet (inl a) q e = clash (rw (a .1) at e) refl
+bare-first n (One x c) h q e = clash refl h
+bare-first n (Two x y c) h q e = clash refl h
+bare-first n (Nothing c) h q e = clash e refl
+
+loose-first : (hidden : ℕ → Bool) (n : ℕ) (sheet : List ℤ) {script : Solutions} {r : Rule} → LooseRule hidden n sheet script r → NamesFirst n r
+loose-first hidden n sheet {r = r} (inl a) q e = bare-first n r (a .1) q e
 loose-first hidden n sheet (inr b) q e = broken-first (b .1) q e
 
 -- the first n of at least n words
@@ -98,9 +104,9 @@ module _ (n : ℕ) (values : List ℤ) (enough : n ≤ length values) where
     }
 
 -- what is promised of two accepted texts with these words is so with the first n of them
-pub judged-firsts : {sheet script : List ℕ} {lent : Lengths} (t : AcceptedPair sheet script lent) (number : ℕ) (r : Rule) (values : List ℤ)
-    → t .of-sheet .count ≤ length values → PairJudged t number r values → PairJudged t number r (take (t .of-sheet .count) values)
-judged-firsts t number r values enough j =
+pub judged-firsts : {sheet script : List ℕ} {lent : Lengths} (t : AcceptedPair sheet script lent) (returned : Returned) (values : List ℤ)
+    → t .of-sheet .count ≤ length values → PairJudged t returned values → PairJudged t returned (take (t .of-sheet .count) values)
+judged-firsts t returned values enough j =
     let c = t .of-sheet in
     let d = t .of-script in
     let n = c .count in
@@ -116,11 +122,11 @@ judged-firsts t number r values enough j =
         demand = m .demand;
         visibles = m .visibles;
         key = m .key;
-        loose = λ e.
-            let x = m .loose e in
+        loose = λ r e.
+            let x = m .loose r e in
             (x .0, loose-firsts n values enough hidden (rulesOf c) (rulesOf d) by-sheet by-script r (loose-first hidden n (tableIn c) (x .0)) (x .1));
-        tight = λ e.
-            let x = m .tight e in
+        tight = λ r e.
+            let x = m .tight r e in
             (x .0, tight-firsts n values enough hidden (rulesOf c) (rulesOf d) by-sheet by-script r (broken-first (x .0)) (x .1));
       };
     }

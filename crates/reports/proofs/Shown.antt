@@ -13,6 +13,8 @@ use Rattle.rules.specs.declared.paper.Paper.{Paper}
 use Rattle.rules.specs.declared.paper.Paper.the-variants.{Sheet, Script}
 use Rattle.rules.specs.declared.rule.Rule.{Rule}
 use Rattle.rules.specs.Hidden.{hiddenIn, setOf}
+use Rattle.rules.specs.Refusal.{Returned}
+use Rattle.marking.proofs.Carried.{loose-shown-alike, tight-shown-alike}
 use Rattle.rules.specs.Meaning.{literalValue}
 use Rattle.rules.specs.Steps.{ruleOf}
 use Rattle.tables.specs.Meaning.{assignmentOf}
@@ -30,7 +32,7 @@ use Rattle.reading.specs.Reading.{checkText}
 use Rattle.reading.proofs.Means.{reads-same}
 use Rattle.reading.proofs.Frauds.{contentsA}
 use Rattle.scripts.specs.declared.reply.TextMarking.the-variants.{Marked}
-use Rattle.scripts.specs.Replies.{textNumber, textRule}
+use Rattle.scripts.specs.Replies.{textsReturned}
 use Rattle.scripts.proofs.Judging.{accepted-reads}
 use Rattle.reports.proofs.Cases.{MayShow, sheetA, wide, narrow, replyFor, reckoning}
 
@@ -138,6 +140,12 @@ narrow-shown = record {
 
 -- ---- so *mark* may print both
 
+abbrev number : Returned → ℕ
+number r = r .number
+
+abbrev values : Returned → List ℤ
+values r = r .values
+
 -- a text is read in one way
 pub one-reading : (paper : Paper) {s : List ℕ} {c d : Contents} → checkText paper s ≡ accepted c [] → Reads paper s d → d ≡ c
 one-reading paper {s} {c} {d} e r = reads-same paper s d c r (accepted-reads paper e)
@@ -145,15 +153,17 @@ one-reading paper {s} {c} {d} e r = reads-same paper s d c r (accepted-reads pap
 -- (0, 0, 6) for the script that is too wide
 pub wide-may-show : MayShow wide zero-zero-six
 unfolding setOf
-wide-may-show t = (
-  λ e. rw (one-reading Sheet sheet-writes (t .sheet-reads), one-reading Script wide-writes (t .script-reads), ap textRule wide-loose) wide-shown,
-  λ e. absurd (omega (arith, sym e ∙ ap textNumber wide-loose)),
+wide-may-show t rule = (
+  λ e. rw (one-reading Sheet sheet-writes (t .sheet-reads), one-reading Script wide-writes (t .script-reads))
+      (loose-shown-alike sumRule rule (ap values (sym (ap textsReturned wide-loose) ∙ e)) 3 (hiddenIn 2) _ _ _ wide-shown),
+  λ e. absurd (omega (arith, ap number (sym (ap textsReturned wide-loose) ∙ e))),
 )
 
 -- (3, 1, 0) for the one that is too narrow
 pub narrow-may-show : MayShow narrow three-one-zero
 unfolding setOf
-narrow-may-show t = (
-  λ e. absurd (omega (arith, sym e ∙ ap textNumber narrow-tight)),
-  λ e. rw (one-reading Sheet sheet-writes (t .sheet-reads), one-reading Script narrow-writes (t .script-reads), ap textRule narrow-tight) narrow-shown,
+narrow-may-show t rule = (
+  λ e. absurd (omega (arith, ap number (sym (ap textsReturned narrow-tight) ∙ e))),
+  λ e. rw (one-reading Sheet sheet-writes (t .sheet-reads), one-reading Script narrow-writes (t .script-reads))
+      (tight-shown-alike lowRule rule (ap values (sym (ap textsReturned narrow-tight) ∙ e)) 3 (hiddenIn 2) _ _ _ narrow-shown),
 )

@@ -1,5 +1,6 @@
 -- How long a verdict's or a refusal's text is at most where two texts are marked, for which *mark* lends room enough. Assumes nothing.
 use mathlib.Core.Path.{_≡_, refl, ap, subst}
+use mathlib.Core.Bool.{false}
 use mathlib.Core.List.{List}
 use mathlib.Core.Logic.{inl, inr, ⊎-elim}
 use Prim.Native.Nat.{ℕ, _+_, _*_, _^_, _≤_, _<_}
@@ -8,13 +9,16 @@ use lib.IntN.{ℤ, pos}
 use lib.ListN.{length, take}
 use Rattle.places.specs.Numbering.{blockStart}
 use Rattle.rules.specs.declared.rule.Rule.{Rule}
+use Rattle.rules.specs.declared.rule.Rule.the-variants.{One, Two, Nothing}
 use Rattle.rules.specs.declared.paper.Paper.the-variants.{Sheet, Script}
 use Rattle.rules.specs.declared.refusal.Refusal.{Refusal}
 use Rattle.rules.specs.Limits.{maxQuantities, maxRules}
 use Rattle.rules.specs.Hidden.{hiddenIn}
+use Rattle.rules.specs.Meaning.{hasTerm}
 use Rattle.rules.specs.Refusal.{refusalLine}
 use Rattle.rules.specs.Refusing.{RefusedBy}
 use Rattle.tables.specs.Meaning.{Solutions, WordsWithin}
+use Rattle.tables.proofs.Tests.{clash}
 use Rattle.marking.specs.declared.verdict.Verdict.{Verdict}
 use Rattle.marking.specs.declared.verdict.Verdict.the-variants.{Equal, Loose, Tight}
 use Rattle.marking.specs.Meaning.{LooseRule, TightRule, ValuesWithin}
@@ -45,11 +49,17 @@ markRoom = verdictLine + maxLine + maxValues
 
 -- ---- how long a verdict is at most
 
+-- the line of a rule without a term is its key alone
+bare-line : (r : Rule) → hasTerm r ≡ false → length (ruleLineText r) ≤ maxLine
+bare-line (One x c) e = clash refl e
+bare-line (Two x y c) e = clash refl e
+bare-line (Nothing c) e = omega arith
+
 -- the line of a loose verdict's rule
 loose-line : (c : Contents) → FineSheet c → {paper : Solutions} {r : Rule} → LooseRule (hiddenIn (setIn c)) (c .count) (tableIn c) paper r
     → length (ruleLineText r) ≤ maxLine
 loose-line c s {paper} {r} =
-    ⊎-elim (λ a. rw (a .1) (omega arith))
+    ⊎-elim (λ a. bare-line r (a .1))
     (λ b. broken-short (contentsLimit Sheet c * 2 ^ length (c .hiddens)) (b .1) (s .most) (key-words c s) (key-bounds c s))
 
 -- the line of a tight verdict's rule

@@ -18,7 +18,7 @@ use Rattle.rules.specs.Limits.{maxQuantities}
 use Rattle.rules.specs.declared.paper.Paper.the-variants.{Script as OfScript}
 use Rattle.rules.specs.Refusal.{refusalNumber, refusalValue, Returned, refusedAs}
 use Rattle.rules.proofs.Refusals.{same-refusal-value, same-refusal, refusal-number, refusal-below}
-use Rattle.rules.specs.RuleWords.{ruleValues, ruleIn}
+use Rattle.rules.specs.RuleWords.{ruleValues, ruleOfWords}
 use Rattle.tables.proofs.Tests.{clash}
 use Rattle.tables.specs.Replies.{replyReturned, replyNumber, replyValue}
 use Rattle.marking.specs.declared.verdict.Verdict.{Verdict}
@@ -209,7 +209,7 @@ told-count before (NotMarked w f) j t = clash (j .accepted .1 t) refl
 
 -- the words that come with a loose or tight verdict are of the rule that it carries
 told-same : (before : List ℤ) (x : TextMarking) → 100 < textNumber x
-    → _≡_ {A = Returned} (record { number = textNumber x; values = ruleValues (ruleIn (ruleMarked before x)) }) (textsReturned x)
+    → _≡_ {A = Returned} (record { number = textNumber x; values = ruleValues (ruleOfWords (ruleMarked before x)) }) (textsReturned x)
 told-same before (Marked n Equal) h = absurd (omega arith)
 told-same before (Marked n (Loose rule)) h = rw (words-rule rule)
 told-same before (Marked n (Tight rule)) h = rw (words-rule rule)
@@ -217,7 +217,7 @@ told-same before (NotMarked w f) h = absurd (omega (arith, refusal-below f))
 
 -- what is told of a verdict means what the verdict does
 judged-told : {sheet script : List ℕ} {lent : Lengths} (t : AcceptedPair sheet script lent) (before : List ℤ) (x : TextMarking) (values : List ℤ)
-    → PairJudged t (textsReturned x) values → PairJudged t (record { number = textNumber x; values = ruleValues (ruleIn (ruleMarked before x)) }) values
+    → PairJudged t (textsReturned x) values → PairJudged t (record { number = textNumber x; values = ruleValues (ruleOfWords (ruleMarked before x)) }) values
 judged-told t before x values j = record {
   members = j .members;
   sheet-table = j .sheet-table;

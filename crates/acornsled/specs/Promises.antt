@@ -11,7 +11,7 @@ use Rattle.rules.specs.declared.refusal.Refusal.{Refusal}
 use Rattle.rules.specs.Limits.{maxQuantities}
 use Rattle.rules.specs.Refusal.{refusalNumber, refusalValue}
 use Rattle.rules.specs.Refusing.{RefusedBy, AllMet}
-use Rattle.rules.specs.RuleWords.{ruleValues, ruleIn}
+use Rattle.rules.specs.RuleWords.{ruleValues, ruleOfWords}
 use Rattle.tables.specs.Replies.{replyNumber, replyValue}
 use Rattle.keys.specs.Keys.{keyReply, assignmentReply}
 use Rattle.keys.specs.Meaning.{keyNeeds, assignmentNeeds}
@@ -123,7 +123,7 @@ pub record Told (sheet script : List ℕ) (lent : Lengths) (r p v n : ℕ) (rule
   pub accepted : (100 ≤ r) ↔ AcceptedPair sheet script lent
   pub count : (t : AcceptedPair sheet script lent) → n ≡ t .of-sheet .count
   -- it means what demand 3 says; the rule of a loose or tight verdict is the one of these words, and the assignment shows the verdict and breaks it
-  pub judged : (t : AcceptedPair sheet script lent) → PairJudged t (record { number = r; values = ruleValues (ruleIn rule) }) values
+  pub judged : (t : AcceptedPair sheet script lent) → PairJudged t (record { number = r; values = ruleValues (ruleOfWords rule) }) values
 
 -- marking two texts with the reasons: n, the rule's words and the assignment before the call, then the number r, the paper p and the line or length v, and the
 -- same three after it

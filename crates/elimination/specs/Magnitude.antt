@@ -6,6 +6,7 @@ use mathlib.Core.Path.{_≡_}
 use Prim.Native.Nat.{ℕ, suc, _+_, _*_, _≤_, _<_}
 use lib.IntN.{ℤ, pos}
 use Rattle.integers.specs.Bound.{Within}
+use Rattle.words.specs.Change.{wordAt}
 use Rattle.rules.specs.Meaning.{names}
 use Rattle.tables.specs.Tables.{hasRule}
 use Rattle.tables.specs.Meaning.{HoldsRule, ruleIn}
@@ -33,3 +34,7 @@ pub record OwnWithin (In : ℕ → Type 0) (j B : ℕ) (t : List ℤ) : Type 0 w
 -- no rule of a table over n quantities names quantity j + 1
 pub record Unnamed (n j : ℕ) (t : List ℤ) : Type 0 where
   pub each : (k : ℕ) → HoldsRule n t k → names (suc j) (ruleIn t k) ≡ false
+
+-- the first n of the words lie between -2 ^ 62 and 2 ^ 62
+abbrev pub ValuesWithin : ℕ → List ℤ → Type 0
+ValuesWithin n values = (k : ℕ) → k < n → Within valueLimit (wordAt values k)

@@ -120,7 +120,7 @@ pub key-made : (n set : ℕ) (t : List ℤ) → Fits n t → BoundsWithin Sheet 
 key-made n set t f b s = record {
   meaning = λ σ. key-exact (hiddenIn set) n t (s .assignment) (hide-ample (hiddenIn set) n t f) (s .satisfies) σ;
   some = s;
-  steps = key-turns (hiddenIn set) n t (f .grows .room);
+  steps = key-turns (hiddenIn set) n t (s .assignment) (f .grows .room) (hide-ample (hiddenIn set) n t f) (s .satisfies);
   like = record {
     visible = key-visible (hiddenIn set) n t (f .grows .room);
     growth = key-within (hiddenIn set) n (boundLimit Sheet n set) t (f .grows .room) b;

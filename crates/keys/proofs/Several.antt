@@ -183,6 +183,17 @@ several-exact hidden n (suc j) t σ₀ h a s₀ σ =
       λ c. ih σ .1 (allows-hidden n (upTo hidden (suc j)) (upTo hidden j) t σ (λ q l g. sym (upTo-skip hidden j q e)) c),
     )
 
+-- and no step on the way meets a contradiction
+pub never-contradicts : (hidden : ℕ → Bool) (n j : ℕ) (t : List ℤ) (σ₀ : Assignment) → j < n → AmpleUpTo hidden n t → Satisfies n t σ₀
+    → contradicts 0 n j (hideUpTo hidden n j t) ≡ false
+never-contradicts hidden n j t σ₀ h a s₀ = go (contradicts 0 n j (hideUpTo hidden n j t)) refl
+  where
+    go : (b : Bool) → contradicts 0 n j (hideUpTo hidden n j t) ≡ b → b ≡ false
+    go true c =
+        absurd (eliminate-none n j (hideUpTo hidden n j t) σ₀ (a j h .room) h c
+        (several-exact hidden n j t σ₀ (omega arith) a s₀ σ₀ .1 (allows-own n (upTo hidden j) t σ₀ s₀)))
+    go false c = refl
+
 -- demand 2: the key allows visible integers exactly when hidden ones complete them, where some integers satisfy the sheet
 pub key-exact : (hidden : ℕ → Bool) (n : ℕ) (t : List ℤ) (σ₀ : Assignment) → AmpleUpTo hidden n t → Satisfies n t σ₀
     → (σ : Assignment) → Satisfies n (keyOf hidden n t) σ ↔ SheetAllows hidden (Satisfies n t) σ

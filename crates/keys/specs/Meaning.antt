@@ -53,11 +53,11 @@ assignmentNeeds n t w v = assignmentNeedsThen n t w v (Satisfiable n t or NoAssi
 
 -- ---- several quantities hidden
 
--- 'Several are hidden in increasing number': the tables in between, each the one before with the next quantity hidden by sums of rules, where it is to be
+-- 'Several are hidden in increasing number': the tables in between, each the one before with the next quantity hidden by sums of rules, where it is to be; none of
+-- the sums is a contradiction
 pub record HiddenInTurn (hidden : ℕ → Bool) (n : ℕ) (before after : List ℤ) : Type 0 where
   pub tables : ℕ → List ℤ
   pub first : tables 0 ≡ before
   pub last : tables n ≡ after
-  pub contradiction : ℕ → Bool
-  pub hides : (j : ℕ) → j < n → hidden (suc j) ≡ true → HiddenByRules n j (tables j) (contradiction j) (tables (suc j))
+  pub hides : (j : ℕ) → j < n → hidden (suc j) ≡ true → HiddenByRules n j (tables j) false (tables (suc j))
   pub passes : (j : ℕ) → j < n → hidden (suc j) ≡ false → tables (suc j) ≡ tables j

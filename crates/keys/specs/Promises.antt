@@ -3,11 +3,9 @@ use mathlib.Core.Bool.{cond}
 use mathlib.Core.Path.{_≡_}
 use mathlib.Core.Logic.{_↔_}
 use mathlib.Core.List.{List}
-use Prim.Native.Nat.{ℕ, _<_}
+use Prim.Native.Nat.{ℕ}
 use lib.IntN.{ℤ}
 use lib.ListN.{length, drop}
-use Rattle.integers.specs.Bound.{Within}
-use Rattle.words.specs.Change.{wordAt}
 use Rattle.words.specs.Lent.{Lent}
 use Rattle.places.specs.Numbering.{blockStart}
 use Rattle.rules.specs.declared.refusal.Refusal.{Refusal}
@@ -18,7 +16,7 @@ use Rattle.rules.specs.Meaning.{Assignment}
 use Rattle.tables.specs.declared.reply.Reply.{Reply}
 use Rattle.tables.specs.Replies.{isDone, replyReturned, replyNumber}
 use Rattle.tables.specs.Meaning.{Satisfies, Satisfiable, Unsatisfiable, SheetAllows, KeyLike, assignmentOf}
-use Rattle.elimination.specs.Magnitude.{valueLimit}
+use Rattle.elimination.specs.Magnitude.{ValuesWithin}
 use Rattle.keys.specs.Keys.{keyOf, keyReply, assignmentReply, freesWorkspace}
 use Rattle.keys.specs.Meaning.{keyNeedsThen, keyNeeds, assignmentNeedsThen, assignmentNeeds, HiddenInTurn}
 
@@ -49,7 +47,7 @@ pub record Keyed (n set : ℕ) (table workspace : List ℤ) (r : Reply) (table' 
 -- the first n words satisfy every rule of a table and lie between -2 ^ 62 and 2 ^ 62, which is what all choices have in common
 pub record AssignmentFound (n : ℕ) (table values : List ℤ) : Type 0 where
   pub meaning : Satisfies n table (assignmentOf values)
-  pub range : (k : ℕ) → k < n → Within valueLimit (wordAt values k)
+  pub range : ValuesWithin n values
 
 -- the assignment call on n quantities. The table is only read
 pub record Assigned (n : ℕ) (table workspace values : List ℤ) (r : Reply) (workspace' values' : List ℤ) : Type 0 where

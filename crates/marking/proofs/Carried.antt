@@ -19,7 +19,7 @@ use Rattle.rules.specs.Meaning.{Assignment, hasTerm}
 use Rattle.rules.specs.Refusal.{refusalNumber}
 use Rattle.rules.specs.Steps.{trivialRule, isNone, ruleOf}
 use Rattle.rules.proofs.Refusals.{same-refusal, refusal-below}
-use Rattle.rules.specs.RuleWords.{ruleValues, ruleWords, ruleIn}
+use Rattle.rules.specs.RuleWords.{ruleValues, ruleWords, ruleOfWords}
 use Rattle.tables.specs.Places.{ruleAt}
 use Rattle.tables.specs.Meaning.{Solutions}
 use Rattle.tables.proofs.Tests.{clash}
@@ -105,7 +105,7 @@ signed-some x = go (eqb (x % 2) 0)
     go false = rw next refl
 
 -- the rule of a rule's words is that rule
-pub words-rule : (r : Rule) → ruleIn (ruleWords r) ≡ r
+pub words-rule : (r : Rule) → ruleOfWords (ruleWords r) ≡ r
 unfolding ruleOf
 words-rule (One x c) = rw (signed-some x, signed-back x)
 words-rule (Two x y c) = rw (signed-some x, signed-some y, signed-back x, signed-back y)

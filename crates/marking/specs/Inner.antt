@@ -20,12 +20,12 @@ use Rattle.rules.specs.Steps.{oppositeOf}
 use Rattle.tables.specs.Places.{ruleAt}
 use Rattle.tables.specs.Tables.{hasRule, putRule}
 use Rattle.tables.specs.Meaning.{HoldsRule, ruleIn, Satisfies, Unsatisfiable, Breaks, NamesVisible, assignmentOf}
-use Rattle.elimination.specs.Magnitude.{Unnamed}
+use Rattle.elimination.specs.Magnitude.{Unnamed, ValuesWithin}
 use Rattle.keys.specs.Inner.{Fits}
 use Rattle.marking.specs.declared.verdict.Verdict.{Verdict}
 use Rattle.marking.specs.declared.verdict.Verdict.the-variants.{Loose, Tight}
 use Rattle.marking.specs.Verdicts.{isShown}
-use Rattle.marking.specs.Meaning.{FirstAt, FirstBroken, NoneBroken, LooseShown, TightShown, ValuesWithin, workspaceSize, Sized, InLimits}
+use Rattle.marking.specs.Meaning.{FirstAt, FirstBroken, NoneBroken, LooseShown, TightShown, workspaceSize, Sized, InLimits}
 use Rattle.marking.specs.Marking.{firstBroken, verdictOf}
 
 -- ---- what they ask: the needs of marking are met

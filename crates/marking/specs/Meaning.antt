@@ -7,8 +7,6 @@ use mathlib.Core.List.{List}
 use Prim.Native.Nat.{ℕ, _*_, _≤_, _<_}
 use lib.IntN.{ℤ, pos}
 use lib.ListN.{length}
-use Rattle.integers.specs.Bound.{Within}
-use Rattle.words.specs.Change.{wordAt}
 use Rattle.places.specs.Numbering.{blockStart}
 use Rattle.rules.specs.declared.rule.Rule.{Rule}
 use Rattle.rules.specs.declared.rule.Rule.the-variants.{One, Two, Nothing}
@@ -20,7 +18,7 @@ use Rattle.rules.specs.Refusing.{Needs, passed, _or_then_}
 use Rattle.rules.specs.Refusal.{Returned}
 use Rattle.rules.specs.Meaning.{Assignment, Meets, hasTerm}
 use Rattle.tables.specs.Meaning.{HoldsRule, ruleIn, Satisfiable, Unsatisfiable, Solutions, Completes, SheetAllows, ScriptAllows, ScriptForbids, Breaks, NamesVisible, SameVisible, assignmentOf}
-use Rattle.elimination.specs.Magnitude.{valueLimit}
+use Rattle.elimination.specs.Magnitude.{ValuesWithin}
 use Rattle.keys.specs.Keys.{keyOf}
 use Rattle.keys.specs.Meaning.{BoundsWithin}
 use Rattle.keys.specs.Promises.{KeyMade}
@@ -95,10 +93,6 @@ abbrev pub BreaksCarried : Assignment → Rule → Type 0
 BreaksCarried σ (One x c) = Meets σ (One x c) → ⊥
 BreaksCarried σ (Two x y c) = Meets σ (Two x y c) → ⊥
 BreaksCarried σ (Nothing c) = Unit {0}
-
--- the first n of the words lie between -2 ^ 62 and 2 ^ 62
-abbrev pub ValuesWithin : ℕ → List ℤ → Type 0
-ValuesWithin n values = (k : ℕ) → k < n → Within valueLimit (wordAt values k)
 
 -- for loose: the script allows its visible integers, no hidden values complete them, it breaks the rule, and its hidden words are 0
 pub record LooseShown (n : ℕ) (hidden : ℕ → Bool) (sheet script : Solutions) (r : Rule) (values : List ℤ) : Type 0 where

@@ -1,4 +1,5 @@
 // The checks of marking two tables.
+use rules::hidden::Set;
 use rules::hidden;
 use rules::paper;
 use rules::paper::Paper;
@@ -12,7 +13,7 @@ ghost use Rattle.places.specs.Numbering.{blockStart};
 ghost use Rattle.marking.specs.Marking.{numbersWithin, markChecks};
 
 // Whether the hidden set names no quantity past `n`, and the first `m` words of both tables are in the limits of their papers.
-fn numbers_within(n: usize, set: u32, sheet: &[i64], script: &[i64], m: usize) -> bool
+fn numbers_within(n: usize, set: Set, sheet: &[i64], script: &[i64], m: usize) -> bool
     requires { ⌜ m ≡ blockStart n ⌝ }
     ensures { λ r. ⌜ r ≡ numbersWithin n set (now (sheet .entry)) (now (script .entry)) ⌝ }
 {
@@ -30,7 +31,7 @@ fn numbers_within(n: usize, set: u32, sheet: &[i64], script: &[i64], m: usize) -
 // The first refusal of marking two tables with a workspace and an assignment of so many words, or done.
 pub(crate) fn check(
     n: usize,
-    set: u32,
+    set: Set,
     sheet: &[i64],
     script: &[i64],
     workspace: usize,

@@ -6,6 +6,7 @@ use crate::verdict::Verdict;
 use keys::assignment;
 use keys::decide;
 use keys::key;
+use rules::hidden::Set;
 use rules::rule::Rule;
 use tables::reply::Reply;
 use tables::table;
@@ -19,7 +20,7 @@ ghost use Rattle.marking.specs.Inner.{TablesAccepted, VerdictGiven};
 // The verdict where no integers satisfy the sheet: the script is equal if none satisfy it either, and else loose with no rule.
 fn unsatisfiable_sheet(
     n: usize,
-    set: u32,
+    set: Set,
     sheet: &[i64],
     script: &[i64],
     workspace: &mut [i64],
@@ -40,7 +41,7 @@ fn unsatisfiable_sheet(
 // The verdict on tables that passed the checks.
 fn verdict(
     n: usize,
-    set: u32,
+    set: Set,
     sheet: &[i64],
     script: &[i64],
     workspace: &mut [i64],
@@ -71,7 +72,7 @@ fn verdict(
 // the verdict.
 pub fn mark(
     n: usize,
-    hidden: u32,
+    hidden: Set,
     sheet: &[i64],
     script: &[i64],
     workspace: &mut [i64],

@@ -8,7 +8,7 @@ use lib.ListN.{length, length-append}
 use Rattle.rules.specs.declared.paper.Paper.{Paper}
 use Rattle.lines.specs.Spelling.{Written, Line, hidden, rules, lineText}
 use Rattle.reading.specs.Texts.{ruleLines, linesText}
-use Rattle.reading.specs.Meaning.{Opening, start, counted, headed, ruled, linesOf, countOf, limitAt, Kind, Fine, AllFine, AtMost, Reaches}
+use Rattle.reading.specs.Meaning.{Opening, start, counted, headed, ruled, linesOf, countOf, limitAt, LineKind, Fine, AllFine, AtMost, Reaches}
 use Rattle.reading.specs.Reading.{linesFrom}
 use Rattle.reading.proofs.Readers.{Value, lineWith}
 use Rattle.reading.proofs.Openings.{goOn, Due, first-fine, hidden-fine, due-start, due-counted, due-headed, due-ruled}
@@ -16,7 +16,7 @@ use Rattle.reading.proofs.Steps.{spelled}
 
 module _ (paper : Paper) where
   -- a fine line is passed
-  passed : {o : Opening} {k : Kind} {next : Value k → Opening} → Due paper o k next → (a : Value k) (ls : List Line) (u : List ℕ)
+  passed : {o : Opening} {k : LineKind} {next : Value k → Opening} → Due paper o k next → (a : Value k) (ls : List Line) (u : List ℕ)
       → Fine (countOf o) (limitAt paper o) (lineWith k a) → goOn paper o (linesText (lineWith k a ∷ ls) ++ u) ≡ goOn paper (next a) (linesText ls ++ u)
   unfolding linesText
   passed {o} {k} d a ls u f =

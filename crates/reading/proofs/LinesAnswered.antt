@@ -13,7 +13,7 @@ use Rattle.rules.specs.declared.refusal.Refusal.the-variants.{OutOfLimit, Cance
 use Rattle.lines.specs.Spelling.{Written, lineText, WellFormed, lineWithin, lineCancels}
 use Rattle.lines.specs.Lines.{Judged, accepted, refused}
 use Rattle.reading.specs.Texts.{Contents, linesText}
-use Rattle.reading.specs.Meaning.{Opening, counted, headed, ruled, linesOf, countOf, limitAt, Kind, AllFine, Reaches, contentsLimit, Spells, LineFails, malformed-at, outside-at, cancels-at}
+use Rattle.reading.specs.Meaning.{Opening, counted, headed, ruled, linesOf, countOf, limitAt, LineKind, AllFine, Reaches, contentsLimit, Spells, LineFails, malformed-at, outside-at, cancels-at}
 use Rattle.reading.specs.Reading.{linesFrom}
 use Rattle.reading.proofs.Readers.{Value, lineWith, lineWith-kind, some-kind}
 use Rattle.reading.proofs.Openings.{lineOf, goOn, Due, due-start, due-counted, due-headed, due-ruled}
@@ -54,7 +54,7 @@ module _ (paper : Paper) (s : List ℕ) where
 
   -- ---- a line, and what is told after it
 
-  module _ {o : Opening} {k : Kind} {next : Value k → Opening} (d : Due paper o k next)
+  module _ {o : Opening} {k : LineKind} {next : Value k → Opening} (d : Due paper o k next)
       (after : (a : Value k) (v : List ℕ) → At paper s (next a) v → Tells paper s (goOn paper (next a) v)) where
     -- the answer to a line that is spelled
     answer-tells : (a : Value k) (v : List ℕ) → At paper s o (lineText (lineWith k a) ++ v) → WellFormed (lineWith k a)

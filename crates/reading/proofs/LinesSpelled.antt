@@ -14,7 +14,7 @@ use Rattle.rules.specs.declared.refusal.Refusal.the-variants.{Malformed, OutOfL
 use Rattle.lines.specs.Spelling.{Line, lineText, WellFormed, lineWithin, lineCancels}
 use Rattle.lines.specs.Lines.{Judged, accepted, refused}
 use Rattle.reading.specs.Texts.{Contents, linesText}
-use Rattle.reading.specs.Meaning.{Opening, start, counted, headed, ruled, linesOf, countOf, limitAt, Kind, quantities-line, hidden-line, rules-line, rule-line, no-line, lineKind, dueKind, LineFails, malformed-at, outside-at, cancels-at}
+use Rattle.reading.specs.Meaning.{Opening, start, counted, headed, ruled, linesOf, countOf, limitAt, LineKind, quantities-line, hidden-line, rules-line, rule-line, no-line, lineKind, dueKind, LineFails, malformed-at, outside-at, cancels-at}
 use Rattle.reading.specs.Reading.{linesFrom}
 use Rattle.reading.proofs.Readers.{Value, value-of, some-kind}
 use Rattle.reading.proofs.Openings.{lineOf, goOn, Due, due-start, due-counted, due-headed, due-ruled}
@@ -25,7 +25,7 @@ use Rattle.reading.proofs.AfterOpenings.{reached}
 
 -- after an opening a line is due,
 record Going (paper : Paper) (o : Opening) : Type 0 where
-  kind : Kind
+  kind : LineKind
   next : Value kind → Opening
   line : Due paper o kind next
 

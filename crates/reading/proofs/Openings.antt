@@ -15,7 +15,7 @@ use Rattle.rules.specs.Limits.{maxQuantities, boundLimit, maxRules}
 use Rattle.lines.specs.Spelling.{Written, Line, quantities, hidden, rules, rule, quantitiesKey, rulesKey, lineWithin, lineCancels}
 use Rattle.lines.specs.Lines.{Judged, accepted, judged, never, between, countLine, countJudged, hiddenJudged, ruleJudged}
 use Rattle.reading.specs.Texts.{Contents, ruleLines}
-use Rattle.reading.specs.Meaning.{Opening, start, counted, headed, ruled, linesOf, countOf, limitAt, Kind, quantities-line, hidden-line, rules-line, rule-line, no-line, dueKind, Fine, AllFine, AtMost}
+use Rattle.reading.specs.Meaning.{Opening, start, counted, headed, ruled, linesOf, countOf, limitAt, LineKind, quantities-line, hidden-line, rules-line, rule-line, no-line, dueKind, Fine, AllFine, AtMost}
 use Rattle.reading.specs.Reading.{onward, rulesFrom, linesFrom}
 use Rattle.reading.proofs.Readers.{Value, lineWith, reader}
 use Rattle.reading.proofs.LineAnswers.{onward-onward, onward-same, judged-same}
@@ -40,11 +40,11 @@ goOn paper (ruled n qs m rs) u =
     onward (rulesFrom n (boundLimit paper n (setOf qs)) (m - length rs) (lineOf (ruled n qs m rs)) u) (withRules n qs rs)
 
 -- a line of a kind judged after an opening
-abbrev pub judgedAfter : (paper : Paper) (o : Opening) (k : Kind) → Parsed (Value k) → Judged (Value k)
+abbrev pub judgedAfter : (paper : Paper) (o : Opening) (k : LineKind) → Parsed (Value k) → Judged (Value k)
 judgedAfter paper o k p = judged (lineOf o) (λ a. lineWithin (countOf o) (limitAt paper o) (lineWith k a)) (λ a. lineCancels (lineWith k a)) p
 
 -- a line of kind k is due after an opening, makes the next opening, and reading goes on there
-pub record Due (paper : Paper) (o : Opening) (k : Kind) (next : Value k → Opening) : Type 0 where
+pub record Due (paper : Paper) (o : Opening) (k : LineKind) (next : Value k → Opening) : Type 0 where
   pub due : dueKind o ≡ k
   pub some : k ≡ no-line → ⊥
   pub goes : (u : List ℕ) → goOn paper o u ≡ onward (judgedAfter paper o k (reader k u)) (λ a v. goOn paper (next a) v)

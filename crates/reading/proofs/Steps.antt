@@ -12,7 +12,7 @@ use Rattle.rules.specs.declared.refusal.Refusal.the-variants.{Malformed, OutOfL
 use Rattle.lines.specs.Spelling.{Line, lineText, WellFormed, lineWithin, lineCancels}
 use Rattle.lines.specs.Lines.{accepted, refused, judged}
 use Rattle.reading.specs.Texts.{linesText}
-use Rattle.reading.specs.Meaning.{Opening, linesOf, countOf, limitAt, Kind, lineKind, dueKind, Fine, Reaches}
+use Rattle.reading.specs.Meaning.{Opening, linesOf, countOf, limitAt, LineKind, lineKind, dueKind, Fine, Reaches}
 use Rattle.reading.specs.Reading.{onward}
 use Rattle.reading.proofs.Readers.{Value, lineWith, reader, lineWith-kind, value-of, reader-sound, reader-complete}
 use Rattle.reading.proofs.Openings.{lineOf, goOn, Due}
@@ -35,13 +35,13 @@ abbrev pub Unspelled : Opening → List ℕ → Type 0
 Unspelled o u = (l : Line) → lineKind l ≡ dueKind o → WellFormed l → (v : List ℕ) → u ≡ lineText l ++ v → ⊥
 
 -- a line of kind k is
-pub record Spelled (k : Kind) (u : List ℕ) : Type 0 where
+pub record Spelled (k : LineKind) (u : List ℕ) : Type 0 where
   pub value : Value k
   pub rest : List ℕ
   pub text : u ≡ lineText (lineWith k value) ++ rest
   pub formed : WellFormed (lineWith k value)
 
-module _ {paper : Paper} {o : Opening} {k : Kind} {next : Value k → Opening} (d : Due paper o k next) where
+module _ {paper : Paper} {o : Opening} {k : LineKind} {next : Value k → Opening} (d : Due paper o k next) where
   -- a fine line that is due reaches the next opening
   pub reaches-next : {s : List ℕ} (a : Value k) (v : List ℕ) → Reaches paper s o (lineOf o) (lineText (lineWith k a) ++ v)
       → Fine (countOf o) (limitAt paper o) (lineWith k a) → Reaches paper s (next a) (lineOf (next a)) v

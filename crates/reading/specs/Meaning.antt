@@ -54,21 +54,21 @@ abbrev pub limitAt : Paper → Opening → ℕ
 limitAt paper o = boundLimit paper (countOf o) (setOf (hiddensOf o))
 
 -- the kinds of line, and none
-pub data Kind : Type 0 where
-  quantities-line : Kind
-  hidden-line : Kind
-  rules-line : Kind
-  rule-line : Kind
-  no-line : Kind
+pub data LineKind : Type 0 where
+  quantities-line : LineKind
+  hidden-line : LineKind
+  rules-line : LineKind
+  rule-line : LineKind
+  no-line : LineKind
 
-abbrev pub lineKind : Line → Kind
+abbrev pub lineKind : Line → LineKind
 lineKind (quantities n) = quantities-line
 lineKind (hidden qs) = hidden-line
 lineKind (rules m) = rules-line
 lineKind (rule r) = rule-line
 
 -- which kind of line is due next; none, where all N rules are read
-abbrev pub dueKind : Opening → Kind
+abbrev pub dueKind : Opening → LineKind
 dueKind start = quantities-line
 dueKind (counted n) = hidden-line
 dueKind (headed n qs) = rules-line

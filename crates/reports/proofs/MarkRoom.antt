@@ -19,9 +19,10 @@ use Rattle.rules.specs.Refusal.{refusalLine}
 use Rattle.rules.specs.Refusing.{RefusedBy}
 use Rattle.tables.specs.Meaning.{Solutions, WordsWithin}
 use Rattle.tables.proofs.Tests.{clash}
+use Rattle.elimination.specs.Magnitude.{ValuesWithin}
 use Rattle.marking.specs.declared.verdict.Verdict.{Verdict}
 use Rattle.marking.specs.declared.verdict.Verdict.the-variants.{Equal, Loose, Tight}
-use Rattle.marking.specs.Meaning.{LooseRule, TightRule, ValuesWithin}
+use Rattle.marking.specs.Meaning.{LooseRule, TightRule}
 use Rattle.reading.specs.Texts.{Contents}
 use Rattle.reading.specs.Meaning.{contentsLimit}
 use Rattle.reading.proofs.Limits.{limit-told}

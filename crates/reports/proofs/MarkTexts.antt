@@ -21,8 +21,9 @@ use Rattle.rules.specs.Limits.{maxQuantities}
 use Rattle.rules.specs.Refusal.{refusalLine}
 use Rattle.tables.specs.Meaning.{ruleIn, Solutions, WordsWithin}
 use Rattle.tables.proofs.Places.{ruleAt-bound, ruleAt-hasPlace}
+use Rattle.elimination.specs.Magnitude.{ValuesWithin}
 use Rattle.marking.specs.declared.verdict.Verdict.{Verdict}
-use Rattle.marking.specs.Meaning.{FirstBroken, ValuesWithin}
+use Rattle.marking.specs.Meaning.{FirstBroken}
 use Rattle.reading.specs.Texts.{Contents}
 use Rattle.reading.specs.Meaning.{contentsLimit}
 use Rattle.writing.specs.Writing.{ruleLineText}

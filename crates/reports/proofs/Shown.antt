@@ -20,9 +20,9 @@ use Rattle.rules.specs.Steps.{ruleOf}
 use Rattle.tables.specs.Meaning.{assignmentOf}
 use Rattle.tables.proofs.SheetA.{nothing-between}
 use Rattle.tables.proofs.Tests.{clash}
-use Rattle.elimination.specs.Magnitude.{valueLimit}
+use Rattle.elimination.specs.Magnitude.{valueLimit, ValuesWithin}
 use Rattle.marking.specs.declared.verdict.Verdict.the-variants.{Loose, Tight}
-use Rattle.marking.specs.Meaning.{ValuesWithin, LooseShown, TightShown}
+use Rattle.marking.specs.Meaning.{LooseShown, TightShown}
 use Rattle.numerals.specs.Bytes.{bytes}
 use Rattle.lines.specs.Spelling.{Term, one, two, writtenRule}
 use Rattle.lines.specs.Lines.{accepted}

@@ -4,6 +4,7 @@ use crate::room;
 use keys::key;
 use reading::read;
 use reading::read::Reading;
+use rules::hidden::Set;
 use rules::sheet::Sheet;
 use tables::reply::Reply;
 use tables::table;
@@ -26,7 +27,7 @@ ghost use Rattle.reports.specs.Inner.{SheetTable};
 pub const ROOM: usize = room::HEADER + room::RULE_LINE * Sheet::MAX_RULES;
 
 // Writes the text of a table, for which there is room, at the start of the output; answers its length. The writer has nothing to refuse.
-fn print_text(n: usize, hidden: u32, table: &[i64], out: &mut [u8]) -> usize
+fn print_text(n: usize, hidden: Set, table: &[i64], out: &mut [u8]) -> usize
     requires { ⌜ (serves n (length (now table)) ≡ true) × (setWithin n hidden ≡ true) ⌝ }
     requires { ⌜ length (writtenText n hidden (now table)) ≤ length (now out) ⌝ }
     ensures { λ r. ⌜ Spliced (now (out .entry)) 0 (writtenText n hidden (now (table .entry))) r (now (out .exit)) ⌝ }
@@ -39,7 +40,7 @@ fn print_text(n: usize, hidden: u32, table: &[i64], out: &mut [u8]) -> usize
 }
 
 // Writes the key of a sheet's table as its text, or the refusal of the key call, at the start of the output; answers the length.
-fn print_table(n: usize, hidden: u32, table: &mut [i64], out: &mut [u8]) -> usize
+fn print_table(n: usize, hidden: Set, table: &mut [i64], out: &mut [u8]) -> usize
     requires { ⌜ SheetTable n hidden (now table) × (maxWritten ≤ length (now out)) ⌝ }
     ensures { λ r. ⌜ Spliced (now (out .entry)) 0 (tableReport n hidden (now (table .entry))) r (now (out .exit)) ⌝ }
 {

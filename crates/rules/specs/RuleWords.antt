@@ -20,5 +20,5 @@ ruleWords (Two x y c) = signedOf x ∷ signedOf y ∷ c ∷ []
 ruleWords (Nothing c) = pos 0 ∷ pos 0 ∷ c ∷ []
 
 -- the rule of three words: the one that the constructor makes of them
-abbrev pub ruleIn : List ℤ → Rule
-ruleIn words = ruleOf (getD words 0 (pos 0)) (getD words 1 (pos 0)) (getD words 2 (pos 0))
+abbrev pub ruleOfWords : List ℤ → Rule
+ruleOfWords words = ruleOf (getD words 0 (pos 0)) (getD words 1 (pos 0)) (getD words 2 (pos 0))

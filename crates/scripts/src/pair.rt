@@ -4,6 +4,7 @@ use crate::room;
 use crate::room::Lengths;
 use reading::check;
 use reading::check::Checked;
+use rules::hidden::Set;
 use rules::paper::Paper;
 use rules::refusal::Refusal;
 use tables::reply::Reply;
@@ -18,7 +19,7 @@ pub enum PairChecked {
     // n and the hidden set of both, and of each the number of its rules and the cursor at which their lines begin
     Passed {
         quantities: usize,
-        hidden: u32,
+        hidden: Set,
         rules: usize,
         body: usize,
         script_rules: usize,
@@ -31,7 +32,7 @@ pub enum PairChecked {
 }
 
 // The first refusal of two texts that are fine by themselves, or done: what is lent for the sheet's n, then a script whose n or hidden set is not the sheet's.
-fn check_fit(n: usize, hidden: u32, script_n: usize, script_hidden: u32, lent: Lengths) -> Reply
+fn check_fit(n: usize, hidden: Set, script_n: usize, script_hidden: Set, lent: Lengths) -> Reply
     requires { ⌜ (1 ≤ n) × (n ≤ maxQuantities) ⌝ }
     ensures { λ r. ⌜ r ≡ firstChecks n hidden «script_n» «script_hidden» lent ⌝ }
 {

@@ -14,7 +14,7 @@ use Rattle.rules.specs.declared.rule.Rule.the-variants.{Two}
 use Rattle.rules.specs.declared.refusal.Refusal.{Refusal}
 use Rattle.rules.specs.declared.refusal.Refusal.the-variants.{Size, OutOfLimit, Cancelling, NoAssignment}
 use Rattle.rules.specs.Refusal.{refusedAs}
-use Rattle.rules.specs.Refusing.{Needs, passed, _or_then_, RefusedBy}
+use Rattle.rules.specs.Refusing.{Needs, passed, _or_then_, RefusedBy, AllMet}
 use Rattle.rules.specs.Meaning.{Assignment, Meets, boundOf}
 use Rattle.rules.specs.Steps.{inOrder}
 use Rattle.tables.specs.Places.{ruleAt, findPlace, HasPlace}
@@ -31,6 +31,7 @@ emptyNeeds n words = TableSized n words or Size then passed
 pub record Emptied (n : ℕ) (before : List ℤ) (r : Reply) (after : List ℤ) : Type 0 where
   pub reply : r ≡ emptyReply n (length before)
   pub refused : (f : Refusal) → (replyReturned r ≡ refusedAs f) ↔ RefusedBy (emptyNeeds n (length before)) f
+  pub accepted : (replyNumber r ≡ 0) ↔ AllMet (emptyNeeds n (length before))
   pub table : after ≡ cond (isDone r) (emptyTable n ++ drop (blockStart n) before) before
   pub meaning : replyNumber r ≡ 0 → (σ : Assignment) → Satisfies n after σ
 
@@ -47,6 +48,7 @@ putNeeds n words r =
 pub record Put (n : ℕ) (rule : Rule) (before : List ℤ) (r : Reply) (after : List ℤ) : Type 0 where
   pub reply : r ≡ putReply n (length before) rule
   pub refused : (f : Refusal) → (replyReturned r ≡ refusedAs f) ↔ RefusedBy (putNeeds n (length before) rule) f
+  pub accepted : (replyNumber r ≡ 0) ↔ AllMet (putNeeds n (length before) rule)
   pub table : after ≡ cond (isDone r) (putRule before rule) before
   pub meaning : replyNumber r ≡ 0 → (σ : Assignment) → Satisfies n after σ ↔ (Satisfies n before σ × Meets σ rule)
 
@@ -61,6 +63,7 @@ clearNeeds n words q =
 pub record Cleared (n q : ℕ) (before : List ℤ) (r : Reply) (after : List ℤ) : Type 0 where
   pub reply : r ≡ clearReply n (length before) q
   pub refused : (f : Refusal) → (replyReturned r ≡ refusedAs f) ↔ RefusedBy (clearNeeds n (length before) q) f
+  pub accepted : (replyNumber r ≡ 0) ↔ AllMet (clearNeeds n (length before) q)
   pub table : after ≡ cond (isDone r) (cleared n q before) before
   pub meaning : replyNumber r ≡ 0 → (σ : Assignment) → Satisfies n after σ ↔ SatisfiesWithout q n before σ
 

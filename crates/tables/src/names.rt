@@ -1,6 +1,7 @@
 // The test whether a table's rules name hidden quantities, as those of a script may not.
 use crate::place;
 use crate::table;
+use rules::hidden::Set;
 use rules::hidden;
 use rules::literal;
 use rules::rule::Rule;
@@ -13,7 +14,7 @@ ghost use Rattle.tables.specs.Meaning.{TableSized};
 ghost use Rattle.tables.specs.Promises.{HiddenNamed};
 
 // Whether a rule names a quantity of the set.
-fn names_hidden(set: u32, rule: Rule) -> bool
+fn names_hidden(set: Set, rule: Rule) -> bool
     ensures { λ r. ⌜ r ≡ namesHidden (hiddenIn set) rule ⌝ }
 {
     match rule {
@@ -33,7 +34,7 @@ fn names_hidden(set: u32, rule: Rule) -> bool
 }
 
 // Whether a rule of the table names a quantity of the set.
-pub fn any_names_hidden(n: usize, set: u32, table: &[i64]) -> bool
+pub fn any_names_hidden(n: usize, set: Set, table: &[i64]) -> bool
     requires { ⌜ TableSized n (length (now table)) ⌝ }
     ensures { λ r. ⌜ HiddenNamed n (hiddenIn set) (now (table .entry)) r ⌝ }
 {

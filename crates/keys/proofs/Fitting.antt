@@ -146,7 +146,7 @@ limit-doubled paper n set h =
     omega (
       arith,
       limit-rises maxQuantities (λ j. (maxBound + 1) * 2 ^ j) (λ j. (maxBound + 1) * 2 ^ j) (doubling (maxBound + 1) maxQuantities) n maxQuantities h
-      (omega arith),
+          (omega arith),
     )
 
 -- so sums fit in the table of a paper

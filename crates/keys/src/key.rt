@@ -1,8 +1,8 @@
 // The key call: the sheet's table is replaced by its key.
 use crate::checks;
 use crate::decide;
-use rules::hidden::Set;
 use rules::hidden;
+use rules::hidden::Set;
 use rules::paper;
 use rules::paper::Paper;
 use rules::refusal::Refusal;

@@ -288,12 +288,12 @@ verdict-told n set sheet script w v r w' v' m g = record {
   key = key-made n set sheet (sheet-fitting n set sheet script (length w) (length v) m) (m .limits .sheet-within);
   loose = λ rule e. let p = is-loose r (ap (λ (x : Returned). x .number) e) in let d = ap (λ (x : Returned). x .values) e in (
     loose-alike (carriedRule r) rule d (hiddenIn set) n sheet (Satisfies n script)
-    (verdict-loose n set sheet script (length w) (length v) m (carriedRule r) (sym (g .reply) ∙ p)),
+        (verdict-loose n set sheet script (length w) (length v) m (carriedRule r) (sym (g .reply) ∙ p)),
     loose-shown-alike (carriedRule r) rule d n (hiddenIn set) (Satisfies n sheet) (Satisfies n script) v' (g .loose-shown (carriedRule r) p),
   );
   tight = λ rule e. let p = is-tight r (ap (λ (x : Returned). x .number) e) in let d = ap (λ (x : Returned). x .values) e in (
     first-alike (carriedRule r) rule d n script (Satisfies n sheet)
-    (verdict-tight n set sheet script (length w) (length v) m (carriedRule r) (sym (g .reply) ∙ p)),
+        (verdict-tight n set sheet script (length w) (length v) m (carriedRule r) (sym (g .reply) ∙ p)),
     tight-shown-alike (carriedRule r) rule d n (hiddenIn set) (Satisfies n sheet) (Satisfies n script) v' (g .tight-shown (carriedRule r) p),
   );
 }

@@ -1,6 +1,6 @@
 // The checks of marking two tables.
-use rules::hidden::Set;
 use rules::hidden;
+use rules::hidden::Set;
 use rules::paper;
 use rules::paper::Paper;
 use rules::refusal::Refusal;

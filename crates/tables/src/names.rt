@@ -1,8 +1,8 @@
 // The test whether a table's rules name hidden quantities, as those of a script may not.
 use crate::place;
 use crate::table;
-use rules::hidden::Set;
 use rules::hidden;
+use rules::hidden::Set;
 use rules::literal;
 use rules::rule::Rule;
 use rules::sheet::Sheet;

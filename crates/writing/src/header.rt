@@ -1,8 +1,8 @@
 // The three lines before the rules.
 use crate::line;
 use numerals::write;
-use rules::hidden::Set;
 use rules::hidden;
+use rules::hidden::Set;
 ghost use mathlib.Core.Path.{_≡_};
 ghost use Prim.Native.Nat.{_+_, _≤_, _<_};
 ghost use lib.ListN.{length};

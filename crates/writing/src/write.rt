@@ -1,8 +1,8 @@
 // A table and a hidden set written as a text.
 use crate::header;
 use crate::line;
-use rules::hidden::Set;
 use rules::hidden;
+use rules::hidden::Set;
 use rules::refusal;
 use rules::refusal::Refusal;
 use rules::sheet::Sheet;

@@ -16,14 +16,16 @@ use Rattle.rules.specs.Limits.{maxQuantities}
 use Rattle.rules.specs.Refusing.{AllMet}
 use Rattle.tables.specs.declared.reply.Reply.the-variants.{Done, Refused}
 use Rattle.tables.specs.Tables.{serves, tableNamesHidden}
+use Rattle.tables.specs.Meaning.{TableSized}
 use Rattle.tables.specs.Replies.{check}
 use Rattle.tables.proofs.Tests.{both-true}
-use Rattle.tables.proofs.Sizes.{small-start, serves-tells, long-serves}
+use Rattle.tables.proofs.Sizes.{small-start, serves-tells, serves-sized}
 use Rattle.tables.proofs.Refusing.{Tied, tied-done, tied-more}
 use Rattle.tables.proofs.Naming.{names-test}
 use Rattle.keys.specs.Keys.{boundsInLimit}
+use Rattle.keys.specs.Meaning.{BoundsWithin, NumbersWithin}
 use Rattle.keys.proofs.Checking.{length-test, bounds}
-use Rattle.marking.specs.Meaning.{workspaceSize, Sized, InLimits, markNeeds}
+use Rattle.marking.specs.Meaning.{workspaceSize, markNeeds}
 use Rattle.marking.specs.Marking.{numbersWithin, markChecks}
 use Rattle.marking.specs.Inner.{TablesAccepted}
 
@@ -34,24 +36,22 @@ module _ (n set : ℕ) (sheet script : List ℤ) where
   abbrev serving : Bool
   serving = serves n (length sheet) && serves n (length script)
 
-  serving-sized : (serving ≡ true) ↔ Sized n (length sheet) (length script)
-  serving-sized = (to, λ s. rw (long-serves n (length sheet) (s .some) (s .most) (s .sheet-room), long-serves n (length script) (s .some) (s .most) (s .script-room)))
-    where
-      to : serving ≡ true → Sized n (length sheet) (length script)
-      to e =
-          let p = both-true (serves n (length sheet)) (serves n (length script)) e in
-          let a = serves-tells n (length sheet) (p .0) in
-          record { some = a .some; most = a .most; sheet-room = a .room; script-room = serves-tells n (length script) (p .1) .room }
+  serving-sized : (serving ≡ true) ↔ (TableSized n (length sheet) × TableSized n (length script))
+  serving-sized = (
+    λ e. let p = both-true (serves n (length sheet)) (serves n (length script)) e in (serves-sized n (length sheet) .0 (p .0), serves-sized n (length script) .0 (p .1)),
+    λ s. rw (serves-sized n (length sheet) .1 (s .0), serves-sized n (length script) .1 (s .1)),
+  )
 
-  within-limits : (numbersWithin n set sheet script ≡ true) ↔ InLimits n set sheet script
+  within-limits : (numbersWithin n set sheet script ≡ true) ↔ (NumbersWithin n set sheet × BoundsWithin Script n set script)
   unfolding numbersWithin
-  within-limits = (to, λ l. rw (l .set-within, bounds Sheet n set sheet .1 (l .sheet-within), bounds Script n set script .1 (l .script-within)))
+  within-limits = (to, λ l. rw (l .0 .0, bounds Sheet n set sheet .1 (l .0 .1), bounds Script n set script .1 (l .1)))
     where
-      to : numbersWithin n set sheet script ≡ true → InLimits n set sheet script
+      to : (setWithin n set && (boundsInLimit Sheet n set sheet && boundsInLimit Script n set script)) ≡ true
+          → NumbersWithin n set sheet × BoundsWithin Script n set script
       to e =
           let p = both-true (setWithin n set) (boundsInLimit Sheet n set sheet && boundsInLimit Script n set script) e in
           let q = both-true (boundsInLimit Sheet n set sheet) (boundsInLimit Script n set script) (p .1) in
-          record { set-within = p .0; sheet-within = bounds Sheet n set sheet .0 (q .0); script-within = bounds Script n set script .0 (q .1) }
+          ((p .0, bounds Sheet n set sheet .0 (q .0)), bounds Script n set script .0 (q .1))
 
 -- marking is refused by the first need that is not met
 pub mark-tied : (n set : ℕ) (sheet script : List ℤ) (w v : ℕ) → Tied (markNeeds n set sheet script w v) (markChecks n set sheet script w v)
@@ -61,11 +61,17 @@ mark-tied n set sheet script w v =
     tied-more _ _ _ _ _ (length-test (workspaceSize n) w) (λ l.
     tied-more _ _ _ _ _ (length-test n v) (λ k.
     tied-more _ _ _ _ _ (within-limits n set sheet script) (λ m.
-    tied-more _ _ _ _ _ (names-test (hiddenIn set) n script (s .script-room)) (λ x. tied-done)))))
+    tied-more _ _ _ _ _ (names-test (hiddenIn set) n script (s .1 .room)) (λ x. tied-done)))))
 
 -- where all are met, that is what a verdict asks
 pub met-accepted : (n set : ℕ) (sheet script : List ℤ) (w v : ℕ) → AllMet (markNeeds n set sheet script w v) → TablesAccepted n set sheet script w v
-met-accepted n set sheet script w v (s, (l, (k, (m, (x, u))))) = record { sized = s; workspace-room = l; values-room = k; limits = m; visible = x }
+met-accepted n set sheet script w v (s, (l, (k, (m, (x, u))))) = record {
+  sized = record { some = s .0 .some; most = s .0 .most; sheet-room = s .0 .room; script-room = s .1 .room };
+  workspace-room = l;
+  values-room = k;
+  limits = record { set-within = m .0 .0; sheet-within = m .0 .1; script-within = m .1 };
+  visible = x;
+}
 
 -- ---- each answer of the program
 

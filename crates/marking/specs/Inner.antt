@@ -14,21 +14,37 @@ use Rattle.places.specs.declared.Place.{Place}
 use Rattle.places.specs.declared.Place.the-variants.{At, Nowhere}
 use Rattle.places.specs.Numbering.{blockStart}
 use Rattle.rules.specs.declared.rule.Rule.{Rule}
-use Rattle.rules.specs.Hidden.{hiddenIn}
+use Rattle.rules.specs.declared.paper.Paper.the-variants.{Sheet, Script}
+use Rattle.rules.specs.Limits.{maxQuantities}
+use Rattle.rules.specs.Hidden.{hiddenIn, setWithin}
 use Rattle.rules.specs.Meaning.{Meets, names, hasTerm}
 use Rattle.rules.specs.Steps.{oppositeOf}
 use Rattle.tables.specs.Places.{ruleAt}
 use Rattle.tables.specs.Tables.{hasRule, putRule}
 use Rattle.tables.specs.Meaning.{HoldsRule, ruleIn, Satisfies, Unsatisfiable, Breaks, NamesVisible, assignmentOf}
 use Rattle.elimination.specs.Magnitude.{Unnamed, ValuesWithin}
+use Rattle.keys.specs.Meaning.{BoundsWithin}
 use Rattle.keys.specs.Inner.{Fits}
 use Rattle.marking.specs.declared.verdict.Verdict.{Verdict}
 use Rattle.marking.specs.declared.verdict.Verdict.the-variants.{Loose, Tight}
 use Rattle.marking.specs.Verdicts.{isShown}
-use Rattle.marking.specs.Meaning.{FirstAt, FirstBroken, NoneBroken, LooseShown, TightShown, workspaceSize, Sized, InLimits}
+use Rattle.marking.specs.Meaning.{FirstAt, FirstBroken, NoneBroken, LooseShown, TightShown, workspaceSize}
 use Rattle.marking.specs.Marking.{firstBroken, verdictOf}
 
 -- ---- what they ask: the needs of marking are met
+
+-- n is in its range, and both tables have words enough for it
+pub record Sized (n sheet script : ℕ) : Type 0 where
+  pub some : 1 ≤ n
+  pub most : n ≤ maxQuantities
+  pub sheet-room : blockStart n ≤ sheet
+  pub script-room : blockStart n ≤ script
+
+-- the hidden set names no quantity past n, and the bounds of both tables are in the limits of their papers
+pub record InLimits (n set : ℕ) (sheet script : List ℤ) : Type 0 where
+  pub set-within : setWithin n set ≡ true
+  pub sheet-within : BoundsWithin Sheet n set sheet
+  pub script-within : BoundsWithin Script n set script
 
 pub record TablesAccepted (n set : ℕ) (sheet script : List ℤ) (w v : ℕ) : Type 0 where
   pub sized : Sized n (length sheet) (length script)

@@ -10,17 +10,16 @@ use lib.ListN.{length}
 use Rattle.places.specs.Numbering.{blockStart}
 use Rattle.rules.specs.declared.rule.Rule.{Rule}
 use Rattle.rules.specs.declared.rule.Rule.the-variants.{One, Two, Nothing}
-use Rattle.rules.specs.declared.paper.Paper.the-variants.{Sheet, Script}
+use Rattle.rules.specs.declared.paper.Paper.the-variants.{Script}
 use Rattle.rules.specs.declared.refusal.Refusal.the-variants.{Size, OutOfLimit, TooShort, Mismatch}
-use Rattle.rules.specs.Hidden.{hiddenIn, setWithin}
-use Rattle.rules.specs.Limits.{maxQuantities}
+use Rattle.rules.specs.Hidden.{hiddenIn}
 use Rattle.rules.specs.Refusing.{Needs, passed, _or_then_}
 use Rattle.rules.specs.Refusal.{Returned}
 use Rattle.rules.specs.Meaning.{Assignment, Meets, hasTerm}
-use Rattle.tables.specs.Meaning.{HoldsRule, ruleIn, Satisfiable, Unsatisfiable, Solutions, Completes, SheetAllows, ScriptAllows, ScriptForbids, Breaks, NamesVisible, SameVisible, assignmentOf}
+use Rattle.tables.specs.Meaning.{TableSized, HoldsRule, ruleIn, Satisfiable, Unsatisfiable, Solutions, Completes, SheetAllows, ScriptAllows, ScriptForbids, Breaks, NamesVisible, SameVisible, assignmentOf}
 use Rattle.elimination.specs.Magnitude.{ValuesWithin}
 use Rattle.keys.specs.Keys.{keyOf}
-use Rattle.keys.specs.Meaning.{BoundsWithin}
+use Rattle.keys.specs.Meaning.{BoundsWithin, NumbersWithin}
 use Rattle.keys.specs.Promises.{KeyMade}
 use Rattle.marking.specs.declared.verdict.Verdict.the-variants.{Loose, Tight}
 use Rattle.marking.specs.Verdicts.{verdictReturned}
@@ -131,25 +130,12 @@ pub record VerdictMeans (n set : ℕ) (sheet script : Solutions) (sheet-table sc
 abbrev pub workspaceSize : ℕ → ℕ
 workspaceSize n = 2 * blockStart n
 
--- n is in its range, and both tables have words enough for it
-pub record Sized (n sheet script : ℕ) : Type 0 where
-  pub some : 1 ≤ n
-  pub most : n ≤ maxQuantities
-  pub sheet-room : blockStart n ≤ sheet
-  pub script-room : blockStart n ≤ script
-
--- the hidden set names no quantity past n, and the bounds of both tables are in the limits of their papers
-pub record InLimits (n set : ℕ) (sheet script : List ℤ) : Type 0 where
-  pub set-within : setWithin n set ≡ true
-  pub sheet-within : BoundsWithin Sheet n set sheet
-  pub script-within : BoundsWithin Script n set script
-
 -- with a workspace of w words and v words for an assignment: 1, 6 for the workspace, 6 for the assignment, 3, 7
 abbrev pub markNeeds : ℕ → ℕ → List ℤ → List ℤ → ℕ → ℕ → Needs
 markNeeds n set sheet script w v =
-    Sized n (length sheet) (length script) or Size then
+    (TableSized n (length sheet) × TableSized n (length script)) or Size then
     (workspaceSize n ≤ w) or TooShort (workspaceSize n) then
     (n ≤ v) or TooShort n then
-    InLimits n set sheet script or OutOfLimit 0 then
+    (NumbersWithin n set sheet × BoundsWithin Script n set script) or OutOfLimit 0 then
     NamesVisible n (hiddenIn set) script or Mismatch then
     passed

@@ -104,7 +104,7 @@ module _ (n words w : ℕ) where
   lent-tied rest next t = tied-more _ _ _ _ _ (serves-sized n words) (λ s. tied-more _ _ _ _ _ (length-test (blockStart n) w) (λ l. t s))
 
   lent-tells : lentChecks n words w Done ≡ Done → TableSized n words × (blockStart n ≤ w)
-  lent-tells e = go (lent-tied passed Done (λ s. tied-done) .passes .0 e)
+  lent-tells e = go (lent-tied passed Done (λ s. tied-done) .accepted .0 e)
     where
       go : TableSized n words × ((blockStart n ≤ w) × Unit {0}) → TableSized n words × (blockStart n ≤ w)
       go (s, (l, u)) = (s, l)

@@ -25,7 +25,7 @@ use Rattle.tables.specs.Tables.{cleared}
 use Rattle.tables.proofs.Tests.{clash}
 use Rattle.tables.specs.Meaning.{Satisfiable, Unsatisfiable, assignmentOf}
 use Rattle.tables.proofs.Sizes.{serves-sized}
-use Rattle.tables.proofs.Refusing.{tied-returned, tied-number}
+use Rattle.tables.proofs.Refusing.{tied-decided}
 use Rattle.keys.specs.Meaning.{BoundsWithin, keyNeedsThen, assignmentNeedsThen}
 use Rattle.tables.specs.Replies.{replyNumber, check}
 use Rattle.elimination.specs.Hiding.{paired, eliminated}
@@ -97,8 +97,7 @@ pub key-refused : (n set : ℕ) (t w w' : List ℤ) (r : Reply) (f : Refusal) �
     → Lent (blockStart n) (freesWorkspace r) w w' → Keyed n set t w r t w'
 key-refused n set t w w' r f e d l = record {
   reply = e;
-  refused = tied-returned _ r _ e (key-tied n set t (length w));
-  accepted = tied-number _ r _ e (key-tied n set t (length w));
+  decided = tied-decided _ r _ e (key-tied n set t (length w));
   none = key-none n set t (length w) r e;
   words = rw d;
   rest = refl;
@@ -135,8 +134,7 @@ key-done n set t w t' w' p d k =
     let e = key-decided n set t w w' false p d in
     record {
       reply = e;
-      refused = tied-returned _ Done _ e (key-tied n set t (length w));
-      accepted = tied-number _ Done _ e (key-tied n set t (length w));
+      decided = tied-decided _ Done _ e (key-tied n set t (length w));
       none = key-none n set t (length w) Done e;
       words = k;
       rest = rw k (rest-key (hiddenIn set) n t);
@@ -163,8 +161,7 @@ pub assignment-refused : (n : ℕ) (t w v w' : List ℤ) (r : Reply) (f : Refusa
     → Lent (blockStart n) (freesWorkspace r) w w' → Assigned n t w v r w' v
 assignment-refused n t w v w' r f e d l = record {
   reply = e;
-  refused = tied-returned _ r _ e (assignment-tied n t (length w) (length v));
-  accepted = tied-number _ r _ e (assignment-tied n t (length w) (length v));
+  decided = tied-decided _ r _ e (assignment-tied n t (length w) (length v));
   none = assignment-none n t (length w) (length v) r e;
   lent = l;
   written = untouched n _ v;
@@ -221,8 +218,7 @@ assignment-done n t w v w' v' p d k =
     let a = values-found n t w v w' v' (assignment-fits n t (length w) (length v) p) (p .0 .room) (p .1 .0) (p .1 .1 .0) d k in
     record {
       reply = e;
-      refused = tied-returned _ Done _ e (assignment-tied n t (length w) (length v));
-      accepted = tied-number _ Done _ e (assignment-tied n t (length w) (length v));
+      decided = tied-decided _ Done _ e (assignment-tied n t (length w) (length v));
       none = assignment-none n t (length w) (length v) Done e;
       lent = d .lent;
       written = a .written;

@@ -8,9 +8,8 @@ use lib.IntN.{ℤ}
 use lib.ListN.{length, drop}
 use Rattle.words.specs.Lent.{Lent}
 use Rattle.places.specs.Numbering.{blockStart}
-use Rattle.rules.specs.declared.refusal.Refusal.{Refusal}
 use Rattle.rules.specs.Refusal.{refusedAs}
-use Rattle.rules.specs.Refusing.{passed, RefusedBy, AllMet}
+use Rattle.rules.specs.Refusing.{passed, AllMet, DecidedBy}
 use Rattle.rules.specs.Hidden.{hiddenIn}
 use Rattle.rules.specs.Meaning.{Assignment}
 use Rattle.tables.specs.declared.reply.Reply.{Reply}
@@ -33,8 +32,7 @@ pub record KeyMade (n set : ℕ) (sheet key : List ℤ) : Type 0 where
 -- the key call on n quantities and a hidden set: refused by the first need that is not met, as it is returned, and else the table is its key
 pub record Keyed (n set : ℕ) (table workspace : List ℤ) (r : Reply) (table' workspace' : List ℤ) : Type 0 where
   pub reply : r ≡ keyReply n set table (length workspace)
-  pub refused : (f : Refusal) → (replyReturned r ≡ refusedAs f) ↔ RefusedBy (keyNeeds n set table (length workspace)) f
-  pub accepted : (replyNumber r ≡ 0) ↔ AllMet (keyNeeds n set table (length workspace))
+  pub decided : DecidedBy (keyNeeds n set table (length workspace)) (λ f. replyReturned r ≡ refusedAs f) (replyNumber r ≡ 0)
   -- demand 2: past the checks before it, 5 exactly when no integers satisfy the sheet
   pub none : AllMet (keyNeedsThen n set table (length workspace) passed) → (replyNumber r ≡ 5) ↔ Unsatisfiable n table
   pub words : table' ≡ cond (isDone r) (keyOf (hiddenIn set) n table) table
@@ -52,8 +50,7 @@ pub record AssignmentFound (n : ℕ) (table values : List ℤ) : Type 0 where
 -- the assignment call on n quantities. The table is only read
 pub record Assigned (n : ℕ) (table workspace values : List ℤ) (r : Reply) (workspace' values' : List ℤ) : Type 0 where
   pub reply : r ≡ assignmentReply n table (length workspace) (length values)
-  pub refused : (f : Refusal) → (replyReturned r ≡ refusedAs f) ↔ RefusedBy (assignmentNeeds n table (length workspace) (length values)) f
-  pub accepted : (replyNumber r ≡ 0) ↔ AllMet (assignmentNeeds n table (length workspace) (length values))
+  pub decided : DecidedBy (assignmentNeeds n table (length workspace) (length values)) (λ f. replyReturned r ≡ refusedAs f) (replyNumber r ≡ 0)
   -- past the checks before it, 5 exactly when no integers satisfy the table
   pub none : AllMet (assignmentNeedsThen n table (length workspace) (length values) passed) → (replyNumber r ≡ 5) ↔ Unsatisfiable n table
   pub lent : Lent (blockStart n) (freesWorkspace r) workspace workspace'

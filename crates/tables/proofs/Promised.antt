@@ -29,7 +29,7 @@ use Rattle.rules.proofs.Refusals.{refusal-number}
 use Rattle.tables.specs.Promises.{emptyNeeds, Emptied, putNeeds, Put, clearNeeds, Cleared, AtPlace, Placed}
 use Rattle.tables.proofs.Tests.{clash}
 use Rattle.tables.proofs.Sizes.{serves-tells}
-use Rattle.tables.proofs.Refusing.{tied-returned, tied-number}
+use Rattle.tables.proofs.Refusing.{tied-decided}
 use Rattle.tables.proofs.Needed.{empty-tied, put-tied, clear-tied}
 use Rattle.tables.proofs.Places.{ruleAt-bound, ruleAt-found, ruleAt-hasPlace, found-inOrder, found-inside, found-nowhere}
 use Rattle.tables.proofs.Putting.{accepted-put}
@@ -40,8 +40,7 @@ use Rattle.tables.proofs.Without.{cleared-meaning}
 pub emptied-refused : (n : ℕ) (t : List ℤ) → serves n (length t) ≡ false → Emptied n t (Refused Size) t
 emptied-refused n t e = record {
   reply = rw e;
-  refused = tied-returned (emptyNeeds n (length t)) (Refused Size) (emptyReply n (length t)) (rw e) (empty-tied n (length t));
-  accepted = tied-number (emptyNeeds n (length t)) (Refused Size) (emptyReply n (length t)) (rw e) (empty-tied n (length t));
+  decided = tied-decided (emptyNeeds n (length t)) (Refused Size) (emptyReply n (length t)) (rw e) (empty-tied n (length t));
   table = refl;
   meaning = λ d. absurd (refusal-number Size d);
 }
@@ -58,8 +57,7 @@ no-rules n v σ = record { each = λ k p. clash {b = hasRule noRule} (rw (word k
 pub emptied-done : (n : ℕ) (t u : List ℤ) → serves n (length t) ≡ true → u ≡ change (tableSize n) (fillFrom 0 noRule) t → Emptied n t Done u
 emptied-done n t u e f = record {
   reply = rw e;
-  refused = tied-returned (emptyNeeds n (length t)) Done (emptyReply n (length t)) (rw e) (empty-tied n (length t));
-  accepted = tied-number (emptyNeeds n (length t)) Done (emptyReply n (length t)) (rw e) (empty-tied n (length t));
+  decided = tied-decided (emptyNeeds n (length t)) Done (emptyReply n (length t)) (rw e) (empty-tied n (length t));
   table = filled;
   meaning = λ d σ. rw filled (no-rules n (drop (blockStart n) t) σ);
 }
@@ -75,8 +73,7 @@ emptied-done n t u e f = record {
 put-kept : (n : ℕ) (q : Rule) (t : List ℤ) (r : Reply) (f : Refusal) → r ≡ putReply n (length t) q → r ≡ Refused f → Put n q t r t
 put-kept n q t r f e d = record {
   reply = e;
-  refused = tied-returned (putNeeds n (length t) q) r (putReply n (length t) q) e (put-tied n (length t) q);
-  accepted = tied-number (putNeeds n (length t) q) r (putReply n (length t) q) e (put-tied n (length t) q);
+  decided = tied-decided (putNeeds n (length t) q) r (putReply n (length t) q) e (put-tied n (length t) q);
   table = rw d;
   meaning = λ g. absurd (refusal-number f (rw d at g));
 }
@@ -93,8 +90,7 @@ pub put-done : (n : ℕ) (r h : Rule) (t u : List ℤ) → serves n (length t) �
 unfolding putReply putRule
 put-done n r h t u e q d f = record {
   reply = whole;
-  refused = tied-returned (putNeeds n (length t) r) Done (putReply n (length t) r) whole (put-tied n (length t) r);
-  accepted = tied-number (putNeeds n (length t) r) Done (putReply n (length t) r) whole (put-tied n (length t) r);
+  decided = tied-decided (putNeeds n (length t) r) Done (putReply n (length t) r) whole (put-tied n (length t) r);
   table = placed;
   meaning = λ g σ. rw placed (accepted-put n t r σ (serves-tells n (length t) e .room) (sym q));
 }
@@ -110,8 +106,7 @@ put-done n r h t u e q d f = record {
 cleared-kept : (n q : ℕ) (t : List ℤ) (f : Refusal) → Refused f ≡ clearReply n (length t) q → Cleared n q t (Refused f) t
 cleared-kept n q t f e = record {
   reply = e;
-  refused = tied-returned (clearNeeds n (length t) q) (Refused f) (clearReply n (length t) q) e (clear-tied n (length t) q);
-  accepted = tied-number (clearNeeds n (length t) q) (Refused f) (clearReply n (length t) q) e (clear-tied n (length t) q);
+  decided = tied-decided (clearNeeds n (length t) q) (Refused f) (clearReply n (length t) q) e (clear-tied n (length t) q);
   table = refl;
   meaning = λ d. absurd (refusal-number f d);
 }
@@ -129,8 +124,7 @@ pub cleared-done : (n q : ℕ) (t u : List ℤ) → serves n (length t) ≡ true
 unfolding clearReply
 cleared-done n q t u e l h d = record {
   reply = whole;
-  refused = tied-returned (clearNeeds n (length t) q) Done (clearReply n (length t) q) whole (clear-tied n (length t) q);
-  accepted = tied-number (clearNeeds n (length t) q) Done (clearReply n (length t) q) whole (clear-tied n (length t) q);
+  decided = tied-decided (clearNeeds n (length t) q) Done (clearReply n (length t) q) whole (clear-tied n (length t) q);
   table = d;
   meaning = λ g σ. rw d (cleared-meaning n q t σ (serves-tells n (length t) e .room));
 }

@@ -4,7 +4,7 @@ use mathlib.Core.Bool.{Bool, true, false}
 use mathlib.Core.Logic.{_↔_, _⊎_, inl, inr, ⊎-elim}
 use Rattle.rules.specs.declared.refusal.Refusal.{Refusal}
 use Rattle.rules.specs.Refusal.{Returned, refusedAs}
-use Rattle.rules.specs.Refusing.{Needs, passed, _or_then_, RefusedBy, AllMet}
+use Rattle.rules.specs.Refusing.{Needs, passed, _or_then_, DecidedBy}
 use Rattle.rules.proofs.Refusals.{same-refusal, refusal-number}
 use Rattle.tables.specs.declared.reply.Reply.{Reply}
 use Rattle.tables.specs.declared.reply.Reply.the-variants.{Done, Refused}
@@ -12,32 +12,31 @@ use Rattle.tables.specs.Replies.{replyReturned, replyNumber, check}
 use Rattle.tables.proofs.Tests.{clash, refused-done}
 
 -- a reply is refused by the first need that is not met, and done where all are
-pub record Tied (needs : Needs) (r : Reply) : Type 0 where
-  pub refuses : (f : Refusal) → (r ≡ Refused f) ↔ RefusedBy needs f
-  pub passes : (r ≡ Done) ↔ AllMet needs
+abbrev pub Tied : Needs → Reply → Type 0
+Tied needs r = DecidedBy needs (λ f. r ≡ Refused f) (r ≡ Done)
 
 pub refusal-in : {f g : Refusal} → Refused f ≡ Refused g → g ≡ f
 refusal-in e = cc
 
 pub tied-done : Tied passed Done
 tied-done = record {
-  refuses = λ f. (λ e. refused-done (sym e), λ x. absurd x);
-  passes = (λ e. Prim.tt, λ x. refl);
+  refused = λ f. (λ e. refused-done (sym e), λ x. absurd x);
+  accepted = (λ e. Prim.tt, λ x. refl);
 }
 
 -- one check more before the others, which matter only where it passes
 pub tied-more : (b : Bool) (P : Type 0) (g : Refusal) (needs : Needs) (r : Reply) → (b ≡ true) ↔ P → (P → Tied needs r)
     → Tied (P or g then needs) (check b g r)
 tied-more true P g needs r d t = record {
-  refuses = λ f. (
-    λ e. inr (d .0 refl, t (d .0 refl) .refuses f .0 e),
-    λ x. ⊎-elim (λ y. absurd (y .0 (d .0 refl))) (λ y. t (d .0 refl) .refuses f .1 (y .1)) x,
+  refused = λ f. (
+    λ e. inr (d .0 refl, t (d .0 refl) .refused f .0 e),
+    λ x. ⊎-elim (λ y. absurd (y .0 (d .0 refl))) (λ y. t (d .0 refl) .refused f .1 (y .1)) x,
   );
-  passes = (λ e. (d .0 refl, t (d .0 refl) .passes .0 e), λ x. t (d .0 refl) .passes .1 (x .1));
+  accepted = (λ e. (d .0 refl, t (d .0 refl) .accepted .0 e), λ x. t (d .0 refl) .accepted .1 (x .1));
 }
 tied-more false P g needs r d t = record {
-  refuses = λ f. (λ e. inl (λ p. clash (d .1 p) refl, refusal-in e), λ x. ⊎-elim (λ y. rw (y .1)) (λ y. clash (d .1 (y .0)) refl) x);
-  passes = (λ e. absurd (refused-done e), λ x. clash (d .1 (x .0)) refl);
+  refused = λ f. (λ e. inl (λ p. clash (d .1 p) refl, refusal-in e), λ x. ⊎-elim (λ y. rw (y .1)) (λ y. clash (d .1 (y .0)) refl) x);
+  accepted = (λ e. absurd (refused-done e), λ x. clash (d .1 (x .0)) refl);
 }
 
 -- ---- checks, and then others
@@ -70,9 +69,13 @@ number-done r = (go r, λ e. rw e)
     go Done e = refl
     go (Refused f) e = absurd (refusal-number f e)
 
--- a reply that is tied to its needs, by what is returned of it
-pub tied-returned : (needs : Needs) (r s : Reply) → r ≡ s → Tied needs s → (f : Refusal) → (replyReturned r ≡ refusedAs f) ↔ RefusedBy needs f
-tied-returned needs r s d t f = (λ e. t .refuses f .0 (sym d ∙ returned-refused r f .0 e), λ x. returned-refused r f .1 (d ∙ t .refuses f .1 x))
+-- what decides a call decides it, however it is told
+pub decided-as : {needs : Needs} {P Q : Refusal → Type 0} {A B : Type 0} → DecidedBy needs P A → ((f : Refusal) → Q f ↔ P f) → B ↔ A → DecidedBy needs Q B
+decided-as d p a = record {
+  refused = λ f. (λ x. d .refused f .0 (p f .0 x), λ x. p f .1 (d .refused f .1 x));
+  accepted = (λ x. d .accepted .0 (a .0 x), λ x. a .1 (d .accepted .1 x));
+}
 
-pub tied-number : (needs : Needs) (r s : Reply) → r ≡ s → Tied needs s → (replyNumber r ≡ 0) ↔ AllMet needs
-tied-number needs r s d t = (λ e. t .passes .0 (sym d ∙ number-done r .0 e), λ x. number-done r .1 (d ∙ t .passes .1 x))
+-- a reply that is tied to its needs, by what is returned of it
+pub tied-decided : (needs : Needs) (r s : Reply) → r ≡ s → Tied needs s → DecidedBy needs (λ f. replyReturned r ≡ refusedAs f) (replyNumber r ≡ 0)
+tied-decided needs r s d t = rw d (decided-as t (returned-refused s) (number-done s))

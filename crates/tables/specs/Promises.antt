@@ -11,10 +11,9 @@ use Rattle.places.specs.declared.Place.the-variants.{At, Nowhere}
 use Rattle.places.specs.Numbering.{blockStart}
 use Rattle.rules.specs.declared.rule.Rule.{Rule}
 use Rattle.rules.specs.declared.rule.Rule.the-variants.{Two}
-use Rattle.rules.specs.declared.refusal.Refusal.{Refusal}
 use Rattle.rules.specs.declared.refusal.Refusal.the-variants.{Size, OutOfLimit, Cancelling, NoAssignment}
 use Rattle.rules.specs.Refusal.{refusedAs}
-use Rattle.rules.specs.Refusing.{Needs, passed, _or_then_, RefusedBy, AllMet}
+use Rattle.rules.specs.Refusing.{Needs, passed, _or_then_, DecidedBy}
 use Rattle.rules.specs.Meaning.{Assignment, Meets, boundOf}
 use Rattle.rules.specs.Steps.{inOrder}
 use Rattle.tables.specs.Places.{ruleAt, findPlace, HasPlace}
@@ -30,8 +29,7 @@ emptyNeeds n words = TableSized n words or Size then passed
 -- no rules: the first 2n² words are the empty table's, and every assignment satisfies it
 pub record Emptied (n : ℕ) (before : List ℤ) (r : Reply) (after : List ℤ) : Type 0 where
   pub reply : r ≡ emptyReply n (length before)
-  pub refused : (f : Refusal) → (replyReturned r ≡ refusedAs f) ↔ RefusedBy (emptyNeeds n (length before)) f
-  pub accepted : (replyNumber r ≡ 0) ↔ AllMet (emptyNeeds n (length before))
+  pub decided : DecidedBy (emptyNeeds n (length before)) (λ f. replyReturned r ≡ refusedAs f) (replyNumber r ≡ 0)
   pub table : after ≡ cond (isDone r) (emptyTable n ++ drop (blockStart n) before) before
   pub meaning : replyNumber r ≡ 0 → (σ : Assignment) → Satisfies n after σ
 
@@ -47,8 +45,7 @@ putNeeds n words r =
 -- a rule put in: satisfied exactly by what satisfied the table before and meets the rule
 pub record Put (n : ℕ) (rule : Rule) (before : List ℤ) (r : Reply) (after : List ℤ) : Type 0 where
   pub reply : r ≡ putReply n (length before) rule
-  pub refused : (f : Refusal) → (replyReturned r ≡ refusedAs f) ↔ RefusedBy (putNeeds n (length before) rule) f
-  pub accepted : (replyNumber r ≡ 0) ↔ AllMet (putNeeds n (length before) rule)
+  pub decided : DecidedBy (putNeeds n (length before) rule) (λ f. replyReturned r ≡ refusedAs f) (replyNumber r ≡ 0)
   pub table : after ≡ cond (isDone r) (putRule before rule) before
   pub meaning : replyNumber r ≡ 0 → (σ : Assignment) → Satisfies n after σ ↔ (Satisfies n before σ × Meets σ rule)
 
@@ -62,8 +59,7 @@ clearNeeds n words q =
 -- every place that names quantity q cleared: satisfied exactly by what meets the rules before that do not name it
 pub record Cleared (n q : ℕ) (before : List ℤ) (r : Reply) (after : List ℤ) : Type 0 where
   pub reply : r ≡ clearReply n (length before) q
-  pub refused : (f : Refusal) → (replyReturned r ≡ refusedAs f) ↔ RefusedBy (clearNeeds n (length before) q) f
-  pub accepted : (replyNumber r ≡ 0) ↔ AllMet (clearNeeds n (length before) q)
+  pub decided : DecidedBy (clearNeeds n (length before) q) (λ f. replyReturned r ≡ refusedAs f) (replyNumber r ≡ 0)
   pub table : after ≡ cond (isDone r) (cleared n q before) before
   pub meaning : replyNumber r ≡ 0 → (σ : Assignment) → Satisfies n after σ ↔ SatisfiesWithout q n before σ
 

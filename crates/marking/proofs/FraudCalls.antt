@@ -65,15 +65,15 @@ short-of w v m (inr (s, inr (l, inr (k, inr (i, inr (x, z)))))) = absurd z
 
 -- 4n² words and n words refused, whatever is asked for
 pub enough-refused : (m : ℕ) → NoReply 4 1 (TooShort m)
-enough-refused m w' v' t = ⊎-elim (λ p. omega (arith, p .0)) (λ p. omega (arith, p .0)) (short-of 4 1 m (t .refused (TooShort m) .0 refl))
+enough-refused m w' v' t = ⊎-elim (λ p. omega (arith, p .0)) (λ p. omega (arith, p .0)) (short-of 4 1 m (t .decided .refused (TooShort m) .0 refl))
 
 -- 8 asked for a workspace of 3 words, where 4 are needed
 pub double-asked : NoReply 3 1 (TooShort 8)
-double-asked w' v' t = ⊎-elim (λ p. omega (arith, p .1)) (λ p. omega (arith, p .1)) (short-of 3 1 8 (t .refused (TooShort 8) .0 refl))
+double-asked w' v' t = ⊎-elim (λ p. omega (arith, p .1)) (λ p. omega (arith, p .1)) (short-of 3 1 8 (t .decided .refused (TooShort 8) .0 refl))
 
 -- 2 asked for an assignment of no words, where 1 is needed
 pub one-more-asked : NoReply 4 0 (TooShort 2)
-one-more-asked w' v' t = ⊎-elim (λ p. omega (arith, p .1)) (λ p. omega (arith, p .1)) (short-of 4 0 2 (t .refused (TooShort 2) .0 refl))
+one-more-asked w' v' t = ⊎-elim (λ p. omega (arith, p .1)) (λ p. omega (arith, p .1)) (short-of 4 0 2 (t .decided .refused (TooShort 2) .0 refl))
 
 -- ---- names
 
@@ -81,5 +81,5 @@ one-more-asked w' v' t = ⊎-elim (λ p. omega (arith, p .1)) (λ p. omega (arit
 pub hidden-marked : (v : Verdict) (sheet w u w' u' : List ℤ) → TablesMarked 1 1 sheet (tableOf 1 (ruleOf (pos 1) (pos 0) (pos 0) ∷ [])) w u (Marked v) w' u' → ⊥
 unfolding steps
 hidden-marked v sheet w u w' u' t =
-    let x = met-accepted _ _ _ _ _ _ (t .accepted .0 refl) .visible in
+    let x = met-accepted _ _ _ _ _ _ (t .decided .accepted .0 refl) .visible in
     clash {b = hiddenIn 1 1} refl (x .each 0 (record { inside = omega arith; there = omega arith; rule = refl }) 1 refl)

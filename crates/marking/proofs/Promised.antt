@@ -16,7 +16,7 @@ use Rattle.rules.specs.declared.rule.Rule.the-variants.{One, Two, Nothing}
 use Rattle.rules.specs.Hidden.{hiddenIn}
 use Rattle.rules.specs.Limits.{maxQuantities}
 use Rattle.rules.specs.Refusal.{Returned, refusedAs}
-use Rattle.rules.specs.Refusing.{RefusedBy, AllMet}
+use Rattle.rules.specs.Refusing.{DecidedBy}
 use Rattle.rules.proofs.Refusals.{same-refusal}
 use Rattle.rules.specs.Steps.{trivialRule}
 use Rattle.rules.specs.Meaning.{hasTerm}
@@ -26,7 +26,7 @@ use Rattle.tables.specs.declared.reply.Reply.the-variants.{Refused as NotDone}
 use Rattle.tables.specs.Tables.{tableSize}
 use Rattle.tables.specs.Meaning.{Satisfies}
 use Rattle.tables.proofs.Sizes.{size-whole}
-use Rattle.tables.proofs.Refusing.{Tied, refusal-in}
+use Rattle.tables.proofs.Refusing.{refusal-in, decided-as}
 use Rattle.tables.proofs.Meanings.{table-allows-visible, script-visible}
 use Rattle.tables.proofs.Tests.{refused-done, clash}
 use Rattle.keys.specs.Keys.{keyOf, refuted}
@@ -309,26 +309,18 @@ marked-done Done v = (λ e. refl, λ e. refl)
 marked-done (NotDone g) v = (λ e. clash e refl, λ e. absurd (refused-done e))
 
 module _ (n set : ℕ) (sheet script : List ℤ) (w v : ℕ) where
-  replied : Tied (markNeeds n set sheet script w v) (markChecks n set sheet script w v)
-  replied = mark-tied n set sheet script w v
-
-  reply-refused : (r : Marking) → r ≡ markReply n set sheet script w v → (f : Refusal)
-      → (markingReturned r ≡ refusedAs f) ↔ RefusedBy (markNeeds n set sheet script w v) f
+  reply-decided : (r : Marking) → r ≡ markReply n set sheet script w v
+      → DecidedBy (markNeeds n set sheet script w v) (λ f. markingReturned r ≡ refusedAs f) (isMarked r ≡ true)
   unfolding markReply
-  reply-refused r e f =
-      let d = marked-refused (markChecks n set sheet script w v) (verdictOf (hiddenIn set) n sheet script) f in
-      (λ x. replied .refuses f .0 (d .0 (rw e at x)), λ x. rw e (d .1 (replied .refuses f .1 x)))
-
-  reply-accepted : (r : Marking) → r ≡ markReply n set sheet script w v → (isMarked r ≡ true) ↔ AllMet (markNeeds n set sheet script w v)
-  unfolding markReply
-  reply-accepted r e =
-      let d = marked-done (markChecks n set sheet script w v) (verdictOf (hiddenIn set) n sheet script) in
-      (λ x. replied .passes .0 (d .0 (rw e at x)), λ x. rw e (d .1 (replied .passes .1 x)))
+  reply-decided r e =
+      let checks = markChecks n set sheet script w v in
+      let verdict = verdictOf (hiddenIn set) n sheet script in
+      rw e (decided-as (mark-tied n set sheet script w v) (marked-refused checks verdict) (marked-done checks verdict))
 
 -- checks that are done leave what a verdict asks
 pub checked-accepted : (n set : ℕ) (sheet script : List ℤ) (w v : ℕ) (a : Reply) → a ≡ markChecks n set sheet script w v → a ≡ Done
     → TablesAccepted n set sheet script w v
-checked-accepted n set sheet script w v a e d = met-accepted n set sheet script w v (mark-tied n set sheet script w v .passes .0 (sym e ∙ d))
+checked-accepted n set sheet script w v a e d = met-accepted n set sheet script w v (mark-tied n set sheet script w v .accepted .0 (sym e ∙ d))
 
 -- a refusal: no word is changed
 pub mark-refused : (n set : ℕ) (sheet script w v : List ℤ) (a : Reply) (f : Refusal) → a ≡ markChecks n set sheet script (length w) (length v) → a ≡ NotDone f
@@ -338,8 +330,7 @@ mark-refused n set sheet script w v a f e d = record {
   reply = reply;
   lent = untouched (workspaceSize n) false w;
   written = untouched n false v;
-  refused = reply-refused n set sheet script (length w) (length v) (Refused f) reply;
-  accepted = reply-accepted n set sheet script (length w) (length v) (Refused f) reply;
+  decided = reply-decided n set sheet script (length w) (length v) (Refused f) reply;
   means = λ c. clash {b = false} c refl;
 }
   where
@@ -355,8 +346,7 @@ mark-given n set sheet script w v a r w' v' e d g = record {
   reply = reply;
   lent = g .lent;
   written = g .written;
-  refused = reply-refused n set sheet script (length w) (length v) (Marked r) reply;
-  accepted = reply-accepted n set sheet script (length w) (length v) (Marked r) reply;
+  decided = reply-decided n set sheet script (length w) (length v) (Marked r) reply;
   means = λ c. verdict-told n set sheet script w v r w' v' (checked-accepted n set sheet script (length w) (length v) a e d) g;
 }
   where

@@ -7,9 +7,8 @@ use Prim.Native.Nat.{ℕ}
 use lib.IntN.{ℤ}
 use lib.ListN.{length}
 use Rattle.words.specs.Lent.{Lent}
-use Rattle.rules.specs.declared.refusal.Refusal.{Refusal}
 use Rattle.rules.specs.Refusal.{refusedAs}
-use Rattle.rules.specs.Refusing.{RefusedBy, AllMet}
+use Rattle.rules.specs.Refusing.{DecidedBy}
 use Rattle.tables.specs.Meaning.{Satisfies}
 use Rattle.marking.specs.declared.verdict.Marking.{Marking}
 use Rattle.marking.specs.Verdicts.{markingReturned, isMarked, isMarkingShown}
@@ -23,8 +22,7 @@ pub record TablesMarked (n set : ℕ) (sheet script workspace values : List ℤ)
   pub lent : Lent (workspaceSize n) (isMarked r) workspace workspace'
   pub written : Lent n (isMarkingShown r) values values'
   -- refused by the first need that is not met, as it is returned, and a verdict exactly where all are
-  pub refused : (f : Refusal) → (markingReturned r ≡ refusedAs f) ↔ RefusedBy (markNeeds n set sheet script (length workspace) (length values)) f
-  pub accepted : (isMarked r ≡ true) ↔ AllMet (markNeeds n set sheet script (length workspace) (length values))
+  pub decided : DecidedBy (markNeeds n set sheet script (length workspace) (length values)) (λ f. markingReturned r ≡ refusedAs f) (isMarked r ≡ true)
   -- demand 3, with the rule and the assignment
   pub means : isMarked r ≡ true
       → VerdictMeans n set (Satisfies n sheet) (Satisfies n script) sheet script (markingReturned r) values'

@@ -117,7 +117,7 @@ module _ (sheet script : List ℕ) (lent : Lengths) where
   refused-reason (accepted c u) e (accepted i w) h p f d =
       let m = marked-refused (pairChecks c i lent) (c .count) _ p f d in
       let t = pair-tied c i (accepted-reads Sheet e .spelled .fine) (accepted-reads Script h .spelled .fine) lent in
-      rw (m .0) (fails-same c i u w e h f .1 (t .refuses f .0 (m .1)))
+      rw (m .0) (fails-same c i u w e h f .1 (t .refused f .0 (m .1)))
 
   reason-refused : (j : Judged Contents) → checkText Sheet sheet ≡ j → (k : Judged Contents) → checkText Script script ≡ k
       → (p : Subject) (f : Refusal) → RefusedPair sheet script lent p f → pairReply j k lent ≡ Refused p f
@@ -132,7 +132,7 @@ module _ (sheet script : List ℕ) (lent : Lengths) where
   reason-refused (accepted c u) e (accepted i w) h OfScript f x = accepted-fails Script script i w f h (x .1)
   reason-refused (accepted c u) e (accepted i w) h Both f x =
       let t = pair-tied c i (accepted-reads Sheet e .spelled .fine) (accepted-reads Script h .spelled .fine) lent in
-      rw (t .refuses f .1 (fails-same c i u w e h f .0 x))
+      rw (t .refused f .1 (fails-same c i u w e h f .0 x))
 
   accepted-met : (j : Judged Contents) → checkText Sheet sheet ≡ j → (k : Judged Contents) → checkText Script script ≡ k
       → (isTextMarked (pairReply j k lent) ≡ true) ↔ AcceptedPair sheet script lent
@@ -143,7 +143,7 @@ module _ (sheet script : List ℕ) (lent : Lengths) where
       let t = pair-tied c i (accepted-reads Sheet e .spelled .fine) (accepted-reads Script h .spelled .fine) lent in
       let d = marked-done (pairChecks c i lent) (c .count) _ in
       let s = met-same c i u w e h in
-      (λ x. s .1 (t .passes .0 (d .0 x)), λ x. d .1 (t .passes .1 (s .0 x)))
+      (λ x. s .1 (t .accepted .0 (d .0 x)), λ x. d .1 (t .accepted .1 (s .0 x)))
 
   -- the n beside a verdict
   counts-met : (j : Judged Contents) → checkText Sheet sheet ≡ j → (k : Judged Contents) → checkText Script script ≡ k
@@ -153,7 +153,7 @@ module _ (sheet script : List ℕ) (lent : Lengths) where
   counts-met (accepted c u) e (refused g) h x = refused-reads Script script g h (x .of-script) (x .script-reads)
   counts-met (accepted c u) e (accepted i w) h x =
       let t = pair-tied c i (accepted-reads Sheet e .spelled .fine) (accepted-reads Script h .spelled .fine) lent in
-      rw (t .passes .1 (met-same c i u w e h .0 x), reads-same Sheet sheet (x .of-sheet) c (x .sheet-reads) (accepted-reads Sheet e)) refl
+      rw (t .accepted .1 (met-same c i u w e h .0 x), reads-same Sheet sheet (x .of-sheet) c (x .sheet-reads) (accepted-reads Sheet e)) refl
 
   -- ---- what the reply tells
 

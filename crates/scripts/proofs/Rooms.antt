@@ -135,7 +135,7 @@ module _ (n : ℕ) (lent : Lengths) where
     first-tells e =
         let t = room-tied ((sameHeaders n set script-n script-set ≡ true) or Mismatch then passed) (check (sameHeaders n set script-n script-set) Mismatch Done)
         (tied-more _ _ _ _ _ (λ x. x, λ x. x) (λ x. tied-done)) in
-        go (t .passes .0 e)
+        go (t .accepted .0 e)
       where
         go : (blockStart n ≤ lent .sheet) × ((blockStart n ≤ lent .script) × ((workspaceSize n ≤ lent .workspace)
             × ((n ≤ lent .values) × ((sameHeaders n set script-n script-set ≡ true) × Unit {0}))))

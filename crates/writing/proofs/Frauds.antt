@@ -141,7 +141,7 @@ pub short-told : (out : List ℕ) (r : Writing) (out' : List ℕ) → length out
 unfolding writing spelling
 short-told out r out' h w =
     let sized : TableSized 3 18 = record { some = omega arith; most = omega arith; room = omega arith } in
-    w .refused (TooShort 52) .1 (inr (sized, inr (refl, inl (λ l. omega arith, refl))))
+    w .decided .refused (TooShort 52) .1 (inr (sized, inr (refl, inl (λ l. omega arith, refl))))
 
 -- a refusal that has already changed the output, whatever the table
 pub refusal-changed : (n set : ℕ) (t : List ℤ) (out : List ℕ) (f : Refusal) (out' : List ℕ) → (out' ≡ out → ⊥)

@@ -15,7 +15,7 @@ use Rattle.numerals.proofs.Splices.{splice-start}
 use Rattle.rules.specs.declared.refusal.Refusal.{Refusal}
 use Rattle.rules.specs.declared.refusal.Refusal.the-variants.{Size, OutOfLimit, TooShort}
 use Rattle.rules.specs.Refusal.{refusedAs}
-use Rattle.rules.specs.Refusing.{RefusedBy, AllMet}
+use Rattle.rules.specs.Refusing.{DecidedBy}
 use Rattle.rules.specs.Hidden.{setWithin}
 use Rattle.rules.specs.Limits.{maxText}
 use Rattle.rules.proofs.Refusals.{refusal-number}
@@ -26,7 +26,7 @@ use Rattle.tables.specs.Tables.{serves}
 use Rattle.tables.specs.Meaning.{TableSized, KeyLike}
 use Rattle.tables.specs.Replies.{isDone, check}
 use Rattle.tables.proofs.Sizes.{serves-sized}
-use Rattle.tables.proofs.Refusing.{Tied, tied-done, tied-more, tied-returned, tied-number, number-done}
+use Rattle.tables.proofs.Refusing.{Tied, tied-done, tied-more, tied-decided, decided-as, number-done}
 use Rattle.writing.specs.declared.write.Writing.{Writing}
 use Rattle.writing.specs.declared.write.Writing.the-variants.{Text, Refused}
 use Rattle.writing.specs.Writing.{writtenText, writeChecks, textOr, writeReply, written, writingReturned, writingNumber, writingValue}
@@ -77,18 +77,13 @@ checks-tied n set t room =
     tied-more _ _ _ _ _ (leb-true (length (writtenText n set t)) room, le-leb (length (writtenText n set t)) room) (λ enough. tied-done)))
 
 -- and so does the reply
-pub reply-refused : (n set : ℕ) (t : List ℤ) (room : ℕ) (f : Refusal)
-    → (writingReturned (writeReply n set t room) ≡ refusedAs f) ↔ RefusedBy (writeNeeds n set t room) f
+pub reply-decided : (n set : ℕ) (t : List ℤ) (room : ℕ)
+    → DecidedBy (writeNeeds n set t room) (λ f. writingReturned (writeReply n set t room) ≡ refusedAs f) (writingNumber (writeReply n set t room) ≡ 0)
 unfolding writeReply
-reply-refused n set t room f =
-    let text = text-returned (writeChecks n set t room) (length (writtenText n set t)) f in
-    let tied = tied-returned _ _ _ refl (checks-tied n set t room) f in
-    (λ e. tied .0 (text .0 e), λ z. text .1 (tied .1 z))
-
-pub reply-accepted : (n set : ℕ) (t : List ℤ) (room : ℕ) → (writingNumber (writeReply n set t room) ≡ 0) ↔ AllMet (writeNeeds n set t room)
-unfolding writeReply
-reply-accepted n set t room =
-    rw (text-number (writeChecks n set t room) (length (writtenText n set t))) (tied-number _ _ _ refl (checks-tied n set t room))
+reply-decided n set t room =
+    let checks = writeChecks n set t room in
+    let m = length (writtenText n set t) in
+    decided-as (tied-decided _ _ _ refl (checks-tied n set t room)) (text-returned checks m) (rw (text-number checks m) (λ x. x, λ x. x))
 
 -- ---- a reply that is no refusal
 
@@ -154,18 +149,17 @@ written-promised : (n set : ℕ) (t : List ℤ) (out : List ℕ) (r : Writing) (
 written-promised n set t out r out' e f words kept = record {
   reply = e;
   bytes = f;
-  refused = λ f. rw e (reply-refused n set t (length out) f);
-  accepted = accepted;
+  decided = decided;
   kept = kept;
   made = λ z.
-      let met = accepted .0 z in
+      let met = decided .accepted .0 z in
       let text = number-text n set t (length out) (rw e at z) in
       let front : take (writingValue r) out' ≡ writtenText n set t = rw (f, e, text) (text-tells n set t out _ (sym text) .1) in
       rw (front, e, text) (text-made n set t (met .0) (met .1 .0) (words z));
 }
   where
-    accepted : (writingNumber r ≡ 0) ↔ AllMet (writeNeeds n set t (length out))
-    accepted = rw e (reply-accepted n set t (length out))
+    decided : DecidedBy (writeNeeds n set t (length out)) (λ f. writingReturned r ≡ refusedAs f) (writingNumber r ≡ 0)
+    decided = rw e (reply-decided n set t (length out))
 
 -- a refusal leaves the output as it was
 pub refused-kept : (n set : ℕ) (t : List ℤ) (out : List ℕ) (f : Refusal) → Refused f ≡ writeReply n set t (length out) → out ≡ written n set t out

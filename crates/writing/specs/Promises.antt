@@ -11,10 +11,9 @@ use Rattle.integers.specs.Bound.{Within}
 use Rattle.words.specs.Change.{wordAt}
 use Rattle.places.specs.Numbering.{blockStart}
 use Rattle.rules.specs.declared.paper.Paper.the-variants.{Sheet}
-use Rattle.rules.specs.declared.refusal.Refusal.{Refusal}
 use Rattle.rules.specs.declared.refusal.Refusal.the-variants.{Size, OutOfLimit, TooShort}
 use Rattle.rules.specs.Refusal.{refusedAs}
-use Rattle.rules.specs.Refusing.{Needs, passed, _or_then_, RefusedBy, AllMet}
+use Rattle.rules.specs.Refusing.{Needs, passed, _or_then_, DecidedBy}
 use Rattle.rules.specs.Hidden.{setWithin}
 use Rattle.rules.specs.Limits.{boundLimit, maxRules, maxText}
 use Rattle.rules.specs.Meaning.{Assignment}
@@ -98,7 +97,6 @@ pub record TextMade (n set : ℕ) (table : List ℤ) (r : Writing) (s : List ℕ
 pub record TextWritten (n set : ℕ) (table : List ℤ) (out : List ℕ) (r : Writing) (out' : List ℕ) : Type 0 where
   pub reply : r ≡ writeReply n set table (length out)
   pub bytes : out' ≡ written n set table out
-  pub refused : (f : Refusal) → (writingReturned r ≡ refusedAs f) ↔ RefusedBy (writeNeeds n set table (length out)) f
-  pub accepted : (writingNumber r ≡ 0) ↔ AllMet (writeNeeds n set table (length out))
+  pub decided : DecidedBy (writeNeeds n set table (length out)) (λ f. writingReturned r ≡ refusedAs f) (writingNumber r ≡ 0)
   pub kept : (writingNumber r ≡ 0 → ⊥) → out' ≡ out
   pub made : writingNumber r ≡ 0 → TextMade n set table r (take (writingValue r) out')

@@ -1,7 +1,7 @@
 -- The exported functions' contracts, from those of the calls. Assumes nothing.
 use mathlib.Core.Path.{_≡_, refl, sym, ap, _∙_}
 use mathlib.Core.Bool.{Bool, true, false}
-use mathlib.Core.Logic.{_↔_}
+use mathlib.Core.Logic.{_↔_, Iff·rfl, Iff·trans}
 use mathlib.Core.List.{List, [], _∷_}
 use Prim.Native.Nat.{ℕ, zero, suc, _<_, _≤_}
 use native.Mathlib.Omega.{arith}
@@ -19,8 +19,9 @@ use Rattle.rules.specs.declared.paper.Paper.the-variants.{Script as OfScript}
 use Rattle.rules.specs.Refusal.{refusalNumber, refusalValue, Returned, refusedAs}
 use Rattle.rules.proofs.Refusals.{same-refusal-value, same-refusal, refusal-number, refusal-below}
 use Rattle.rules.specs.RuleWords.{ruleValues, ruleOfWords}
-use Rattle.tables.proofs.Tests.{clash}
 use Rattle.tables.specs.Replies.{replyReturned, replyNumber, replyValue}
+use Rattle.tables.proofs.Tests.{clash}
+use Rattle.tables.proofs.Refusing.{decided-as}
 use Rattle.marking.specs.declared.verdict.Verdict.{Verdict}
 use Rattle.marking.specs.declared.verdict.Verdict.the-variants.{Equal, Loose, Tight}
 use Rattle.marking.specs.Verdicts.{verdictNumber, carriedWords}
@@ -47,28 +48,24 @@ use Rattle.writing.specs.declared.write.Writing.the-variants.{Text}
 use Rattle.writing.specs.declared.write.Writing.the-variants.{Refused as NotWritten}
 use Rattle.writing.specs.Writing.{writingReturned, writingNumber, writingValue}
 use Rattle.writing.specs.Promises.{TextWritten}
-use Rattle.acornsled.specs.Promises.{KeyAnswer, AssignmentAnswer, ReadAnswer, WriteAnswer, RefusedWith, MarkAnswer, countRead, setRead, hostReply, countMarked, ruleMarked, Told, MarkTextsAnswer}
+use Rattle.acornsled.specs.Promises.{TellsRefusal, KeyAnswer, AssignmentAnswer, ReadAnswer, WriteAnswer, RefusedWith, MarkAnswer, countRead, setRead, hostReply, countMarked, ruleMarked, Told, MarkTextsAnswer}
 
 -- ---- a reply by its number and value is a reply as it is returned
 
 abbrev number : Returned → ℕ
 number x = x .number
 
-reply-told-as : (x : Reply) (f : Refusal) → ((replyNumber x ≡ refusalNumber f) × (replyValue x ≡ refusalValue f)) ↔ (replyReturned x ≡ refusedAs f)
+reply-told-as : (x : Reply) (f : Refusal) → TellsRefusal (replyNumber x) (replyValue x) f ↔ (replyReturned x ≡ refusedAs f)
 reply-told-as Done f = (λ e. absurd (refusal-number f (sym (e .0))), λ e. absurd (refusal-number f (sym (ap number e))))
 reply-told-as (NotDone g) f = (λ e. ap refusedAs (same-refusal-value g f (e .0) (e .1)), λ e. let d = same-refusal g f e in (rw d, rw d))
 
-reading-told : (x : Reading) (f : Refusal) → ((readingNumber x ≡ refusalNumber f) × (readingValue x ≡ refusalValue f)) ↔ (readingReturned x ≡ refusedAs f)
+reading-told : (x : Reading) (f : Refusal) → TellsRefusal (readingNumber x) (readingValue x) f ↔ (readingReturned x ≡ refusedAs f)
 reading-told (Accepted n set) f = (λ e. absurd (refusal-number f (sym (e .0))), λ e. absurd (refusal-number f (sym (ap number e))))
 reading-told (Refused g) f = (λ e. ap refusedAs (same-refusal-value g f (e .0) (e .1)), λ e. let d = same-refusal g f e in (rw d, rw d))
 
-writing-told : (x : Writing) (f : Refusal) → ((writingNumber x ≡ refusalNumber f) × (writingValue x ≡ refusalValue f)) ↔ (writingReturned x ≡ refusedAs f)
+writing-told : (x : Writing) (f : Refusal) → TellsRefusal (writingNumber x) (writingValue x) f ↔ (writingReturned x ≡ refusedAs f)
 writing-told (Text m) f = (λ e. absurd (refusal-number f (sym (e .0))), λ e. absurd (refusal-number f (sym (ap number e))))
 writing-told (NotWritten g) f = (λ e. ap refusedAs (same-refusal-value g f (e .0) (e .1)), λ e. let d = same-refusal g f e in (rw d, rw d))
-
--- one equivalence after another
-through : {P Q R : Type 0} → P ↔ Q → Q ↔ R → P ↔ R
-through a b = (λ p. b .0 (a .0 p), λ r. a .1 (b .1 r))
 
 -- ---- the calls
 
@@ -77,8 +74,7 @@ pub key-answer : (n set : ℕ) (t w t' w' : List ℤ) (reply : Reply) (r v : ℕ
 key-answer n set t w t' w' reply r v k e d = record {
   number = e ∙ ap replyNumber (k .reply);
   value = d ∙ ap replyValue (k .reply);
-  refused = λ f. rw (e, d) (through (reply-told-as reply f) (k .refused f));
-  accepted = rw e (k .accepted);
+  decided = rw (e, d) (decided-as (k .decided) (reply-told-as reply) Iff·rfl);
   call = rw (k .reply) at k;
 }
 
@@ -87,8 +83,7 @@ pub assignment-answer : (n : ℕ) (t w u w' u' : List ℤ) (reply : Reply) (r v 
 assignment-answer n t w u w' u' reply r v k e d = record {
   number = e ∙ ap replyNumber (k .reply);
   value = d ∙ ap replyValue (k .reply);
-  refused = λ f. rw (e, d) (through (reply-told-as reply f) (k .refused f));
-  accepted = rw e (k .accepted);
+  decided = rw (e, d) (decided-as (k .decided) (reply-told-as reply) Iff·rfl);
   call = rw (k .reply) at k;
 }
 
@@ -106,7 +101,7 @@ read-answer s t t' n set n' set' reply r v k e d c h = record {
   value = d ∙ ap readingValue (k .reply);
   count = c ∙ ap (countRead n) (k .reply);
   hidden = h ∙ ap (setRead set) (k .reply);
-  refused = λ f. rw (e, d) (through (reading-told reply f) (k .refused f));
+  refused = λ f. rw (e, d) (Iff·trans (reading-told reply f) (k .refused f));
   accepted = rw (e, c, h) (read-zero s (length t) n set reply (k .accepted));
   call = rw (k .reply) at k;
 }
@@ -116,8 +111,7 @@ pub write-answer : (n set : ℕ) (t : List ℤ) (out out' : List ℕ) (reply : W
 write-answer n set t out out' reply r v k e d = record {
   number = e ∙ ap writingNumber (k .reply);
   value = d ∙ ap writingValue (k .reply);
-  refused = λ f. rw (e, d) (through (writing-told reply f) (k .refused f));
-  accepted = rw e (k .accepted);
+  decided = rw (e, d) (decided-as (k .decided) (writing-told reply) Iff·rfl);
   call = rw (k .reply) at k;
 }
 
@@ -164,6 +158,7 @@ mark-answer sheet script values values' reply r m h e =
       accepted = rw e (reply-accepted reply j);
       never = rw e (j .never, λ six. let s = m .short .0 six in omega (arith, h, s .1, m .most));
       values = values';
+      call = rw (j .reply) at j;
       judged = λ t. rw (e, ← j .reply) (j .judged t);
     }
 

@@ -10,7 +10,7 @@ use Rattle.rules.specs.declared.paper.Paper.the-variants.{Sheet, Script}
 use Rattle.rules.specs.declared.refusal.Refusal.{Refusal}
 use Rattle.rules.specs.Limits.{maxQuantities}
 use Rattle.rules.specs.Refusal.{refusalNumber, refusalValue}
-use Rattle.rules.specs.Refusing.{RefusedBy, AllMet}
+use Rattle.rules.specs.Refusing.{DecidedBy}
 use Rattle.rules.specs.RuleWords.{ruleValues, ruleOfWords}
 use Rattle.tables.specs.Replies.{replyNumber, replyValue}
 use Rattle.keys.specs.Keys.{keyReply, assignmentReply}
@@ -33,7 +33,11 @@ use Rattle.scripts.specs.declared.reply.TextMarking.the-variants.{Refused as No
 use Rattle.scripts.specs.Replies.{textsReturned, textNumber, textValue, textPaper, paperNumber, isTextShown}
 use Rattle.scripts.specs.Meaning.{AcceptedPair, RefusedPair, ownLengths}
 use Rattle.scripts.specs.Marking.{textsReply, countIn}
-use Rattle.scripts.specs.Promises.{PairJudged}
+use Rattle.scripts.specs.Promises.{PairJudged, TextsJudged}
+
+-- a host is told of a refusal: by its number r, and the line or length beside it as one value v, 0 where there is none
+abbrev pub TellsRefusal : ℕ → ℕ → Refusal → Type 0
+TellsRefusal r v f = (r ≡ refusalNumber f) × (v ≡ refusalValue f)
 
 -- n or the hidden set after reading: that of the text where it is accepted, else as it was
 abbrev pub countRead : ℕ → Reading → ℕ
@@ -51,7 +55,7 @@ pub record ReadAnswer (text : List ℕ) (table : List ℤ) (n set r v n' set' : 
   pub count : n' ≡ countRead n (readReply text (length table))
   pub hidden : set' ≡ setRead set (readReply text (length table))
   -- a refusal's number and value exactly for its reason; 0 exactly where the text is accepted, with this n and hidden set
-  pub refused : (f : Refusal) → ((r ≡ refusalNumber f) × (v ≡ refusalValue f)) ↔ RefusedFor text (length table) f
+  pub refused : (f : Refusal) → TellsRefusal r v f ↔ RefusedFor text (length table) f
   pub accepted : (r ≡ 0) ↔ AcceptedAs text (length table) n' set'
   pub call : ReadInto text table (readReply text (length table)) table'
 
@@ -59,24 +63,21 @@ pub record ReadAnswer (text : List ℕ) (table : List ℤ) (n set r v n' set' : 
 pub record WriteAnswer (n set : ℕ) (table : List ℤ) (out : List ℕ) (r v : ℕ) (out' : List ℕ) : Type 0 where
   pub number : r ≡ writingNumber (writeReply n set table (length out))
   pub value : v ≡ writingValue (writeReply n set table (length out))
-  pub refused : (f : Refusal) → ((r ≡ refusalNumber f) × (v ≡ refusalValue f)) ↔ RefusedBy (writeNeeds n set table (length out)) f
-  pub accepted : (r ≡ 0) ↔ AllMet (writeNeeds n set table (length out))
+  pub decided : DecidedBy (writeNeeds n set table (length out)) (TellsRefusal r v) (r ≡ 0)
   pub call : TextWritten n set table out (writeReply n set table (length out)) out'
 
 -- the key call's number r and value v
 pub record KeyAnswer (n set : ℕ) (table workspace : List ℤ) (r v : ℕ) (table' workspace' : List ℤ) : Type 0 where
   pub number : r ≡ replyNumber (keyReply n set table (length workspace))
   pub value : v ≡ replyValue (keyReply n set table (length workspace))
-  pub refused : (f : Refusal) → ((r ≡ refusalNumber f) × (v ≡ refusalValue f)) ↔ RefusedBy (keyNeeds n set table (length workspace)) f
-  pub accepted : (r ≡ 0) ↔ AllMet (keyNeeds n set table (length workspace))
+  pub decided : DecidedBy (keyNeeds n set table (length workspace)) (TellsRefusal r v) (r ≡ 0)
   pub call : Keyed n set table workspace (keyReply n set table (length workspace)) table' workspace'
 
 -- the assignment call's
 pub record AssignmentAnswer (n : ℕ) (table workspace values : List ℤ) (r v : ℕ) (workspace' values' : List ℤ) : Type 0 where
   pub number : r ≡ replyNumber (assignmentReply n table (length workspace) (length values))
   pub value : v ≡ replyValue (assignmentReply n table (length workspace) (length values))
-  pub refused : (f : Refusal) → ((r ≡ refusalNumber f) × (v ≡ refusalValue f)) ↔ RefusedBy (assignmentNeeds n table (length workspace) (length values)) f
-  pub accepted : (r ≡ 0) ↔ AllMet (assignmentNeeds n table (length workspace) (length values))
+  pub decided : DecidedBy (assignmentNeeds n table (length workspace) (length values)) (TellsRefusal r v) (r ≡ 0)
   pub call : Assigned n table workspace values (assignmentReply n table (length workspace) (length values)) workspace' values'
 
 -- ---- marking two texts
@@ -100,8 +101,9 @@ pub record MarkAnswer (sheet script : List ℕ) (r : ℕ) : Type 0 where
   pub accepted : (100 ≤ r) ↔ AcceptedPair sheet script (ownLengths maxQuantities)
   -- there is room for every sheet, so 6 does not come, and 5 is no reply of marking
   pub never : ((r ≡ 5) → ⊥) × ((r ≡ 6) → ⊥)
-  -- the number means what demand 3 says; the rule of the verdict and an assignment that shows it are not told
+  -- the number means what demand 3 says; what else the reply has, its paper and line, or the rule of the verdict and an assignment that shows it, is not told
   pub values : List ℤ
+  pub call : TextsJudged sheet script (ownLengths maxQuantities) (hostReply sheet script maxQuantities) values
   pub judged : (t : AcceptedPair sheet script (ownLengths maxQuantities)) → PairJudged t (record { number = r; values = textsReturned (hostReply sheet script maxQuantities) .values }) values
 
 -- n after marking: with a verdict the sheet's, else as it was

@@ -1,5 +1,5 @@
--- What the functions of the step ask, and what its loops gather and put in: for those who read the code. What a caller has to believe is in Promises. Sums fit, so
--- everything asked here is of words that add; a row has the bounds of one literal with each other, by literal.
+-- What the functions of the step ask, and what its loops gather and put in: for those who read the code. What a caller has to believe is in Promises, but
+-- for `pair_blocks`, by which the tightest table is made too. Sums fit, so sums are asked of words that add; a row has the bounds of one literal with each other, by literal.
 use mathlib.Core.Bool.{Bool, true, not, _||_}
 use mathlib.Core.Path.{_≡_}
 use mathlib.Core.List.{List}

@@ -1,5 +1,5 @@
 -- What the crate's contracts cite. Hiding is document 01's step, which computes, and ByRules the same in the document's own words; Choosing is how a
--- value is chosen, and Feasible what may be; Magnitude is what makes sums fit; Promises are what callers have to believe, and Inner what the functions ask and
+-- value is chosen, and Feasible what may be; Magnitude is what makes sums fit, and the range of an assignment; Promises are what callers have to believe, and Inner what the functions ask and
 -- loops put in, for those who read the code.
 pub mod Hiding
 pub mod ByRules

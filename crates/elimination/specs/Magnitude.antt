@@ -1,4 +1,4 @@
--- Magnitudes of bounds, by which sums are shown to fit, and what they are asked of: the literals past the first quantities, and a quantity that no rule
+-- Magnitudes: the range of an assignment's values (`ValuesWithin`), and of bounds, by which sums are shown to fit, with what they are asked of: the literals past the first quantities, and a quantity that no rule
 -- names, whose step makes no sum.
 use mathlib.Core.Bool.{true, false}
 use mathlib.Core.List.{List}

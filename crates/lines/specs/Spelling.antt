@@ -45,7 +45,7 @@ pub data Line : Type 0 where
 unfoldable pub termText : Term → List ℕ
 termText x = cond (x .negative) minus plus ∷ decimal (x .quantity)
 
--- a rule's value
+-- a rule's value. That after `rule=` each byte of its line is a digit, a sign, a colon or the line end is a law of this spelling (`rule-bytes`)
 unfoldable pub ruleText : Written → List ℕ
 ruleText (one x c) = termText x ++ (colon ∷ signedDecimal c)
 ruleText (two x y c) = termText x ++ (termText y ++ (colon ∷ signedDecimal c))

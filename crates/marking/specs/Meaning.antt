@@ -61,20 +61,20 @@ pub record ByVisible (n : ℕ) (hidden : ℕ → Bool) (sheet script : Solutions
 -- ---- the rule that is carried
 
 -- the rule of place k is the first by place of a table's rules that some assignment of a paper breaks
-pub record FirstAt (n : ℕ) (rules : List ℤ) (paper : Solutions) (k : ℕ) : Type 0 where
+pub record FirstAt (n : ℕ) (rules : List ℤ) (solutions : Solutions) (k : ℕ) : Type 0 where
   pub holds : HoldsRule n rules k
-  pub breaks : Breaks paper (ruleIn rules k)
-  pub first : (i : ℕ) → i < k → HoldsRule n rules i → Breaks paper (ruleIn rules i) → ⊥
+  pub breaks : Breaks solutions (ruleIn rules k)
+  pub first : (i : ℕ) → i < k → HoldsRule n rules i → Breaks solutions (ruleIn rules i) → ⊥
 
 -- a rule is that first one
-pub record FirstBroken (n : ℕ) (rules : List ℤ) (paper : Solutions) (r : Rule) : Type 0 where
+pub record FirstBroken (n : ℕ) (rules : List ℤ) (solutions : Solutions) (r : Rule) : Type 0 where
   pub place : ℕ
   pub is : r ≡ ruleIn rules place
-  pub at : FirstAt n rules paper place
+  pub at : FirstAt n rules solutions place
 
 -- none of the table's rules is broken
 abbrev pub NoneBroken : ℕ → List ℤ → Solutions → Type 0
-NoneBroken n rules paper = (k : ℕ) → HoldsRule n rules k → Breaks paper (ruleIn rules k) → ⊥
+NoneBroken n rules solutions = (k : ℕ) → HoldsRule n rules k → Breaks solutions (ruleIn rules k) → ⊥
 
 -- a loose verdict carries the first key rule by place that some assignment allowed by the script breaks, and none where the sheet itself allows nothing
 abbrev pub LooseRule : (ℕ → Bool) → ℕ → List ℤ → Solutions → Rule → Type 0

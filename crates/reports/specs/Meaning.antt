@@ -1,4 +1,5 @@
--- What is meant by what the programs print: the text of a sheet's key, that no integers satisfy a sheet, the text of a verdict. No step of a program is in it.
+-- What is meant by what the programs print: the text of a sheet's key, that no integers satisfy a sheet, the text of a verdict. No step of a program is in it but
+-- the key's, which document 01 fixes.
 use mathlib.Core.Path.{_≡_}
 use mathlib.Core.Bool.{true}
 use mathlib.Core.Logic.{_↔_}

@@ -12,7 +12,7 @@ abbrev pub maxBound : ℕ
 maxBound = 1000000000
 
 -- a bound is at most this in magnitude on a paper, sheet or script, over n quantities with this hidden set in its header. Document 01 has one limit for all ("Scripts have
--- the same limits"); document 02 lets a script's depend on how many are hidden and a sheet's on n, and so moves this definition alone
+-- the same limits"); document 02 lets a script's depend on how many are hidden and a sheet's on n, so it is a function of these
 unfoldable pub boundLimit : Paper → ℕ → ℕ → ℕ
 boundLimit paper n set = maxBound
 

@@ -25,7 +25,7 @@ use Rattle.scripts.specs.Meaning.{lengthsOf, ownLengths, setIn, tableIn,
 use Rattle.scripts.specs.Marking.{textsReply, countIn}
 
 -- what is promised of two texts that are accepted: the hidden set and the tables are what the texts write, and a verdict that is returned so, with these
--- words, means what demand 3 says of the rules as written
+-- words, means what demand 3 says of the rules as written (with equal only its number counts)
 pub record PairJudged {sheet script : List ℕ} {lent : Lengths} (t : AcceptedPair sheet script lent) (returned : Returned) (values : List ℤ) : Type 0 where
   -- the set has the quantities that are listed
   pub members : (q : ℕ) → hiddenIn (setIn (t .of-sheet)) q ≡ isListed q (t .of-sheet .hiddens)

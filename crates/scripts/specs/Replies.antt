@@ -9,7 +9,7 @@ use Rattle.scripts.specs.declared.reply.Subject.the-variants.{Sheet, Scr
 use Rattle.scripts.specs.declared.reply.TextMarking.{TextMarking}
 use Rattle.scripts.specs.declared.reply.TextMarking.the-variants.{Marked, Refused}
 
--- as it is returned
+-- as it is returned; the paper beside a refusal is `textSubjects`, the sheet's n beside a verdict `textCounts`
 abbrev pub textsReturned : TextMarking → Returned
 textsReturned (Marked n v) = verdictReturned v
 textsReturned (Refused p f) = refusedAs f

@@ -1,7 +1,7 @@
 -- Checks that compute, tied to what they need: one check's law makes 'refused exactly when' of any call. Assumes nothing.
 use mathlib.Core.Path.{_≡_, refl, sym, _∙_, ap}
 use mathlib.Core.Bool.{Bool, true, false}
-use mathlib.Core.Logic.{_↔_, _⊎_, inl, inr, ⊎-elim}
+use mathlib.Core.Logic.{_↔_, Iff·trans, _⊎_, inl, inr, ⊎-elim}
 use Rattle.rules.specs.declared.refusal.Refusal.{Refusal}
 use Rattle.rules.specs.Refusal.{Returned, refusedAs}
 use Rattle.rules.specs.Refusing.{Needs, passed, _or_then_, DecidedBy}
@@ -72,8 +72,8 @@ number-done r = (go r, λ e. rw e)
 -- what decides a call decides it, however it is told
 pub decided-as : {needs : Needs} {P Q : Refusal → Type 0} {A B : Type 0} → DecidedBy needs P A → ((f : Refusal) → Q f ↔ P f) → B ↔ A → DecidedBy needs Q B
 decided-as d p a = record {
-  refused = λ f. (λ x. d .refused f .0 (p f .0 x), λ x. p f .1 (d .refused f .1 x));
-  accepted = (λ x. d .accepted .0 (a .0 x), λ x. a .1 (d .accepted .1 x));
+  refused = λ f. Iff·trans (p f) (d .refused f);
+  accepted = Iff·trans a (d .accepted);
 }
 
 -- a reply that is tied to its needs, by what is returned of it

@@ -111,9 +111,9 @@ abbrev pub ScriptForbids : Solutions → Assignment → Type 0
 ScriptForbids script visibles = ScriptAllows script visibles → ⊥
 
 -- some assignment of a paper breaks a rule, that is, does not meet it
-pub record Breaks (paper : Solutions) (r : Rule) : Type 0 where
+pub record Breaks (solutions : Solutions) (r : Rule) : Type 0 where
   pub assignment : Assignment
-  pub satisfies : paper assignment
+  pub satisfies : solutions assignment
   pub broken : Meets assignment r → ⊥
 
 -- the rules of a table name visible quantities alone, as those of a script have to

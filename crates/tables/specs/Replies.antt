@@ -1,4 +1,4 @@
--- The reply of a call that answers nothing beside: done, or a refusal; as it is returned, and the check that makes it.
+-- The reply of a call that has nothing beside to answer where it is done: done, or a refusal; as it is returned, and the check that makes it.
 use mathlib.Core.Bool.{Bool, true, false, cond}
 use mathlib.Core.List.{[]}
 use Prim.Native.Nat.{ℕ}

@@ -1,7 +1,7 @@
 -- The reply of writing by its tests, and what is promised from it. Assumes nothing.
 use mathlib.Core.Path.{_≡_, refl, sym, _∙_, ap}
 use mathlib.Core.Bool.{Bool, true, cond}
-use mathlib.Core.Logic.{_↔_}
+use mathlib.Core.Logic.{_↔_, Iff·rfl}
 use mathlib.Core.List.{List, _++_}
 use Prim.Native.Nat.{ℕ, _≤_, _<_}
 use lib.Dec.{leb}
@@ -83,7 +83,7 @@ unfolding writeReply
 reply-decided n set t room =
     let checks = writeChecks n set t room in
     let m = length (writtenText n set t) in
-    decided-as (tied-decided _ _ _ refl (checks-tied n set t room)) (text-returned checks m) (rw (text-number checks m) (λ x. x, λ x. x))
+    decided-as (tied-decided _ _ _ refl (checks-tied n set t room)) (text-returned checks m) (rw (text-number checks m) Iff·rfl)
 
 -- ---- a reply that is no refusal
 

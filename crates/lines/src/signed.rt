@@ -5,6 +5,7 @@ use numerals::read;
 use numerals::read::Numeral;
 ghost use mathlib.Core.Path.{_≡_};
 ghost use Prim.Native.Nat.{_≤_};
+ghost use lib.Dec.{ltb};
 ghost use lib.ListN.{drop};
 ghost use Rattle.numerals.specs.Decimal.{cap};
 ghost use Rattle.numerals.specs.Parsing.{andThen, numeralOf};
@@ -71,15 +72,23 @@ fn after_sign(s: &[u8], at: usize, minus: bool) -> Signed
     }
 }
 
-// The bound at the cursor.
-fn bound_at(s: &[u8], at: usize) -> Signed
-    ensures { λ r. ⌜ r ≡ signedAnswer (now (s .entry)) (boundAt (drop at (now (s .entry)))) ⌝ }
+// Where the number of the bound at the cursor begins: past a minus, which is there exactly when that is past the cursor.
+fn after_minus(s: &[u8], at: usize) -> usize
+    ensures { λ r. ⌜ boundAt (drop at (now (s .entry))) ≡ andThen (numeralOf (drop r (now (s .entry)))) (signedBound (ltb at r)) ⌝ }
 {
     let kind = byte::kind_of(byte::byte_at(s, at));
     let Kind::Minus = kind else {
-        return after_sign(s, at, false);
+        return at;
     };
-    after_sign(s, at + 1, true)
+    at + 1
+}
+
+// The bound at the cursor. Both signs share one reading of the number.
+fn bound_at(s: &[u8], at: usize) -> Signed
+    ensures { λ r. ⌜ r ≡ signedAnswer (now (s .entry)) (boundAt (drop at (now (s .entry)))) ⌝ }
+{
+    let from = after_minus(s, at);
+    after_sign(s, from, at < from)
 }
 
 // The bound at the cursor and the end of its line, with the cursor after that.

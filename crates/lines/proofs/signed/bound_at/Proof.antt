@@ -1,63 +1,19 @@
--- `signed::bound_at` meets its contract: a bound is the number after its minus, or the number itself. Assumes nothing.
-use mathlib.Core.Path.{_≡_, refl, sym, _∙_, ap}
-use native.Mathlib.Omega.{arith}
-use lib.ListN.{drop}
+-- `signed::bound_at` meets its contract: the number after the minus, with its sign. Assumes nothing.
+use mathlib.Core.Path.{sym, _∙_, ap}
 use denote.Ref.{now}
 use borrow.Author.Needs.{needs}
-use Rattle.numerals.specs.declared.byte.Kind.the-variants.{Minus}
-use Rattle.numerals.proofs.Keys.{kindAt, kind-else, kind-read, kind-inside, starts-kind, starts-other}
 use Rattle.lines.specs.Inner.{signedAnswer}
-use Rattle.lines.proofs.SignedNumbers.{bound-minus, bound-plain}
 use Rattle.lines.proofs.signed.bound_at.Statement.{statement}
 use Rattle.lines.proofs.signed.bound_at.Tie as tie
 
-byte-at-requires : tie.Need-byte-at-requires
-byte-at-requires c κs = search needs
-
-kind-of-requires : tie.Need-kind-of-requires
-kind-of-requires c κs = search needs
-
-enum-told : tie.Need-enum-told
-enum-told c = search needs
-
--- the kind is that of the byte at the cursor
-kind-is : (c : tie.After-kind-of) → let a = c .before .before .before .args in c .kind-of .result ≡ kindAt (drop (a .at) (now (a .s)))
-kind-is c = let a = c .before .before .before .args in kind-read (now (a .s)) (a .at) (c .before .byte-at .ensures) (c .kind-of .ensures)
+after-minus-requires : tie.Need-after-minus-requires
+after-minus-requires c κs = search needs
 
 after-sign-requires : tie.Need-after-sign-requires
 after-sign-requires c κs = search needs
 
 returns : tie.Need-returns
-returns c = let k = c .before .before in let a = k .before .before .before .args in
-    c .after-sign .ensures
-    ∙ ap (signedAnswer (now (a .s))) (sym (bound-plain (drop (a .at) (now (a .s)))
-    (starts-other Minus (drop (a .at) (now (a .s))) refl (λ e. kind-else Minus (k .kind-of .result) (c .before .match .keys2) (kind-is k ∙ e)))))
-
--- a minus is at the cursor
-minus-here : (c : tie.After-enum-told) → let a = c .before .before .before .before .before .args in kindAt (drop (a .at) (now (a .s))) ≡ Minus
-minus-here c = sym (kind-is (c .before .before)) ∙ c .enum-told .given .1
-
-add-after-sign : tie.Need-add-after-sign
-add-after-sign c = let a = c .before .before .before .before .before .args in
-    omega (arith, kind-inside Minus (now (a .s)) (a .at) refl (minus-here c))
-
-after-sign-requires-2 : tie.Need-after-sign-requires-2
-after-sign-requires-2 c κs = search needs
-
-returns-2 : tie.Need-returns-2
-returns-2 c = let m = c .before in let a = m .before .before .before .before .before .args in
-    c .after-sign2 .ensures
-    ∙ ap (signedAnswer (now (a .s))) (sym (bound-minus (now (a .s)) (a .at) (starts-kind Minus (drop (a .at) (now (a .s))) refl (minus-here m))))
+returns c = let m = c .before in c .after-sign .ensures ∙ ap (signedAnswer (now (m .before .before .args .s))) (sym (m .after-minus .ensures))
 
 pub bound-at-spec : {M : Type 1} → statement M
-bound-at-spec =
-    tie.close
-    (tie.spec
-    byte-at-requires
-    kind-of-requires
-    enum-told
-    after-sign-requires
-    returns
-    add-after-sign
-    after-sign-requires-2
-    returns-2)
+bound-at-spec = tie.close (tie.spec after-minus-requires after-sign-requires returns)

@@ -27,7 +27,7 @@ use Rattle.tables.specs.Tables.{hasRule}
 use Rattle.tables.specs.Meaning.{ruleIn}
 use Rattle.tables.proofs.Places.{placeOf, hasPlace-found, hasPlace-below, names-bound, place-names}
 use Rattle.tables.proofs.Without.{cleared-word}
-use Rattle.elimination.specs.Hiding.{pairWord, loneWord, paired, contradicts, eliminated}
+use Rattle.elimination.specs.Hiding.{every, pairWord, loneWord, paired, contradicts, eliminated}
 use Rattle.elimination.specs.ByRules.{RuleWith, IsSum, SumAt, BareSum, HiddenByRules}
 use Rattle.elimination.proofs.TermWords.{pair-first, pair-second, pair-apart, pair-at}
 use Rattle.elimination.proofs.PairedWords.{lone-elim, lone-lowered, lone-plus, lone-minus, lone-half, pair-elim, pair-lowered, pair-sum}
@@ -75,22 +75,22 @@ bare-nowhere u k q p = nowhere-at k (rw q at p)
 
 module _ (n j : ℕ) (t : List ℤ) (l : blockStart n ≤ length t) (h : j < n) where
   -- 'Sums go in by minimum': the word at a sum's place is at most its bound
-  sum-goes-in : (u : Rule) → IsSum n j t u → (k : ℕ) → findPlace u ≡ At k → wordAt (paired 0 n j t) k ≤ℤ boundOf u
+  sum-goes-in : (u : Rule) → IsSum n j t u → (k : ℕ) → findPlace u ≡ At k → wordAt (paired every n j t) k ≤ℤ boundOf u
   unfolding findPlace
-  sum-goes-in = sum-listed n j t (λ (u : Rule). (k : ℕ) → findPlace u ≡ At k → wordAt (paired 0 n j t) k ≤ℤ boundOf u) (record {
+  sum-goes-in = sum-listed n j t (λ (u : Rule). (k : ℕ) → findPlace u ≡ At k → wordAt (paired every n j t) k ≤ℤ boundOf u) (record {
     nothing = λ f g k e. absurd (nowhere-at k e);
     cancels = λ x b f g k e. absurd (nowhere-at k e);
-    of-plus = λ x b f g k e. rw (← at-same (placeOfOne x) k e) (lone-plus 0 n j t l x b (omega arith) f g);
-    of-minus = λ x b f g k e. rw (← at-same (placeOfOne x) k e, +ℤ-comm (loneWord t (2 * j)) (pairWord t (2 * j + 1) x)) (lone-minus 0 n j t l x b (omega arith) g f);
-    alike = λ x b f g k e. rw (← at-same (placeOfOne x) k e) (lone-half 0 n j t l x b (omega arith) f g);
-    lower = λ x y o b f g k e. rw (← at-same (placeOfPair x y) k (sym (found-pair x y (pos 0) o) ∙ e), ← pair-first (paired 0 n j t) x y o)
-        (pair-sum 0 n j t l x y (omega arith) b (λ q. omega arith) (omega arith) (omega arith) f g);
-    upper = λ x y o b f g k e. rw (← at-same (placeOfPair x y) k (sym (found-pair x y (pos 0) o) ∙ e), ← pair-second (paired 0 n j t) x y o)
-        (pair-sum 0 n j t l y x b (omega arith) (λ q. omega arith) (omega arith) (omega arith) f g);
+    of-plus = λ x b f g k e. rw (← at-same (placeOfOne x) k e) (lone-plus every n j t l x b refl f g);
+    of-minus = λ x b f g k e. rw (← at-same (placeOfOne x) k e, +ℤ-comm (loneWord t (2 * j)) (pairWord t (2 * j + 1) x)) (lone-minus every n j t l x b refl g f);
+    alike = λ x b f g k e. rw (← at-same (placeOfOne x) k e) (lone-half every n j t l x b refl f g);
+    lower = λ x y o b f g k e. rw (← at-same (placeOfPair x y) k (sym (found-pair x y (pos 0) o) ∙ e), ← pair-first (paired every n j t) x y o)
+        (pair-sum every n j t l x y (omega arith) b (λ q. omega arith) refl refl f g);
+    upper = λ x y o b f g k e. rw (← at-same (placeOfPair x y) k (sym (found-pair x y (pos 0) o) ∙ e), ← pair-second (paired every n j t) x y o)
+        (pair-sum every n j t l y x b (omega arith) (λ q. omega arith) refl refl f g);
   })
 
   -- and nothing else goes in: a word is the one before or the bound of a sum that goes there,
-  word-from : (k : ℕ) → k < blockStart n → (wordAt (paired 0 n j t) k ≡ wordAt t k) ⊎ SumAt n j t k (wordAt (paired 0 n j t) k)
+  word-from : (k : ℕ) → k < blockStart n → (wordAt (paired every n j t) k ≡ wordAt t k) ⊎ SumAt n j t k (wordAt (paired every n j t) k)
   word-from k b = go (isOne k) refl
     where
       From : ℕ → ℤ → Type 0
@@ -99,34 +99,34 @@ module _ (n j : ℕ) (t : List ℤ) (l : blockStart n ≤ length t) (h : j < n) 
       listed : ListedOf n j t (IsSum n j t)
       listed = listed-sum n j t l h
 
-      one : (x : ℕ) → x < 2 * n → From (placeOfOne x) (loneWord (paired 0 n j t) x)
+      one : (x : ℕ) → x < 2 * n → From (placeOfOne x) (loneWord (paired every n j t) x)
       one x b =
-          lone-elim 0 n j t l (From (placeOfOne x)) x b (inl refl)
+          lone-elim every n j t l (From (placeOfOne x)) x b (inl refl)
           (λ a f g. inr (record { sum = _; is = listed .of-plus x b f g; place = found-one x _; bound = refl }))
           (λ a f g. inr (record { sum = _; is = listed .of-minus x b g f; place = found-one x _; bound = +ℤ-comm (pairWord t (2 * j + 1) x) (loneWord t (2 * j)) }))
           (λ a f g. inr (record { sum = _; is = listed .alike x b f g; place = found-one x _; bound = refl }))
 
-      two : (x y : ℕ) → x / 2 < y / 2 → y < 2 * n → From (placeOfPair x y) (pairWord (paired 0 n j t) x y)
+      two : (x y : ℕ) → x / 2 < y / 2 → y < 2 * n → From (placeOfPair x y) (pairWord (paired every n j t) x y)
       two x y o b =
-          pair-elim 0 n j t l (From (placeOfPair x y)) x y (omega arith) b (inl (pair-first t x y o))
+          pair-elim every n j t l (From (placeOfPair x y)) x y (omega arith) b (inl (pair-first t x y o))
           (λ a c f g. inr (record { sum = _; is = listed .lower x y o b f g; place = found-pair x y _ o; bound = refl }))
           (λ a c f g. inr (record { sum = _; is = listed .upper x y o b f g; place = found-pair x y _ o; bound = refl }))
 
-      go : (c : Bool) → isOne k ≡ c → From k (wordAt (paired 0 n j t) k)
+      go : (c : Bool) → isOne k ≡ c → From k (wordAt (paired every n j t) k)
       go true e = rw (at-one k e) at (one (higherAt k) (at-below n k b))
       go false e =
-          rw (pair-at (paired 0 n j t) k e, at-pair k e) at
+          rw (pair-at (paired every n j t) k e, at-pair k e) at
           (two (lowerAt k) (higherAt k) (at-lower k e) (at-below n k b))
 
   -- and is at most the one before. So it is the least of that one and the bounds of all sums that go there
-  word-lowered : (k : ℕ) → k < blockStart n → wordAt (paired 0 n j t) k ≤ℤ wordAt t k
+  word-lowered : (k : ℕ) → k < blockStart n → wordAt (paired every n j t) k ≤ℤ wordAt t k
   word-lowered k b = go (isOne k) refl
     where
-      go : (c : Bool) → isOne k ≡ c → wordAt (paired 0 n j t) k ≤ℤ wordAt t k
-      go true e = rw (at-one k e) at (lone-lowered 0 n j t l (higherAt k) (at-below n k b))
+      go : (c : Bool) → isOne k ≡ c → wordAt (paired every n j t) k ≤ℤ wordAt t k
+      go true e = rw (at-one k e) at (lone-lowered every n j t l (higherAt k) (at-below n k b))
       go false e =
           let g = at-below n k b in
-          rw (pair-at (paired 0 n j t) k e, pair-at t k e) at (pair-lowered 0 n j t l (lowerAt k) (higherAt k) (omega (arith, at-lower k e)) g)
+          rw (pair-at (paired every n j t) k e, pair-at t k e) at (pair-lowered every n j t l (lowerAt k) (higherAt k) (omega (arith, at-lower k e)) g)
 
   -- ---- what a sum is
 
@@ -161,37 +161,37 @@ module _ (n j : ℕ) (t : List ℤ) (l : blockStart n ≤ length t) (h : j < n) 
   -- ---- contradictions
 
   -- 'A bare 0 ≤ c with c below 0 is a contradiction',
-  bare-contradicts : (c : ℤ) → IsSum n j t (Nothing c) → c <ℤ pos 0 → contradicts 0 n j t ≡ true
-  bare-contradicts c i b = go (contradicts 0 n j t) refl
+  bare-contradicts : (c : ℤ) → IsSum n j t (Nothing c) → c <ℤ pos 0 → contradicts every n j t ≡ true
+  bare-contradicts c i b = go (contradicts every n j t) refl
     where
-      go : (d : Bool) → contradicts 0 n j t ≡ d → contradicts 0 n j t ≡ true
+      go : (d : Bool) → contradicts every n j t ≡ d → contradicts every n j t ≡ true
       go true e = e
       go false e =
           let k : pos 0 ≤ℤ c = sum-listed n j t NotBelow (clear-listed n j t e) (Nothing c) i in
           let z : ⊥ = omega linear in absurd z
 
   -- and nothing else is one
-  contradicts-bare : contradicts 0 n j t ≡ true → BareSum n j t
+  contradicts-bare : contradicts every n j t ≡ true → BareSum n j t
   contradicts-bare =
       bare-found n j t (IsSum n j t) (BareSum n j t) (listed-sum n j t l h) (λ c i b. record { bound = c; is = i; below = b })
 
   -- ---- the whole step
 
   -- a hidden table's words: those of the paired one where the place does not name the quantity, no rule where it does
-  hidden-word : (k : ℕ) → k < blockStart n → names (suc j) (ruleIn t k) ≡ false → wordAt (eliminated n j t) k ≡ wordAt (paired 0 n j t) k
+  hidden-word : (k : ℕ) → k < blockStart n → names (suc j) (ruleIn t k) ≡ false → wordAt (eliminated n j t) k ≡ wordAt (paired every n j t) k
   unfolding eliminated
   hidden-word k b e =
-      cleared-word n (suc j) (paired 0 n j t) k (rw (paired-length 0 n j t) l) b
-      ∙ rw (names-bound (suc j) k (wordAt (paired 0 n j t) k) (wordAt t k) ∙ e)
+      cleared-word n (suc j) (paired every n j t) k (rw (paired-length every n j t) l) b
+      ∙ rw (names-bound (suc j) k (wordAt (paired every n j t) k) (wordAt t k) ∙ e)
 
   hidden-blank : (k : ℕ) → k < blockStart n → names (suc j) (ruleIn t k) ≡ true → wordAt (eliminated n j t) k ≡ noRule
   unfolding eliminated
   hidden-blank k b e =
-      cleared-word n (suc j) (paired 0 n j t) k (rw (paired-length 0 n j t) l) b
-      ∙ rw (names-bound (suc j) k (wordAt (paired 0 n j t) k) (wordAt t k) ∙ e)
+      cleared-word n (suc j) (paired every n j t) k (rw (paired-length every n j t) l) b
+      ∙ rw (names-bound (suc j) k (wordAt (paired every n j t) k) (wordAt t k) ∙ e)
 
   -- so the step is document 01's
-  pub by-rules : (v : List ℤ) (r : Bool) → r ≡ contradicts 0 n j t → v ≡ eliminated n j t → HiddenByRules n j t r v
+  pub by-rules : (v : List ℤ) (r : Bool) → r ≡ contradicts every n j t → v ≡ eliminated n j t → HiddenByRules n j t r v
   by-rules v r e d = rw d (record {
     each = λ u s k p. at-sum u s k p (sum-places u s);
     lowered = λ k g q. rw (hidden-word k g q) (word-lowered k g);

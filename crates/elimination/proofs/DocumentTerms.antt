@@ -30,7 +30,7 @@ use Rattle.tables.specs.Tables.{hasRule}
 use Rattle.tables.specs.Meaning.{HoldsRule, ruleIn}
 use Rattle.tables.proofs.Places.{found-two}
 use Rattle.tables.proofs.Tests.{clash, both-true, neither}
-use Rattle.elimination.specs.Hiding.{bareBelow, pairWord, loneWord, anyBare, contradicts}
+use Rattle.elimination.specs.Hiding.{every, bareBelow, pairWord, loneWord, anyBare, contradicts}
 use Rattle.elimination.proofs.TermWords.{quantity-cases, pair-first, pair-second, pair-apart, pair-sym, lone-at, pair-at}
 use Rattle.elimination.proofs.Step.{bare-clear, anyBare-clear}
 
@@ -216,11 +216,11 @@ NotBelow (Two x y c) = Unit {0}
 NotBelow (Nothing c) = pos 0 ≤ℤ c
 
 -- where the test finds no contradiction, no sum is one,
-pub clear-listed : (n j : ℕ) (t : List ℤ) → contradicts 0 n j t ≡ false → ListedOf n j t NotBelow
+pub clear-listed : (n j : ℕ) (t : List ℤ) → contradicts every n j t ≡ false → ListedOf n j t NotBelow
 unfolding contradicts
 clear-listed n j t e = record {
   nothing = bare-clear _ _ .0 (clear .0);
-  cancels = λ x b. bare-clear _ _ .0 (anyBare-clear 0 _ _ (2 * n) .0 (clear .1) x (omega arith) b);
+  cancels = λ x b. bare-clear _ _ .0 (anyBare-clear every _ _ (2 * n) .0 (clear .1) x refl b);
   of-plus = λ x b f g. tt;
   of-minus = λ x b f g. tt;
   alike = λ x b f g. tt;
@@ -228,8 +228,8 @@ clear-listed n j t e = record {
   upper = λ x y o b f g. tt;
 }
   where
-    clear : (bareBelow (loneWord t (2 * j)) (loneWord t (2 * j + 1)) ≡ false) × (anyBare 0 (pairWord t (2 * j)) (pairWord t (2 * j + 1)) (2 * n) ≡ false)
-    clear = neither (bareBelow (loneWord t (2 * j)) (loneWord t (2 * j + 1))) (anyBare 0 (pairWord t (2 * j)) (pairWord t (2 * j + 1)) (2 * n)) .0 e
+    clear : (bareBelow (loneWord t (2 * j)) (loneWord t (2 * j + 1)) ≡ false) × (anyBare every (pairWord t (2 * j)) (pairWord t (2 * j + 1)) (2 * n) ≡ false)
+    clear = neither (bareBelow (loneWord t (2 * j)) (loneWord t (2 * j + 1))) (anyBare every (pairWord t (2 * j)) (pairWord t (2 * j + 1)) (2 * n)) .0 e
 
 -- and one that it finds is of two rules, and below 0
 bare-below : (a b : ℤ) → bareBelow a b ≡ true → (hasRule a ≡ true) × (hasRule b ≡ true) × ((a +ℤ b) <ℤ pos 0)
@@ -242,26 +242,24 @@ bare-below a b e =
 
 -- of all literals below k, one that gives such a sum
 any-found : (Q : Type 0) (plus minus : ℕ → ℤ) (k : ℕ) → ((x : ℕ) → x < k → bareBelow (plus x) (minus (negated x)) ≡ true → Q)
-    → anyBare 0 plus minus k ≡ true → Q
+    → anyBare every plus minus k ≡ true → Q
 unfolding anyBare
 any-found Q plus minus zero found e = clash e refl
 any-found Q plus minus (suc k) found e =
-    go (bareBelow (plus k) (minus (negated k))) refl (leb (2 * 0) k) e (any-found Q plus minus k (λ x b. found x (omega arith)))
+    go (bareBelow (plus k) (minus (negated k))) refl e (any-found Q plus minus k (λ x b. found x (omega arith)))
   where
-    go : (b : Bool) → bareBelow (plus k) (minus (negated k)) ≡ b → (c : Bool) → ((c && b) || anyBare 0 plus minus k) ≡ true
-        → (anyBare 0 plus minus k ≡ true → Q) → Q
-    go true d c e rest = found k (omega arith) d
-    go false d true e rest = rest e
-    go false d false e rest = rest e
+    go : (b : Bool) → bareBelow (plus k) (minus (negated k)) ≡ b → (b || anyBare every plus minus k) ≡ true → (anyBare every plus minus k ≡ true → Q) → Q
+    go true d e rest = found k (omega arith) d
+    go false d e rest = rest e
 
 -- so where it finds a contradiction, whatever follows from each listed bare sum below 0 follows
 pub bare-found : (n j : ℕ) (t : List ℤ) (P : Rule → Type 0) (Q : Type 0) → ListedOf n j t P
-    → ((c : ℤ) → P (Nothing c) → c <ℤ pos 0 → Q) → contradicts 0 n j t ≡ true → Q
+    → ((c : ℤ) → P (Nothing c) → c <ℤ pos 0 → Q) → contradicts every n j t ≡ true → Q
 unfolding contradicts
 bare-found n j t P Q s found = go (bareBelow (loneWord t (2 * j)) (loneWord t (2 * j + 1))) refl
   where
     go : (b : Bool) → bareBelow (loneWord t (2 * j)) (loneWord t (2 * j + 1)) ≡ b
-        → (b || anyBare 0 (pairWord t (2 * j)) (pairWord t (2 * j + 1)) (2 * n)) ≡ true → Q
+        → (b || anyBare every (pairWord t (2 * j)) (pairWord t (2 * j + 1)) (2 * n)) ≡ true → Q
     go true d e = let b = bare-below _ _ d in found _ (s .nothing (b .0) (b .1)) (b .2)
     go false d e =
         any-found Q (pairWord t (2 * j)) (pairWord t (2 * j + 1)) (2 * n)

@@ -19,8 +19,8 @@ use Rattle.tables.specs.Tables.{hasRule, cleared}
 use Rattle.tables.specs.Meaning.{WordsWithin}
 use Rattle.tables.proofs.Tests.{clash}
 use Rattle.tables.proofs.Without.{cleared-word}
-use Rattle.elimination.specs.Hiding.{pairWord, loneWord, paired, eliminated}
-use Rattle.elimination.specs.Magnitude.{Past, OwnWithin}
+use Rattle.elimination.specs.Hiding.{every, pairWord, loneWord, paired, eliminated}
+use Rattle.elimination.specs.Magnitude.{Live, OwnWithin}
 use Rattle.elimination.proofs.TermWords.{lone-at, pair-at, lone-within, pair-within}
 use Rattle.elimination.proofs.PairedWords.{lone-elim, pair-elim}
 use Rattle.elimination.proofs.Step.{paired-length}
@@ -28,8 +28,8 @@ use Rattle.elimination.proofs.Step.{paired-length}
 -- ---- bounds by terms
 
 -- a limit for all words is one for the bounds of a quantity
-pub words-own : (from n j B : ℕ) (t : List ℤ) → blockStart n ≤ length t → j < n → WordsWithin (blockStart n) (pos B) t → OwnWithin (Past from n) j B t
-words-own from n j B t l h w = record {
+pub words-own : (live : ℕ → Bool) (n j B : ℕ) (t : List ℤ) → blockStart n ≤ length t → j < n → WordsWithin (blockStart n) (pos B) t → OwnWithin (Live live n) j B t
+words-own live n j B t l h w = record {
   plus = λ x i r. pair-within n (pos B) t (2 * j) x l w (omega arith) (i .1) r;
   minus = λ x i r. pair-within n (pos B) t (2 * j + 1) x l w (omega arith) (i .1) r;
   plus-alone = λ r. lone-within n (pos B) t (2 * j) l w (omega arith) r;
@@ -37,36 +37,36 @@ words-own from n j B t l h w = record {
 }
 
 -- and one for all terms is one for all words
-terms-words : (n B : ℕ) (t : List ℤ) → ((x : ℕ) → Past 0 n x → hasRule (loneWord t x) ≡ true → Within (pos B) (loneWord t x))
-    → ((x y : ℕ) → Past 0 n x → Past 0 n y → hasRule (pairWord t x y) ≡ true → Within (pos B) (pairWord t x y))
+terms-words : (n B : ℕ) (t : List ℤ) → ((x : ℕ) → Live every n x → hasRule (loneWord t x) ≡ true → Within (pos B) (loneWord t x))
+    → ((x y : ℕ) → Live every n x → Live every n y → hasRule (pairWord t x y) ≡ true → Within (pos B) (pairWord t x y))
     → WordsWithin (blockStart n) (pos B) t
 terms-words n B t one two = record { each = λ k h g r. go k h (isOne k) refl r }
   where
     go : (k : ℕ) → k < blockStart n → (b : Bool) → isOne k ≡ b → hasRule (wordAt t k) ≡ true → Within (pos B) (wordAt t k)
-    go k h true e = rw (lone-at t k e) at (one (higherAt k) (omega arith, at-below n k h))
+    go k h true e = rw (lone-at t k e) at (one (higherAt k) (refl, at-below n k h))
     go k h false e =
         let g = at-below n k h in
-        rw (pair-at t k e) at (two (lowerAt k) (higherAt k) (omega arith, omega (arith, at-lower k e)) (omega arith, g))
+        rw (pair-at t k e) at (two (lowerAt k) (higherAt k) (refl, omega (arith, at-lower k e)) (refl, g))
 
 -- ---- pairing
 
 -- bounds after a step are bounds from before it or sums of two of the quantity's own, so one step at most doubles the largest magnitude
-pub paired-within : (from n j B : ℕ) (t : List ℤ) → blockStart n ≤ length t → j < n
-    → WordsWithin (blockStart n) (pos B) t → WordsWithin (blockStart n) (pos (B + B)) (paired from n j t)
-paired-within from n j B t l h w =
-    terms-words n (B + B) (paired from n j t)
-    (λ x i. lone-elim from n j t l (λ (u : ℤ). hasRule u ≡ true → Within (pos (B + B)) u) x (i .1)
+pub paired-within : (live : ℕ → Bool) (n j B : ℕ) (t : List ℤ) → blockStart n ≤ length t → j < n
+    → WordsWithin (blockStart n) (pos B) t → WordsWithin (blockStart n) (pos (B + B)) (paired live n j t)
+paired-within live n j B t l h w =
+    terms-words n (B + B) (paired live n j t)
+    (λ x i. lone-elim live n j t l (λ (u : ℤ). hasRule u ≡ true → Within (pos (B + B)) u) x (i .1)
     (λ r. within-mono (omega arith) (lone-within n (pos B) t x l w (i .1) r))
     (λ f d e r. within-add (o .plus x i d) (o .minus-alone e))
     (λ f d e r. within-add (o .minus x i d) (o .plus-alone e))
     (λ f d e r. within-half (within-add (o .plus x i d) (o .minus x i e))))
-    (λ x y i k. pair-elim from n j t l (λ (u : ℤ). hasRule u ≡ true → Within (pos (B + B)) u) x y (i .1) (k .1)
+    (λ x y i k. pair-elim live n j t l (λ (u : ℤ). hasRule u ≡ true → Within (pos (B + B)) u) x y (i .1) (k .1)
     (λ r. within-mono (omega arith) (pair-within n (pos B) t x y l w (i .1) (k .1) r))
     (λ f g d e r. within-add (o .plus x i d) (o .minus y k e))
     (λ f g d e r. within-add (o .plus y k d) (o .minus x i e)))
   where
-    o : OwnWithin (Past 0 n) j B t
-    o = words-own 0 n j B t l h w
+    o : OwnWithin (Live every n) j B t
+    o = words-own every n j B t l h w
 
 -- ---- clearing
 
@@ -83,4 +83,4 @@ pub eliminated-within : (n j B : ℕ) (t : List ℤ) → blockStart n ≤ length
     → WordsWithin (blockStart n) (pos B) t → WordsWithin (blockStart n) (pos (B + B)) (eliminated n j t)
 unfolding eliminated
 eliminated-within n j B t l h w =
-    cleared-within n (suc j) (pos (B + B)) (paired 0 n j t) (omega (arith, paired-length 0 n j t)) (paired-within 0 n j B t l h w)
+    cleared-within n (suc j) (pos (B + B)) (paired every n j t) (omega (arith, paired-length every n j t)) (paired-within every n j B t l h w)

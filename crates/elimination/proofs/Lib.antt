@@ -10,11 +10,13 @@ pub mod Exact
 pub mod Feasible
 pub mod Growth
 pub mod Unnamed
+pub mod Fewer
 pub mod DocumentTerms
 pub mod Document
 pub mod SumOver
 pub mod Values
 pub mod Addable
+pub mod Lists
 pub mod Rows
 pub mod BareSums
 pub mod Blocks

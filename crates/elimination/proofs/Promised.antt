@@ -15,7 +15,7 @@ use Rattle.tables.specs.declared.reply.Reply.the-variants.{Done}
 use Rattle.tables.specs.Tables.{clearReply}
 use Rattle.tables.specs.Promises.{Cleared}
 use Rattle.tables.proofs.Sizes.{long-serves}
-use Rattle.elimination.specs.Hiding.{eliminated}
+use Rattle.elimination.specs.Hiding.{every, eliminated}
 use Rattle.elimination.specs.Promises.{Paired, QuantityHidden}
 use Rattle.elimination.proofs.Step.{Adds, paired-length}
 use Rattle.elimination.proofs.Exact.{eliminate-exact, eliminate-none}
@@ -29,7 +29,7 @@ unfolding clearReply
 clear-done n j words h g l = rw (long-serves n words (omega arith) g l, le-leb 1 (suc j) (omega arith), le-leb (suc j) n (omega arith))
 
 -- the sums put in, then the quantity's places cleared
-pub hidden-done : (n j : ℕ) (t u v : List ℤ) (r : Bool) (reply : Reply) → Ready n j t → Paired 0 n j t r u → Cleared n (j + 1) u reply v → QuantityHidden n j t r v
+pub hidden-done : (n j : ℕ) (t u v : List ℤ) (r : Bool) (reply : Reply) → Ready n j t → Paired every n j t r u → Cleared n (j + 1) u reply v → QuantityHidden n j t r v
 unfolding eliminated
 hidden-done n j t u v r reply s p c = record {
   reply = p .reply;
@@ -45,7 +45,7 @@ hidden-done n j t u v r reply s p c = record {
     adds = record { room = s .room; words = s .words; fits = omega arith }
 
     room : blockStart n ≤ length u
-    room = rw (p .table, paired-length 0 n j t) (s .room)
+    room = rw (p .table, paired-length every n j t) (s .room)
 
     done : reply ≡ Done
     done = c .reply ∙ rw (add-one j) (clear-done n j (length u) (s .one) (s .most) room)

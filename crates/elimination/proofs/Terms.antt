@@ -3,7 +3,7 @@ use mathlib.Core.Path.{_≡_, refl, sym, _∙_, ap}
 use mathlib.Core.Bool.{Bool, true, false, cond}
 use mathlib.Core.List.{List}
 use mathlib.Core.Logic.{_↔_, _⊎_, inl, inr, ⊎-elim}
-use Prim.Native.Nat.{ℕ, suc, _+_, _*_, _/_, _%_, _≤_, _<_}
+use Prim.Native.Nat.{ℕ, suc, _+_, _-_, _*_, _/_, _%_, _≤_, _<_}
 use native.Mathlib.Omega.{arith}
 use lib.Dec.{ltb, eqb}
 use lib.IntN.{ℤ, negℤ, _+ℤ_, +ℤ-comm}
@@ -22,8 +22,8 @@ use Rattle.tables.specs.Tables.{hasRule}
 use Rattle.tables.specs.Meaning.{ruleIn, Satisfies, SatisfiesWithout}
 use Rattle.tables.proofs.Tests.{clash}
 use Rattle.tables.proofs.Places.{own-named, four-named, not-named}
-use Rattle.elimination.specs.Magnitude.{Past}
-use Rattle.elimination.specs.Hiding.{pairWord, loneWord}
+use Rattle.elimination.specs.Magnitude.{Live}
+use Rattle.elimination.specs.Hiding.{every, pairWord, loneWord}
 use Rattle.elimination.proofs.Projection.{Sums, Own}
 use Rattle.elimination.proofs.TermWords.{pair-none, pair-first, pair-sym, lone-at, pair-at}
 
@@ -32,9 +32,9 @@ pub record TermsMet (In : ℕ → Type 0) (t : List ℤ) (σ : Assignment) : Typ
   pub one : (x : ℕ) → In x → hasRule (loneWord t x) ≡ true → literalValue σ x ≤ℤ loneWord t x
   pub two : (x y : ℕ) → In x → In y → hasRule (pairWord t x y) ≡ true → (literalValue σ x +ℤ literalValue σ y) ≤ℤ pairWord t x y
 
--- the literals of n quantities past the first `from`, but those of quantity j + 1
-abbrev pub Others : ℕ → ℕ → ℕ → ℕ → Type 0
-Others from n j x = (2 * from ≤ x) × (x < 2 * n) × (x / 2 ≡ j → ⊥)
+-- the literals of live quantities of n, but those of quantity j + 1
+abbrev pub Others : (ℕ → Bool) → ℕ → ℕ → ℕ → Type 0
+Others live n j x = (live (x / 2) ≡ true) × (x < 2 * n) × (x / 2 ≡ j → ⊥)
 
 -- it meets every rule of a literal of quantity j + 1, alone or with a literal In
 pub record OwnMet (In : ℕ → Type 0) (j : ℕ) (t : List ℤ) (σ : Assignment) : Type 0 where
@@ -114,6 +114,14 @@ place-named j k c e = (
   λ o h. clash (four-named j k c (omega (arith, ltb-false (offsetOf k) 2 o)) (omega (arith, ltb-false (offsetOf k) 2 o))) e,
 )
 
+pub higher-named : (k : ℕ) (c : ℤ) → names (suc (higherAt k / 2)) (ruleAt k c) ≡ true
+higher-named k c = own-named (higherAt k / 2) k c (omega (arith, higher-half k))
+
+pub lower-named : (k : ℕ) (c : ℤ) → isOne k ≡ false → names (suc (lowerAt k / 2)) (ruleAt k c) ≡ true
+unfolding isOne lowerAt
+lower-named k c o =
+    four-named ((offsetOf k - 2) / 2 / 2) k c (omega (arith, ltb-false (offsetOf k) 2 o)) (omega (arith, ltb-false (offsetOf k) 2 o))
+
 pub place-unnamed : (j k : ℕ) (c : ℤ) → (higherAt k / 2 ≡ j → ⊥) → (isOne k ≡ false → lowerAt k / 2 ≡ j → ⊥) → names (suc j) (ruleAt k c) ≡ false
 unfolding isOne lowerAt
 place-unnamed j k c high low = not-named j k c (λ e. high (omega (arith, higher-half k))) (go (ltb (offsetOf k) 2) refl)
@@ -130,27 +138,27 @@ place-unnamed j k c high low = not-named j k c (λ e. high (omega (arith, higher
             inr (omega arith)
 
 -- an assignment satisfies a table where it meets its rules on all literals
-pub satisfies-met : (n : ℕ) (t : List ℤ) (σ : Assignment) → blockStart n ≤ length t → Satisfies n t σ ↔ TermsMet (Past 0 n) t σ
+pub satisfies-met : (n : ℕ) (t : List ℤ) (σ : Assignment) → blockStart n ≤ length t → Satisfies n t σ ↔ TermsMet (Live every n) t σ
 satisfies-met n t σ l = (
-  λ s. places-met n (Past 0 n) t σ (λ x i. i .1) (λ k h r high low. s .each k (record { inside = h; there = omega arith; rule = r })),
+  λ s. places-met n (Live every n) t σ (λ x i. i .1) (λ k h r high low. s .each k (record { inside = h; there = omega arith; rule = r })),
   λ m. record {
-    each = λ k p. met-place (Past 0 n) t σ k m (omega arith, at-below n k (p .inside))
-        (λ e. (omega arith, omega (arith, at-below n k (p .inside), at-lower k e)))
+    each = λ k p. met-place (Live every n) t σ k m (refl, at-below n k (p .inside))
+        (λ e. (refl, omega (arith, at-below n k (p .inside), at-lower k e)))
         (p .rule);
   },
 )
 
 -- and it meets the rules that do not name quantity j + 1 where it meets those on the other literals
-pub without-met : (j n : ℕ) (t : List ℤ) (σ : Assignment) → blockStart n ≤ length t → SatisfiesWithout (suc j) n t σ ↔ TermsMet (Others 0 n j) t σ
+pub without-met : (j n : ℕ) (t : List ℤ) (σ : Assignment) → blockStart n ≤ length t → SatisfiesWithout (suc j) n t σ ↔ TermsMet (Others every n j) t σ
 without-met j n t σ l = (
-  λ s. places-met n (Others 0 n j) t σ (λ x i. i .1)
+  λ s. places-met n (Others every n j) t σ (λ x i. i .1)
       (λ k h r high low. s .each k (record { inside = h; there = omega arith; rule = r })
       (place-unnamed j k (wordAt t k) (high .2) (λ e. low e .2))),
   λ m. record {
     each = λ k p e.
         let apart = place-named j k (wordAt t k) e in
-        met-place (Others 0 n j) t σ k m (omega arith, at-below n k (p .inside), apart .0)
-        (λ o. (omega arith, omega (arith, at-below n k (p .inside), at-lower k o), apart .1 o))
+        met-place (Others every n j) t σ k m (refl, at-below n k (p .inside), apart .0)
+        (λ o. (refl, omega (arith, at-below n k (p .inside), at-lower k o), apart .1 o))
         (p .rule);
   },
 )

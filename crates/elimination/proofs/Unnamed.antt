@@ -5,7 +5,6 @@ use mathlib.Core.Bool.{Bool, true, false, cond}
 use mathlib.Core.List.{List}
 use Prim.Native.Nat.{ℕ, suc, _+_, _*_, _/_, _≤_, _<_}
 use native.Mathlib.Omega.{arith}
-use lib.Dec.{ltb}
 use lib.IntN.{ℤ, pos}
 use lib.ListN.{length}
 use borrow.Author.Tests.{ne-eqb}
@@ -15,20 +14,20 @@ use Rattle.places.specs.Numbering.{blockStart, placeOfOne, placeOfPair, isOne, 
 use Rattle.places.proofs.Numbering.{one-below, pair-below, one-block, pair-block, pair-offset, at-lower, at-below}
 use Rattle.rules.specs.declared.rule.Rule.the-variants.{One, Two}
 use Rattle.rules.specs.Limits.{noRule}
-use Rattle.rules.specs.Literal.{quantityOf}
+use Rattle.rules.specs.Literal.{quantityOf, negated}
 use Rattle.rules.specs.Meaning.{names}
 use Rattle.tables.specs.Places.{ruleAt}
 use Rattle.tables.specs.Tables.{hasRule, cleared}
 use Rattle.tables.specs.Meaning.{ruleIn, WordsWithin}
 use Rattle.tables.proofs.Places.{own-named, four-named}
 use Rattle.tables.proofs.Without.{cleared-word}
-use Rattle.tables.proofs.Tests.{clash}
-use Rattle.elimination.specs.Hiding.{pairWord, loneWord, onOne, onTwo, lowestAt, pairing, paired, eliminated}
+use Rattle.tables.proofs.Tests.{clash, neither}
+use Rattle.elimination.specs.Hiding.{every, liveAt, bareBelow, anyBare, pairWord, loneWord, onOne, onTwo, pairing, paired, contradicts, eliminated}
 use Rattle.elimination.specs.Magnitude.{Unnamed}
 use Rattle.elimination.proofs.TermWords.{quantity-cases, pair-same, pair-first, pair-second, pair-sym, lone-at, pair-at}
 use Rattle.elimination.proofs.SumWords.{onOne-elim, onTwo-elim}
 use Rattle.elimination.proofs.PairedWords.{lone-elim, pair-elim}
-use Rattle.elimination.proofs.Step.{paired-length}
+use Rattle.elimination.proofs.Step.{paired-length, bare-clear, anyBare-clear}
 use Rattle.elimination.proofs.Growth.{cleared-within}
 
 -- ---- its literals, and a step on it
@@ -55,10 +54,10 @@ module _ (n j : ℕ) (t : List ℤ) (l : blockStart n ≤ length t) (u : Unnamed
       (λ o. rw (pair-second t x z o)
       (unnamed-none (placeOfPair x z) (pair-below n x z o h) (own-named j (placeOfPair x z) _ (pair-block x z o ∙ e))))
 
-  -- a step on it leaves every word as it is
-  pub unnamed-same : (from : ℕ) → j < n → paired from n j t ≡ t
+  -- a step on it leaves every word as it is,
+  pub unnamed-same : (live : ℕ → Bool) → j < n → paired live n j t ≡ t
   unfolding paired pairing
-  unnamed-same from h = change-nothing (blockStart n) _ t (λ k b. go k b (ltb (lowestAt k) (2 * from)) (isOne k) refl)
+  unnamed-same live h = change-nothing (blockStart n) _ t (λ k b. go k b (liveAt live k) (isOne k) refl)
     where
       plus : (x : ℕ) → x < 2 * n → hasRule (pairWord t (2 * j) x) ≡ false
       plus x g = unnamed-pair (2 * j) x (omega arith) g (omega arith)
@@ -67,26 +66,37 @@ module _ (n j : ℕ) (t : List ℤ) (l : blockStart n ≤ length t) (u : Unnamed
       minus x g = unnamed-pair (2 * j + 1) x (omega arith) g (omega arith)
 
       go : (k : ℕ) → k < blockStart n → (a b : Bool) → isOne k ≡ b
-          → cond a (wordAt t k) (cond b
+          → cond a (cond b
           (onOne (pairWord t (2 * j)) (pairWord t (2 * j + 1)) (loneWord t (2 * j)) (loneWord t (2 * j + 1)) (higherAt k) (wordAt t k))
-          (onTwo (pairWord t (2 * j)) (pairWord t (2 * j + 1)) (lowerAt k) (higherAt k) (wordAt t k)))
+          (onTwo (pairWord t (2 * j)) (pairWord t (2 * j + 1)) (lowerAt k) (higherAt k) (wordAt t k))) (wordAt t k)
           ≡ wordAt t k
-      go k b true c e = refl
-      go k b false true e =
+      go k b false c e = refl
+      go k b true true e =
           onOne-elim (pairWord t (2 * j)) (pairWord t (2 * j + 1)) (loneWord t (2 * j)) (loneWord t (2 * j + 1)) (higherAt k) (wordAt t k)
           (λ (w : ℤ). w ≡ wordAt t k) refl
           (λ p q. clash p (plus (higherAt k) (at-below n k b)))
           (λ p q. clash p (minus (higherAt k) (at-below n k b)))
           (λ p q. clash p (plus (higherAt k) (at-below n k b)))
-      go k b false false e =
+      go k b true false e =
           onTwo-elim (pairWord t (2 * j)) (pairWord t (2 * j + 1)) (lowerAt k) (higherAt k) (wordAt t k) (λ (w : ℤ). w ≡ wordAt t k) refl
           (λ p q. clash q (minus (higherAt k) (at-below n k b)))
           (λ p q. clash q (plus (higherAt k) (at-below n k b)))
 
+  -- and makes no contradiction
+  pub unnamed-clear : (live : ℕ → Bool) → j < n → contradicts live n j t ≡ false
+  unfolding contradicts
+  unnamed-clear live h =
+      neither (bareBelow (loneWord t (2 * j)) (loneWord t (2 * j + 1))) (anyBare live (pairWord t (2 * j)) (pairWord t (2 * j + 1)) (2 * n)) .1 (
+        bare-clear (loneWord t (2 * j)) (loneWord t (2 * j + 1)) .1 (λ p q. clash p (unnamed-lone (2 * j) (omega arith) (omega arith))),
+        anyBare-clear live (pairWord t (2 * j)) (pairWord t (2 * j + 1)) (2 * n) .1 (λ x f g.
+            bare-clear (pairWord t (2 * j) x) (pairWord t (2 * j + 1) (negated x)) .1
+            (λ p q. clash p (unnamed-pair (2 * j) x (omega arith) g (omega arith)))),
+      )
+
   -- so hiding it enlarges nothing
   pub eliminated-unnamed-within : (B : ℕ) → j < n → WordsWithin (blockStart n) (pos B) t → WordsWithin (blockStart n) (pos B) (eliminated n j t)
   unfolding eliminated
-  eliminated-unnamed-within B h w = rw (unnamed-same 0 h) (cleared-within n (suc j) (pos B) t l w)
+  eliminated-unnamed-within B h w = rw (unnamed-same every h) (cleared-within n (suc j) (pos B) t l w)
 
 -- ---- by terms
 
@@ -115,14 +125,14 @@ terms-unnamed n i t lone pair = record { each = λ k p. go k (p .inside) (p .rul
 -- ---- pairing
 
 -- a step on any quantity leaves it so: every sum for a term that names it is of a rule that names it
-pub unnamed-paired : (from n j i : ℕ) (t : List ℤ) → blockStart n ≤ length t → j < n → Unnamed n i t → Unnamed n i (paired from n j t)
-unnamed-paired from n j i t l h u =
-    terms-unnamed n i (paired from n j t)
-    (λ z b e. lone-elim from n j t l (λ (w : ℤ). hasRule w ≡ false) z b (unnamed-lone n i t l u z b e)
+pub unnamed-paired : (live : ℕ → Bool) (n j i : ℕ) (t : List ℤ) → blockStart n ≤ length t → j < n → Unnamed n i t → Unnamed n i (paired live n j t)
+unnamed-paired live n j i t l h u =
+    terms-unnamed n i (paired live n j t)
+    (λ z b e. lone-elim live n j t l (λ (w : ℤ). hasRule w ≡ false) z b (unnamed-lone n i t l u z b e)
     (λ f p q. clash p (with-own z b e (2 * j) (omega arith)))
     (λ f p q. clash p (with-own z b e (2 * j + 1) (omega arith)))
     (λ f p q. clash p (with-own z b e (2 * j) (omega arith))))
-    (λ z x b c e. pair-elim from n j t l (λ (w : ℤ). hasRule w ≡ false) z x b c (unnamed-pair n i t l u z x b c e)
+    (λ z x b c e. pair-elim live n j t l (λ (w : ℤ). hasRule w ≡ false) z x b c (unnamed-pair n i t l u z x b c e)
     (λ f g p q. clash p (with-own z b e (2 * j) (omega arith)))
     (λ f g p q. clash q (with-own z b e (2 * j + 1) (omega arith))))
   where
@@ -160,10 +170,10 @@ cleared-unnamed n j t l = record {
 -- a hidden quantity is named by no rule
 pub eliminated-unnamed : (n j : ℕ) (t : List ℤ) → blockStart n ≤ length t → Unnamed n j (eliminated n j t)
 unfolding eliminated
-eliminated-unnamed n j t l = cleared-unnamed n j (paired 0 n j t) (omega (arith, paired-length 0 n j t))
+eliminated-unnamed n j t l = cleared-unnamed n j (paired every n j t) (omega (arith, paired-length every n j t))
 
 -- and hiding any other leaves it so
 pub unnamed-eliminated : (n j i : ℕ) (t : List ℤ) → blockStart n ≤ length t → j < n → Unnamed n i t → Unnamed n i (eliminated n j t)
 unfolding eliminated
 unnamed-eliminated n j i t l h u =
-    unnamed-cleared n (suc j) i (paired 0 n j t) (omega (arith, paired-length 0 n j t)) (unnamed-paired 0 n j i t l h u)
+    unnamed-cleared n (suc j) i (paired every n j t) (omega (arith, paired-length every n j t)) (unnamed-paired every n j i t l h u)

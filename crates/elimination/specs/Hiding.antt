@@ -1,10 +1,10 @@
 -- Hiding one quantity (document 01, 'Hiding'), in the field's terms eliminating it: each place by itself, with no order of work. Sums are read
 -- from places that name the quantity and go to places that do not, so every sum is one of rules as they stood before. Quantity j + 1 has the
 -- literals 2j with + and 2j + 1 with -.
-use mathlib.Core.Bool.{Bool, false, cond, _&&_, _||_}
+use mathlib.Core.Bool.{Bool, true, false, cond, _&&_, _||_}
 use mathlib.Core.List.{List}
 use Prim.Native.Nat.{ℕ, zero, suc, _+_, _*_, _/_}
-use lib.Dec.{leb, ltb, eqb}
+use lib.Dec.{eqb}
 use lib.IntN.{ℤ, pos, _+ℤ_}
 use lib.Signed.{ltZ}
 use Rattle.integers.specs.Bound.{half, smaller}
@@ -49,34 +49,39 @@ onOne plus minus p m x w = withHalf (plus x) (minus x) (withSum (plus x) m (with
 unfoldable pub onTwo : (ℕ → ℤ) → (ℕ → ℤ) → ℕ → ℕ → ℤ → ℤ
 onTwo plus minus x y w = withSum (plus x) (minus y) (withSum (minus x) (plus y) w)
 
--- the literal of the lowest quantity at a place
-unfoldable pub lowestAt : ℕ → ℕ
-lowestAt k = cond (isOne k) (higherAt k) (lowerAt k)
+-- ---- the quantities that take part, a set: `live i` of quantity i + 1
 
--- as a change: at the places whose quantities are all past the first `from`, every sum that goes there, by minimum
-unfoldable pub pairing : ℕ → (ℕ → ℤ) → (ℕ → ℤ) → ℤ → ℤ → ℕ → ℤ → ℤ
-pairing from plus minus p m k w =
-    cond (ltb (lowestAt k) (2 * from)) w
-    (cond (isOne k) (onOne plus minus p m (higherAt k) w) (onTwo plus minus (lowerAt k) (higherAt k) w))
+-- all of them
+abbrev pub every : ℕ → Bool
+every i = true
 
--- is a bare sum of x with +q and -x with -q, for a literal x below the number given and past the first `from` quantities, a contradiction?
-unfoldable pub anyBare : ℕ → (ℕ → ℤ) → (ℕ → ℤ) → ℕ → Bool
-anyBare from plus minus zero = false
-anyBare from plus minus (suc x) = (leb (2 * from) x && bareBelow (plus x) (minus (negated x))) || anyBare from plus minus x
+-- are the quantities of a place live, both where it has two?
+unfoldable pub liveAt : (ℕ → Bool) → ℕ → Bool
+liveAt live k = live (higherAt k / 2) && (isOne k || live (lowerAt k / 2))
+
+-- as a change: at the places of live quantities, every sum that goes there, by minimum
+unfoldable pub pairing : (ℕ → Bool) → (ℕ → ℤ) → (ℕ → ℤ) → ℤ → ℤ → ℕ → ℤ → ℤ
+pairing live plus minus p m k w =
+    cond (liveAt live k) (cond (isOne k) (onOne plus minus p m (higherAt k) w) (onTwo plus minus (lowerAt k) (higherAt k) w)) w
+
+-- is a bare sum of x with +q and -x with -q, for a literal x of a live quantity below the number given, a contradiction?
+unfoldable pub anyBare : (ℕ → Bool) → (ℕ → ℤ) → (ℕ → ℤ) → ℕ → Bool
+anyBare live plus minus zero = false
+anyBare live plus minus (suc x) = (live (x / 2) && bareBelow (plus x) (minus (negated x))) || anyBare live plus minus x
 
 -- ---- the step, on a table over n quantities
 
--- every rule with the quantity j + 1 and + is added to every rule with it and -, and the sums go in by minimum. Of the other quantities only those
--- past the first `from` take part: all of them where it is 0, which is document 01's step
-unfoldable pub paired : ℕ → ℕ → ℕ → List ℤ → List ℤ
-paired from n j t =
-    change (blockStart n) (pairing from (pairWord t (2 * j)) (pairWord t (2 * j + 1)) (loneWord t (2 * j)) (loneWord t (2 * j + 1))) t
+-- every rule with the quantity j + 1 and + is added to every rule with it and -, and the sums go in by minimum. Of the other quantities only the live
+-- ones take part: with every one it is document 01's step
+unfoldable pub paired : (ℕ → Bool) → ℕ → ℕ → List ℤ → List ℤ
+paired live n j t =
+    change (blockStart n) (pairing live (pairWord t (2 * j)) (pairWord t (2 * j + 1)) (loneWord t (2 * j)) (loneWord t (2 * j + 1))) t
 
 -- one of these sums is bare and below 0: a contradiction
-unfoldable pub contradicts : ℕ → ℕ → ℕ → List ℤ → Bool
-contradicts from n j t =
-    bareBelow (loneWord t (2 * j)) (loneWord t (2 * j + 1)) || anyBare from (pairWord t (2 * j)) (pairWord t (2 * j + 1)) (2 * n)
+unfoldable pub contradicts : (ℕ → Bool) → ℕ → ℕ → List ℤ → Bool
+contradicts live n j t =
+    bareBelow (loneWord t (2 * j)) (loneWord t (2 * j + 1)) || anyBare live (pairWord t (2 * j)) (pairWord t (2 * j + 1)) (2 * n)
 
 -- the table with the quantity j + 1 hidden: all sums put in, then all places that name the quantity no rule
 unfoldable pub eliminated : ℕ → ℕ → List ℤ → List ℤ
-eliminated n j t = cleared n (suc j) (paired 0 n j t)
+eliminated n j t = cleared n (suc j) (paired every n j t)

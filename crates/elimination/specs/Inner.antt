@@ -1,19 +1,21 @@
 -- What the functions of the step ask, and what its loops gather and put in: for those who read the code. What a caller has to believe is in Promises, but
--- for `pair_blocks`, by which the tightest table is made too. Sums fit, so sums are asked of words that add; a row has the bounds of one literal with each other, by literal.
-use mathlib.Core.Bool.{Bool, true, not, _||_}
+-- for `pair_blocks`, by which the tightest table is made too. Sums fit, so sums are asked of words that add. The live quantities are listed in increasing number, each by its
+-- number less one; a row has the bounds of one literal with each literal of theirs, by literal, and what else stands in it does not matter.
+use mathlib.Core.Bool.{Bool, true, false, not, _||_}
 use mathlib.Core.Path.{_≡_}
 use mathlib.Core.List.{List}
-use Prim.Native.Nat.{ℕ, suc, _+_, _*_, _≤_, _<_}
+use Prim.Native.Nat.{ℕ, suc, _+_, _*_, _/_, _≤_, _<_}
 use lib.IntN.{ℤ}
-use lib.ListN.{length}
+use lib.ListN.{length, getD, set}
 use Rattle.integers.specs.Bound.{Within}
 use Rattle.words.specs.Change.{wordAt, change, startingAt}
 use Rattle.places.specs.Numbering.{blockStart}
 use Rattle.rules.specs.Limits.{maxQuantities}
+use Rattle.rules.specs.Hidden.{isListed}
 use Rattle.tables.specs.Tables.{hasRule}
 use Rattle.tables.specs.Meaning.{WordsWithin}
 use Rattle.elimination.specs.Hiding.{pairWord, pairing}
-use Rattle.elimination.specs.Magnitude.{addLimit, valueLimit}
+use Rattle.elimination.specs.Magnitude.{addLimit, valueLimit, Unnamed}
 
 -- a word is no rule, or a bound small enough to be added to another
 abbrev pub Addable : ℤ → Type 0
@@ -23,10 +25,22 @@ Addable w = hasRule w ≡ true → Within addLimit w
 abbrev pub Choosable : ℤ → Type 0
 Choosable v = Within valueLimit v
 
--- the values of the quantities of n past j + 1
-pub record Valued (n j : ℕ) (values : List ℤ) : Type 0 where
-  pub room : n ≤ length values
-  pub later : (i : ℕ) → j < i → i < n → Choosable (wordAt values i)
+-- ---- the live quantities
+
+-- the set of a list
+abbrev pub among : List ℕ → ℕ → Bool
+among list i = isListed i list
+
+-- a list in increasing number,
+pub record Rising (list : List ℕ) : Type 0 where
+  pub rises : (i : ℕ) → suc i < length list → getD list i 0 < getD list (suc i) 0
+
+-- of n quantities
+pub record Listed (n : ℕ) (list : List ℕ) : Type 0 where
+  pub rising : Rising list
+  pub below : (i : ℕ) → i < length list → getD list i 0 < n
+
+-- ---- a table and the rules of one quantity
 
 -- a table over n quantities whose words add, and the quantity j + 1 of it
 pub record Ready (n j : ℕ) (t : List ℤ) : Type 0 where
@@ -35,59 +49,84 @@ pub record Ready (n j : ℕ) (t : List ℤ) : Type 0 where
   pub room : blockStart n ≤ length t
   pub words : WordsWithin (blockStart n) addLimit t
 
--- the bounds of a quantity's rules, by literal, of n quantities: enough of them, and they add
-pub record Row (n : ℕ) (row : List ℤ) : Type 0 where
+-- the same with a list of live quantities, and two rows with room for the bounds of the quantity with + and with -
+pub record StepReady (n j : ℕ) (live : List ℕ) (table plus minus : List ℤ) : Type 0 where
+  pub ready : Ready n j table
+  pub listed : Listed n live
+  pub plus-room : 2 * n ≤ length plus
+  pub minus-room : 2 * n ≤ length minus
+
+-- the live quantities have values
+pub record Valued (n : ℕ) (live : List ℕ) (values : List ℤ) : Type 0 where
+  pub room : n ≤ length values
+  pub each : (i : ℕ) → among live i ≡ true → Choosable (wordAt values i)
+
+-- a row for the live quantities of n: its bounds add
+pub record Row (n : ℕ) (live : List ℕ) (row : List ℤ) : Type 0 where
   pub most : n ≤ maxQuantities
   pub room : 2 * n ≤ length row
-  pub words : WordsWithin (2 * n) addLimit row
+  pub words : (x : ℕ) → x < 2 * n → among live (x / 2) ≡ true → Addable (wordAt row x)
 
--- as a change: the bounds of z with each literal
-abbrev pub gathering : List ℤ → ℕ → ℕ → ℤ → ℤ
-gathering t z x w = pairWord t z x
+-- rows that have the bounds of quantity j + 1 with each literal of the live quantities of n
+pub record Gathered (n j : ℕ) (live : List ℕ) (table plus minus : List ℤ) : Type 0 where
+  pub plus-bounds : (x : ℕ) → x < 2 * n → among live (x / 2) ≡ true → wordAt plus x ≡ pairWord table (2 * j) x
+  pub minus-bounds : (x : ℕ) → x < 2 * n → among live (x / 2) ≡ true → wordAt minus x ≡ pairWord table (2 * j + 1) x
 
--- a table over n quantities, and a row with room for the bounds of the literal z with each literal past the first `from` quantities
-pub record Gatherable (n z from : ℕ) (table row : List ℤ) : Type 0 where
-  pub most : n ≤ maxQuantities
-  pub one : z < 2 * n
-  pub some : from ≤ n
-  pub room : blockStart n ≤ length table
-  pub row-room : 2 * n ≤ length row
+-- quantities j + 1 and a + 1 in a table that has the block of the higher one, and rows with room for the bounds between them
+pub record PairGatherable (j a : ℕ) (table plus minus : List ℤ) : Type 0 where
+  pub one : j < maxQuantities
+  pub other : a < maxQuantities
+  pub one-room : blockStart (suc j) ≤ length table
+  pub other-room : blockStart (suc a) ≤ length table
+  pub plus-room : 2 * a + 2 ≤ length plus
+  pub minus-room : 2 * a + 2 ≤ length minus
 
--- these bounds gathered
-pub record RowGathered (n z from : ℕ) (table before after : List ℤ) : Type 0 where
-  pub row : after ≡ change (2 * n) (startingAt (2 * from) (gathering table z)) before
+-- these bounds gathered: the two words of each row for quantity a + 1
+pub record PairGathered (j a : ℕ) (table plus minus plus' minus' : List ℤ) : Type 0 where
+  pub plus-row : plus' ≡ set (set plus (2 * a) (pairWord table (2 * j) (2 * a))) (2 * a + 1) (pairWord table (2 * j) (2 * a + 1))
+  pub minus-row : minus' ≡ set (set minus (2 * a) (pairWord table (2 * j + 1) (2 * a))) (2 * a + 1) (pairWord table (2 * j + 1) (2 * a + 1))
 
--- the block of quantity b + 1 in a table, past the first `from` quantities, and bounds that add: those of each literal with the quantity that is
--- paired and + and with it and -, and those p and m of that quantity alone
-pub record BlockReady (b from : ℕ) (table plus minus : List ℤ) (p m : ℤ) : Type 0 where
-  pub most : b < maxQuantities
-  pub some : from ≤ b
-  pub room : blockStart (suc b) ≤ length table
-  pub plus-row : Row (suc b) plus
-  pub minus-row : Row (suc b) minus
+-- the rules of a table over n quantities name quantity j + 1 and live ones alone
+abbrev pub NamesAlone : ℕ → ℕ → List ℕ → List ℤ → Type 0
+NamesAlone n j live t = (i : ℕ) → i < n → (i ≡ j → ⊥) → among live i ≡ false → Unnamed n i t
+
+-- ---- sums put in, block after block
+
+-- the block of the live quantity of place i in the list, and rows of bounds that add: those of each live literal with the quantity that is paired and + and with it and -
+pub record TwosReady (i : ℕ) (live : List ℕ) (table plus minus : List ℤ) : Type 0 where
+  pub some : i < length live
+  pub rising : Rising live
+  pub most : getD live i 0 < maxQuantities
+  pub room : blockStart (suc (getD live i 0)) ≤ length table
+  pub plus-row : Row (suc (getD live i 0)) live plus
+  pub minus-row : Row (suc (getD live i 0)) live minus
+
+-- and those p and m of that quantity alone
+pub record BlockReady (i : ℕ) (live : List ℕ) (table plus minus : List ℤ) (p m : ℤ) : Type 0 where
+  pub twos : TwosReady i live table plus minus
   pub plus-alone : Addable p
   pub minus-alone : Addable m
 
--- the sums put in at every place of that block
-pub record BlockPaired (b from : ℕ) (plus minus : List ℤ) (p m : ℤ) (before after : List ℤ) : Type 0 where
-  pub table : after ≡ change (blockStart (suc b)) (startingAt (blockStart b) (pairing from (wordAt plus) (wordAt minus) p m)) before
+-- the sums put in at the places of live quantities in the block of quantity b + 1
+pub record BlockPaired (b : ℕ) (live : List ℕ) (plus minus : List ℤ) (p m : ℤ) (before after : List ℤ) : Type 0 where
+  pub table : after ≡ change (blockStart (suc b)) (startingAt (blockStart b) (pairing (among live) (wordAt plus) (wordAt minus) p m)) before
+
+-- of these at the places of two quantities, for which the bounds p and m of the paired quantity alone do not matter
+pub record TwosPaired (b : ℕ) (live : List ℕ) (plus minus before after : List ℤ) : Type 0 where
+  pub table : (p m : ℤ) → after ≡ change (blockStart (suc b)) (startingAt (blockStart b + 2) (pairing (among live) (wordAt plus) (wordAt minus) p m)) before
 
 -- the same of all blocks of n quantities
-pub record BlocksReady (n from : ℕ) (table plus minus : List ℤ) (p m : ℤ) : Type 0 where
-  pub some : from ≤ n
+pub record BlocksReady (n : ℕ) (live : List ℕ) (table plus minus : List ℤ) (p m : ℤ) : Type 0 where
+  pub listed : Listed n live
   pub room : blockStart n ≤ length table
-  pub plus-row : Row n plus
-  pub minus-row : Row n minus
+  pub plus-row : Row n live plus
+  pub minus-row : Row n live minus
   pub plus-alone : Addable p
   pub minus-alone : Addable m
 
-pub record BlocksPaired (n from : ℕ) (plus minus : List ℤ) (p m : ℤ) (before after : List ℤ) : Type 0 where
-  pub table : after ≡ change (blockStart n) (pairing from (wordAt plus) (wordAt minus) p m) before
+pub record BlocksPaired (n : ℕ) (live : List ℕ) (plus minus : List ℤ) (p m : ℤ) (before after : List ℤ) : Type 0 where
+  pub table : after ≡ change (blockStart n) (pairing (among live) (wordAt plus) (wordAt minus) p m) before
 
 -- none of four words is a rule: the test by which the code passes over a block to which no sum goes
 unfoldable pub noneHeld : ℤ → ℤ → ℤ → ℤ → Bool
 noneHeld a b c d = not (hasRule a || (hasRule b || (hasRule c || hasRule d)))
-
--- the sums put in at the terms of quantity b + 1 and a lower one, for which the bounds p and m of the paired quantity alone do not matter
-pub record TwosPaired (b from : ℕ) (plus minus before after : List ℤ) : Type 0 where
-  pub table : (p m : ℤ) → after ≡ change (blockStart (suc b)) (startingAt (blockStart b + 2) (pairing from (wordAt plus) (wordAt minus) p m)) before

@@ -1,9 +1,9 @@
--- Magnitudes: the range of an assignment's values (`ValuesWithin`), and of bounds, by which sums are shown to fit, with what they are asked of: the literals past the first quantities, and a quantity that no rule
+-- Magnitudes: the range of an assignment's values (`ValuesWithin`), and of bounds, by which sums are shown to fit, with what they are asked of: the literals of live quantities, and a quantity that no rule
 -- names, whose step makes no sum.
-use mathlib.Core.Bool.{true, false}
+use mathlib.Core.Bool.{Bool, true, false}
 use mathlib.Core.List.{List}
 use mathlib.Core.Path.{_≡_}
-use Prim.Native.Nat.{ℕ, suc, _+_, _*_, _≤_, _<_}
+use Prim.Native.Nat.{ℕ, suc, _+_, _*_, _/_, _<_}
 use lib.IntN.{ℤ, pos}
 use Rattle.integers.specs.Bound.{Within}
 use Rattle.words.specs.Change.{wordAt}
@@ -20,9 +20,9 @@ addLimit = pos 4611686018427387903
 abbrev pub valueLimit : ℤ
 valueLimit = pos 4611686018427387904
 
--- the literals of n quantities past the first `from`
-abbrev pub Past : ℕ → ℕ → ℕ → Type 0
-Past from n x = (2 * from ≤ x) × (x < 2 * n)
+-- the literals of the live quantities of n
+abbrev pub Live : (ℕ → Bool) → ℕ → ℕ → Type 0
+Live live n x = (live (x / 2) ≡ true) × (x < 2 * n)
 
 -- every bound of quantity j + 1, alone or with a literal In, is at most B in magnitude
 pub record OwnWithin (In : ℕ → Type 0) (j B : ℕ) (t : List ℤ) : Type 0 where

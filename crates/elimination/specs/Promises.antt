@@ -11,21 +11,21 @@ use Rattle.rules.specs.declared.rule.Rule.{Rule}
 use Rattle.rules.specs.Meaning.{Assignment}
 use Rattle.rules.specs.Steps.{sumOver}
 use Rattle.tables.specs.Meaning.{Satisfies, Unsatisfiable, SheetAllows, WordsWithin, assignmentOf}
-use Rattle.elimination.specs.Hiding.{paired, contradicts, eliminated}
+use Rattle.elimination.specs.Hiding.{every, paired, contradicts, eliminated}
 use Rattle.elimination.specs.ByRules.{IsSum, HiddenByRules}
 use Rattle.elimination.specs.Choosing.{choice}
 use Rattle.elimination.specs.Feasible.{Feasible}
 
--- the sums of quantity j + 1 put in, of the other quantities only those past the first `from`, and whether one is a contradiction
-pub record Paired (from n j : ℕ) (before : List ℤ) (r : Bool) (after : List ℤ) : Type 0 where
-  pub reply : r ≡ contradicts from n j before
-  pub table : after ≡ paired from n j before
+-- the sums of quantity j + 1 put in, of the other quantities only the live ones, and whether one is a contradiction
+pub record Paired (live : ℕ → Bool) (n j : ℕ) (before : List ℤ) (r : Bool) (after : List ℤ) : Type 0 where
+  pub reply : r ≡ contradicts live n j before
+  pub table : after ≡ paired live n j before
 
 -- quantity j + 1 hidden, and whether a sum is a contradiction: place by place, and in document 01's words, each sum being the one that `Rule::sum` hands back. The
 -- bounds at most double. Where there is no contradiction, the table allows just what some integer for the quantity completes; where there is one, nothing
 -- satisfied the table
 pub record QuantityHidden (n j : ℕ) (before : List ℤ) (r : Bool) (after : List ℤ) : Type 0 where
-  pub reply : r ≡ contradicts 0 n j before
+  pub reply : r ≡ contradicts every n j before
   pub table : after ≡ eliminated n j before
   pub rules : HiddenByRules n j before r after
   pub sums : (u : Rule) (s : IsSum n j before u) → u ≡ sumOver (2 * j) (s .plus) (s .minus)
@@ -33,9 +33,9 @@ pub record QuantityHidden (n j : ℕ) (before : List ℤ) (r : Bool) (after : Li
   pub meaning : r ≡ false → (σ : Assignment) → Satisfies n after σ ↔ SheetAllows (eqb (suc j)) (Satisfies n before) σ
   pub none : r ≡ true → Unsatisfiable n before
 
--- the value r chosen for quantity j + 1, given those of later ones. Where the quantity's rules, alone and with later ones, leave it any integer v, they
+-- the value r chosen for quantity j + 1, given those of the live ones. Where the quantity's rules, alone and with live ones, leave it any integer v, they
 -- leave it r, and r is at least as near to 0 as v
-pub record Chosen (n j : ℕ) (table values : List ℤ) (r : ℤ) : Type 0 where
-  pub reply : r ≡ choice n table j values
-  pub meaning : (v : ℤ) → Feasible n j table (assignmentOf values) v → Feasible n j table (assignmentOf values) r
-  pub nearest : (v : ℤ) → Feasible n j table (assignmentOf values) v → natAbs r ≤ natAbs v
+pub record Chosen (live : ℕ → Bool) (n j : ℕ) (table values : List ℤ) (r : ℤ) : Type 0 where
+  pub reply : r ≡ choice live n table j values
+  pub meaning : (v : ℤ) → Feasible live n j table (assignmentOf values) v → Feasible live n j table (assignmentOf values) r
+  pub nearest : (v : ℤ) → Feasible live n j table (assignmentOf values) v → natAbs r ≤ natAbs v

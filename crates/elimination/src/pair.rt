@@ -1,21 +1,16 @@
-// Pairing: every rule with a quantity and + is added to every rule with it and -, and the sums go in by minimum. The table is walked once in place
-// order; no word is written twice, and blocks to which no sum goes are passed over.
+// Pairing: every rule with a quantity and + is added to every rule with it and -, and the sums go in by minimum. Which quantities take part is a set, listed in
+// increasing number: the walk goes once over their blocks in place order and visits the words of live quantities alone. No word is written twice, and blocks to which no
+// sum goes are passed over.
 use crate::bare;
 use crate::row;
 use crate::word;
-use rules::sheet::Sheet;
 ghost use mathlib.Core.Path.{_≡_};
-ghost use Prim.Native.Nat.{suc, _+_, _*_, _<_, _≤_};
-ghost use lib.ListN.{length, set};
+ghost use Prim.Native.Nat.{_<_};
+ghost use lib.ListN.{length, set, getD};
 ghost use Rattle.words.specs.Change.{wordAt};
-ghost use Rattle.places.specs.Numbering.{blockStart};
-ghost use Rattle.rules.specs.Limits.{maxQuantities};
 ghost use Rattle.elimination.specs.Hiding.{withSum, withHalf};
 ghost use Rattle.elimination.specs.Promises.{Paired};
-ghost use Rattle.elimination.specs.Inner.{Addable, Ready, Row, BlockReady, BlockPaired, BlocksReady, BlocksPaired, TwosPaired};
-
-// The words of a row: one for each literal.
-const ROW: usize = 2 * Sheet::MAX_QUANTITIES;
+ghost use Rattle.elimination.specs.Inner.{Addable, among, StepReady, BlockReady, BlockPaired, BlocksReady, BlocksPaired, TwosReady, TwosPaired};
 
 // Puts the sums in at the place `at` of two literals, given the bounds of each with the quantity and + and with it and -.
 fn pair_two(table: &mut [i64], at: usize, plus_x: i64, minus_x: i64, plus_y: i64, minus_y: i64)
@@ -26,25 +21,32 @@ fn pair_two(table: &mut [i64], at: usize, plus_x: i64, minus_x: i64, plus_y: i64
     table[at] = word::with_sum(plus_x, minus_y, word::with_sum(minus_x, plus_y, w));
 }
 
-// Puts the sums in at the terms of quantity `b + 1` with each lower quantity past the first `from`.
-fn pair_twos(table: &mut [i64], b: usize, from: usize, plus: &[i64], minus: &[i64])
-    requires { ⌜ (b < maxQuantities) × (from ≤ b) × (blockStart (suc b) ≤ length (now table)) × Row (suc b) (now plus) × Row (suc b) (now minus) ⌝ }
-    ensures { λ _. ⌜ TwosPaired b from (now (plus .entry)) (now (minus .entry)) (now (table .entry)) (now (table .exit)) ⌝ }
+// Puts the sums in at the terms of the live quantity of place `i` in the list with each lower one.
+fn pair_twos(table: &mut [i64], i: usize, live: &[usize], plus: &[i64], minus: &[i64])
+    requires { ⌜ TwosReady i (now live) (now table) (now plus) (now minus) ⌝ }
+    ensures { λ _. ⌜ TwosPaired (getD (now (live .entry)) i 0) (now (live .entry)) (now (plus .entry)) (now (minus .entry)) (now (table .entry)) (now (table .exit)) ⌝ }
 {
+    let b = live[i];
     let y = 2 * b;
+    let start = 2 * (b * b) + 2;
     let plus_y = plus[y];
     let minus_y = minus[y];
     let plus_not_y = plus[y + 1];
     let minus_not_y = minus[y + 1];
-    let mut x = 2 * from;
-    let mut at = 2 * (b * b) + 2 + 4 * from;
-    while x < y {
+    let mut h = 0;
+    while h < i {
+        let a = live[h];
+        let x = 2 * a;
+        let at = start + 4 * a;
         let plus_x = plus[x];
         let minus_x = minus[x];
         pair_two(table, at, plus_x, minus_x, plus_y, minus_y);
         pair_two(table, at + 1, plus_x, minus_x, plus_not_y, minus_not_y);
-        at = at + 2;
-        x = x + 1;
+        let plus_not_x = plus[x + 1];
+        let minus_not_x = minus[x + 1];
+        pair_two(table, at + 2, plus_not_x, minus_not_x, plus_y, minus_y);
+        pair_two(table, at + 3, plus_not_x, minus_not_x, plus_not_y, minus_not_y);
+        h = h + 1;
     }
 }
 
@@ -58,75 +60,88 @@ fn pair_one(table: &mut [i64], at: usize, a: i64, b: i64, p: i64, m: i64)
     table[at] = word::with_half(a, b, word::with_sum(a, m, word::with_sum(b, p, w)));
 }
 
-// Puts the sums in at every place of the block of quantity `b + 1`.
+// Puts the sums in at every place of live quantities in the block of the one of place `i` in the list.
 fn pair_places(
     table: &mut [i64],
-    b: usize,
-    from: usize,
+    i: usize,
+    live: &[usize],
     plus: &[i64],
     minus: &[i64],
     p: i64,
     m: i64,
 )
-    requires { ⌜ BlockReady b from (now table) (now plus) (now minus) p m ⌝ }
-    ensures { λ _. ⌜ BlockPaired b from (now (plus .entry)) (now (minus .entry)) p m (now (table .entry)) (now (table .exit)) ⌝ }
+    requires { ⌜ BlockReady i (now live) (now table) (now plus) (now minus) p m ⌝ }
+    ensures { λ _. ⌜ BlockPaired (getD (now (live .entry)) i 0) (now (live .entry)) (now (plus .entry)) (now (minus .entry)) p m (now (table .entry)) (now (table .exit)) ⌝ }
 {
+    let b = live[i];
     let y = 2 * b;
     let start = 2 * (b * b);
     pair_one(table, start, plus[y], minus[y], p, m);
     pair_one(table, start + 1, plus[y + 1], minus[y + 1], p, m);
-    pair_twos(table, b, from, plus, minus);
+    pair_twos(table, i, live, plus, minus);
 }
 
-// Puts the sums in at the terms of the block of quantity `b + 1`. None goes there where no rule has that quantity together with the one that is
-// paired, as in most blocks of a table with few rules.
-fn pair_block(table: &mut [i64], b: usize, from: usize, plus: &[i64], minus: &[i64], p: i64, m: i64)
-    requires { ⌜ BlockReady b from (now table) (now plus) (now minus) p m ⌝ }
-    ensures { λ _. ⌜ BlockPaired b from (now (plus .entry)) (now (minus .entry)) p m (now (table .entry)) (now (table .exit)) ⌝ }
-{
-    let y = 2 * b;
-    if word::are_none(plus[y], minus[y], plus[y + 1], minus[y + 1]) {
-        return;
-    }
-    pair_places(table, b, from, plus, minus, p, m);
-}
-
-// Puts in, at the places of quantities past the first `from`, every sum of the rows `plus` and `minus` and of the bounds `p` and `m`, block after block.
-pub fn pair_blocks(
-    n: usize,
+// Puts the sums in at the terms of that block. None goes there where no rule has its quantity together with the one that is paired, as in most blocks of a table
+// with few rules.
+fn pair_block(
     table: &mut [i64],
-    from: usize,
+    i: usize,
+    live: &[usize],
     plus: &[i64],
     minus: &[i64],
     p: i64,
     m: i64,
 )
-    requires { ⌜ BlocksReady n from (now table) (now plus) (now minus) p m ⌝ }
-    ensures { λ _. ⌜ BlocksPaired n from (now (plus .entry)) (now (minus .entry)) p m (now (table .entry)) (now (table .exit)) ⌝ }
+    requires { ⌜ BlockReady i (now live) (now table) (now plus) (now minus) p m ⌝ }
+    ensures { λ _. ⌜ BlockPaired (getD (now (live .entry)) i 0) (now (live .entry)) (now (plus .entry)) (now (minus .entry)) p m (now (table .entry)) (now (table .exit)) ⌝ }
 {
-    let mut b = from;
-    while b < n {
-        pair_block(table, b, from, plus, minus, p, m);
-        b = b + 1;
+    let y = 2 * live[i];
+    if word::are_none(plus[y], minus[y], plus[y + 1], minus[y + 1]) {
+        return;
+    }
+    pair_places(table, i, live, plus, minus, p, m);
+}
+
+// Puts in, at the places of live quantities of `n`, every sum of the rows `plus` and `minus` and of the bounds `p` and `m`, block after block.
+pub fn pair_blocks(
+    n: usize,
+    table: &mut [i64],
+    live: &[usize],
+    plus: &[i64],
+    minus: &[i64],
+    p: i64,
+    m: i64,
+)
+    requires { ⌜ BlocksReady n (now live) (now table) (now plus) (now minus) p m ⌝ }
+    ensures { λ _. ⌜ BlocksPaired n (now (live .entry)) (now (plus .entry)) (now (minus .entry)) p m (now (table .entry)) (now (table .exit)) ⌝ }
+{
+    let mut i = 0;
+    while i < live.len() {
+        pair_block(table, i, live, plus, minus, p, m);
+        i = i + 1;
     }
 }
 
-// Puts in every sum of a rule with +(j + 1) and a rule with -(j + 1) whose other quantities are past the first `from`, and answers whether a
-// bare sum is a contradiction.
-pub fn pair(n: usize, table: &mut [i64], j: usize, from: usize) -> bool
-    requires { ⌜ Ready n j (now table) × (from ≤ n) ⌝ }
-    ensures { λ r. ⌜ Paired from n j (now (table .entry)) r (now (table .exit)) ⌝ }
+// Puts in every sum of a rule with +(j + 1) and a rule with -(j + 1) whose other quantities are live, and answers whether a bare sum is a contradiction. The two rows
+// are for the quantity's rules: their words are free.
+pub fn pair(
+    n: usize,
+    table: &mut [i64],
+    j: usize,
+    live: &[usize],
+    plus: &mut [i64],
+    minus: &mut [i64],
+) -> bool
+    requires { ⌜ StepReady n j (now live) (now table) (now plus) (now minus) ⌝ }
+    ensures { λ r. ⌜ Paired (among (now (live .entry))) n j (now (table .entry)) r (now (table .exit)) ⌝ }
 {
-    let mut plus = [Sheet::NO_RULE; ROW];
-    let mut minus = [Sheet::NO_RULE; ROW];
-    row::gather(n, table, 2 * j, from, &mut plus);
-    row::gather(n, table, 2 * j + 1, from, &mut minus);
+    row::gather(n, table, j, live, plus, minus);
     let start = 2 * (j * j);
     let p = table[start];
     let m = table[start + 1];
-    pair_blocks(n, table, from, &plus, &minus, p, m);
+    pair_blocks(n, table, live, plus, minus, p, m);
     if word::is_bare_below(p, m) {
         return true;
     }
-    bare::is_any_bare_below(n, from, &plus, &minus)
+    bare::is_any_bare_below(n, live, plus, minus)
 }

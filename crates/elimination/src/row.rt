@@ -1,38 +1,50 @@
 // The rules of one quantity, gathered by literal: a step reads each of them many times, and in the table most of them stand far apart.
 use rules::sheet::Sheet;
-ghost use mathlib.Core.Path.{_≡_};
-ghost use Prim.Native.Nat.{_*_, _<_, _≤_};
-ghost use lib.ListN.{length};
-ghost use Rattle.places.specs.Numbering.{blockStart};
-ghost use Rattle.rules.specs.Limits.{maxQuantities};
-ghost use Rattle.elimination.specs.Hiding.{pairWord as Hiding·pairWord};
-ghost use Rattle.elimination.specs.Inner.{Gatherable, RowGathered};
+ghost use Rattle.elimination.specs.Inner.{StepReady, PairGatherable, PairGathered, Gathered};
 
-// The bound of the term of literals `z` and `x`; two of one quantity have no term together.
-pub(crate) fn pair_word(n: usize, table: &[i64], z: usize, x: usize) -> i64
-    requires { ⌜ (n ≤ maxQuantities) × (z < 2 * n) × (x < 2 * n) × (blockStart n ≤ length (now table)) ⌝ }
-    ensures { λ r. ⌜ r ≡ Hiding·pairWord (now (table .entry)) z x ⌝ }
+// Gathers the bounds of quantity `j + 1` with quantity `a + 1`, whose terms stand side by side in the block of the higher one; a quantity has none with itself.
+fn gather_pair(table: &[i64], j: usize, a: usize, plus: &mut [i64], minus: &mut [i64])
+    requires { ⌜ PairGatherable j a (now table) (now plus) (now minus) ⌝ }
+    ensures { λ _. ⌜ PairGathered j a (now (table .entry)) (now (plus .entry)) (now (minus .entry)) (now (plus .exit)) (now (minus .exit)) ⌝ }
 {
-    let a = x / 2;
-    let b = z / 2;
-    if a == b {
-        return Sheet::NO_RULE;
+    let x = 2 * a;
+    if a < j {
+        let at = 2 * (j * j) + 2 + 4 * a;
+        plus[x] = table[at];
+        plus[x + 1] = table[at + 2];
+        minus[x] = table[at + 1];
+        minus[x + 1] = table[at + 3];
+        return;
     }
-    if x < z {
-        return table[2 * (b * b) + 2 + 2 * x + z % 2];
+    if j < a {
+        let at = 2 * (a * a) + 2 + 4 * j;
+        plus[x] = table[at];
+        plus[x + 1] = table[at + 1];
+        minus[x] = table[at + 2];
+        minus[x + 1] = table[at + 3];
+        return;
     }
-    table[2 * (a * a) + 2 + 2 * z + x % 2]
+    plus[x] = Sheet::NO_RULE;
+    plus[x + 1] = Sheet::NO_RULE;
+    minus[x] = Sheet::NO_RULE;
+    minus[x + 1] = Sheet::NO_RULE;
 }
 
-// Gathers the bounds of `z` with each literal of `n` quantities past the first `from`.
-pub(crate) fn gather(n: usize, table: &[i64], z: usize, from: usize, row: &mut [i64])
-    requires { ⌜ Gatherable n z from (now table) (now row) ⌝ }
-    ensures { λ _. ⌜ RowGathered n z from (now (table .entry)) (now (row .entry)) (now (row .exit)) ⌝ }
+// Gathers the bounds of quantity `j + 1` with each live quantity.
+pub(crate) fn gather(
+    n: usize,
+    table: &[i64],
+    j: usize,
+    live: &[usize],
+    plus: &mut [i64],
+    minus: &mut [i64],
+)
+    requires { ⌜ StepReady n j (now live) (now table) (now plus) (now minus) ⌝ }
+    ensures { λ _. ⌜ Gathered n j (now (live .entry)) (now (table .entry)) (now (plus .exit)) (now (minus .exit)) ⌝ }
 {
-    let mut x = 2 * from;
-    while x < 2 * n {
-        let w = pair_word(n, table, z, x);
-        row[x] = w;
-        x = x + 1;
+    let mut i = 0;
+    while i < live.len() {
+        gather_pair(table, j, live[i], plus, minus);
+        i = i + 1;
     }
 }

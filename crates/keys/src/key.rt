@@ -1,6 +1,7 @@
 // The key call: the sheet's table is replaced by its key.
 use crate::checks;
 use crate::decide;
+use crate::live;
 use rules::hidden;
 use rules::hidden::Set;
 use rules::paper;
@@ -14,20 +15,28 @@ ghost use mathlib.Core.Bool.{cond};
 ghost use Prim.Native.Nat.{suc};
 ghost use Rattle.rules.specs.Hidden.{hiddenIn};
 ghost use Rattle.elimination.specs.Hiding.{eliminated};
-ghost use Rattle.elimination.specs.Inner.{Ready};
 ghost use Rattle.keys.specs.Keys.{keyOf};
-ghost use Rattle.keys.specs.Inner.{Fits, KeyChecked};
+ghost use Rattle.keys.specs.Inner.{Fits, MemberReady, KeyChecked};
 ghost use Rattle.keys.specs.Promises.{Keyed};
 
-// Hides quantity `j + 1` where the set has it.
-fn hide_member(n: usize, set: Set, table: &mut [i64], j: usize)
-    requires { ⌜ Ready n j (now table) ⌝ }
+// Hides quantity `j + 1` where the set has it; of the set none before it is named by a rule any more. List and rows are free.
+fn hide_member(
+    n: usize,
+    set: Set,
+    table: &mut [i64],
+    j: usize,
+    list: &mut [usize],
+    plus: &mut [i64],
+    minus: &mut [i64],
+)
+    requires { ⌜ MemberReady n set j (now table) (now list) (now plus) (now minus) ⌝ }
     ensures { λ _. ⌜ now (table .exit) ≡ cond (hiddenIn set (suc j)) (eliminated n j (now (table .entry))) (now (table .entry)) ⌝ }
 {
     if !hidden::is_hidden(set, j + 1) {
         return;
     }
-    elimination::hide::hide(n, table, j);
+    let count = live::list(n, set, j + 1, list);
+    elimination::hide::hide(n, table, j, &list[..count], plus, minus);
 }
 
 // Hides each quantity of the set in increasing number.
@@ -35,9 +44,12 @@ pub fn hide_set(n: usize, set: Set, table: &mut [i64])
     requires { ⌜ Fits n (now table) ⌝ }
     ensures { λ _. ⌜ now (table .exit) ≡ keyOf (hiddenIn set) n (now (table .entry)) ⌝ }
 {
+    let mut list = [0; live::MOST];
+    let mut plus = [0; live::ROW];
+    let mut minus = [0; live::ROW];
     let mut j = 0;
     while j < n {
-        hide_member(n, set, table, j);
+        hide_member(n, set, table, j, &mut list, &mut plus, &mut minus);
         j = j + 1;
     }
 }
@@ -69,7 +81,7 @@ pub fn key(n: usize, hidden: Set, table: &mut [i64], workspace: &mut [i64]) -> R
     let Reply::Done = checked else {
         return checked;
     };
-    if decide::decide(n, table, workspace) {
+    if decide::decide(n, 0, table, workspace) {
         return Reply::Refused(Refusal::NoAssignment);
     }
     hide_set(n, hidden, table);

@@ -1,4 +1,5 @@
 // Marking two tables: the verdict on a script, the rule that it carries and the assignment that shows it.
+mod below;
 mod breaking;
 mod check;
 pub mod mark;

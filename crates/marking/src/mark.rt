@@ -1,13 +1,16 @@
 // Marking two tables: a script against a sheet.
+use crate::below;
 use crate::breaking;
 use crate::check;
 use crate::verdict::Marking;
 use crate::verdict::Verdict;
 use keys::assignment;
 use keys::decide;
-use keys::key;
+use keys::live;
+use places::Place;
 use rules::hidden::Set;
 use rules::rule::Rule;
+use tables::place;
 use tables::reply::Reply;
 use tables::table;
 ghost use mathlib.Core.Bool.{true};
@@ -31,10 +34,10 @@ fn unsatisfiable_sheet(
     ensures { λ r. ⌜ VerdictGiven n set (now (sheet .entry)) (now (script .entry))
         (now (workspace .entry)) (now (values .entry)) r (now (workspace .exit)) (now (values .exit)) ⌝ }
 {
-    if decide::decide(n, script, workspace) {
+    if decide::decide(n, set, script, workspace) {
         return Verdict::Equal;
     }
-    assignment::fill(n, workspace, values);
+    assignment::fill(n, set, workspace, values);
     Verdict::Loose(Rule::trivial())
 }
 
@@ -51,21 +54,22 @@ fn verdict(
     ensures { λ r. ⌜ VerdictGiven n set (now (sheet .entry)) (now (script .entry))
         (now (workspace .entry)) (now (values .entry)) r (now (workspace .exit)) (now (values .exit)) ⌝ }
 {
-    if decide::decide(n, sheet, workspace) {
+    let mut list = [0; live::MOST];
+    let count = live::list(n, set, n, &mut list);
+    if breaking::reduce_sheet(n, set, &list[..count], sheet, workspace) {
         return unsatisfiable_sheet(n, set, sheet, script, workspace, values);
     }
-    words::copy(workspace, sheet, table::size(n));
-    key::hide_set(n, set, workspace);
-    let loose = breaking::break_first(n, script, workspace, values);
+    let tight = below::first_below(&list[..count], script, &workspace[table::size(n)..]);
+    let loose = breaking::break_key(n, set, &list[..count], script, workspace, values);
     if loose.has_term() {
         return Verdict::Loose(loose);
     }
-    words::copy(workspace, script, table::size(n));
-    let tight = breaking::break_first(n, sheet, workspace, values);
-    if tight.has_term() {
-        return Verdict::Tight(tight);
-    }
-    Verdict::Equal
+    let Place::At(k) = tight else {
+        return Verdict::Equal;
+    };
+    let rule = place::rule_at(k as u32, script[k]);
+    breaking::break_sheet(n, set, &list[..count], rule, workspace, values);
+    Verdict::Tight(rule)
 }
 
 // Marks the script against the sheet, both tables over `n` quantities, those of the set `hidden` hidden. For loose and tight, `values` gets an assignment that shows

@@ -1,18 +1,20 @@
 -- The search of two rows for a bare sum below 0: as far as it has come, where it ends, and what it tells of gathered rows. Assumes nothing.
-use mathlib.Core.Path.{_≡_, refl, ap}
+use mathlib.Core.Path.{_≡_, refl, sym, ap}
 use mathlib.Core.Bool.{Bool, true, false, _&&_, _||_}
 use mathlib.Core.List.{List}
-use Prim.Native.Nat.{ℕ, zero, suc, _+_, _*_, _≤_, _<_}
+use Prim.Native.Nat.{ℕ, zero, suc, _+_, _*_, _/_, _≤_, _<_}
 use native.Mathlib.Omega.{arith}
-use lib.Dec.{leb, ltb, eqb}
+use lib.Dec.{ltb, eqb}
 use lib.IntN.{ℤ}
-use borrow.Author.Tests.{ltb-true, ltb-false, leb-true, eqb-true, eqb-false}
+use lib.ListN.{length, getD}
+use borrow.Author.Tests.{ltb-true, ltb-false, eqb-true, eqb-false}
 use Rattle.words.specs.Change.{wordAt}
 use Rattle.rules.specs.Literal.{negated}
 use Rattle.tables.proofs.Tests.{clash}
 use Rattle.elimination.specs.Hiding.{pairWord, loneWord, bareBelow, anyBare, contradicts}
-use Rattle.elimination.proofs.Step.{anyBare-clear}
-use Rattle.elimination.proofs.Rows.{Gathered}
+use Rattle.elimination.specs.Inner.{among, Gathered}
+use Rattle.elimination.proofs.Step.{anyBare-clear, negated-half}
+use Rattle.elimination.proofs.Lists.{listed-at, listed-place}
 
 -- the negations of a quantity's two literals
 negated-plus : (b : ℕ) → negated (2 * b) ≡ 2 * b + 1
@@ -21,56 +23,87 @@ negated-plus b = omega arith
 negated-minus : (b : ℕ) → negated (2 * b + 1) ≡ 2 * b
 negated-minus b = omega arith
 
-module _ (from : ℕ) (plus minus : ℕ → ℤ) where
-  -- the first quantities are not looked at
-  pub any-none : (x : ℕ) → x ≤ 2 * from → anyBare from plus minus x ≡ false
-  any-none x h = anyBare-clear from plus minus x .1 (λ y l g. let z : ⊥ = omega arith in absurd z)
+-- ---- over a list
 
-  -- one quantity more whose bare sums are no contradictions
-  pub any-more : (b : ℕ) → bareBelow (plus (2 * b)) (minus (2 * b + 1)) ≡ false → bareBelow (plus (2 * b + 1)) (minus (2 * b)) ≡ false
-      → anyBare from plus minus (2 * b) ≡ false → anyBare from plus minus (2 * (b + 1)) ≡ false
-  any-more b e f a = anyBare-clear from plus minus (2 * (b + 1)) .1 (λ x l h. go x l h (ltb x (2 * b)) refl (eqb x (2 * b)) refl)
+module _ (live : List ℕ) (plus minus : ℕ → ℤ) where
+  -- no bare sum of the first i listed quantities is a contradiction
+  pub record ClearTo (i : ℕ) : Type 0 where
+    pub with-plus : (h : ℕ) → h < i → bareBelow (plus (2 * getD live h 0)) (minus (2 * getD live h 0 + 1)) ≡ false
+    pub with-minus : (h : ℕ) → h < i → bareBelow (plus (2 * getD live h 0 + 1)) (minus (2 * getD live h 0)) ≡ false
+
+  -- there are none at first
+  pub clear-none : ClearTo 0
+  clear-none = record { with-plus = λ h l. let z : ⊥ = omega arith in absurd z; with-minus = λ h l. let z : ⊥ = omega arith in absurd z }
+
+  -- one more
+  pub clear-more : (i : ℕ) → bareBelow (plus (2 * getD live i 0)) (minus (2 * getD live i 0 + 1)) ≡ false
+      → bareBelow (plus (2 * getD live i 0 + 1)) (minus (2 * getD live i 0)) ≡ false → ClearTo i → ClearTo (suc i)
+  clear-more i e f c = record { with-plus = λ h l. first h l (ltb h i) refl; with-minus = λ h l. second h l (ltb h i) refl }
     where
-      go : (x : ℕ) → 2 * from ≤ x → x < 2 * (b + 1) → (c : Bool) → ltb x (2 * b) ≡ c → (d : Bool) → eqb x (2 * b) ≡ d
-          → bareBelow (plus x) (minus (negated x)) ≡ false
-      go x l h true p d q = anyBare-clear from plus minus (2 * b) .0 a x l (ltb-true x (2 * b) p)
-      go x l h false p true q = rw (eqb-true x (2 * b) q, negated-plus b) e
-      go x l h false p false q =
-          let s : x ≡ 2 * b + 1 = omega (arith, ltb-false x (2 * b) p, eqb-false x (2 * b) q) in rw (s, negated-minus b) f
+      first : (h : ℕ) → h < suc i → (b : Bool) → ltb h i ≡ b → bareBelow (plus (2 * getD live h 0)) (minus (2 * getD live h 0 + 1)) ≡ false
+      first h l true q = c .with-plus h (ltb-true h i q)
+      first h l false q = let d : h ≡ i = omega (arith, ltb-false h i q) in rw d e
+
+      second : (h : ℕ) → h < suc i → (b : Bool) → ltb h i ≡ b → bareBelow (plus (2 * getD live h 0 + 1)) (minus (2 * getD live h 0)) ≡ false
+      second h l true q = c .with-minus h (ltb-true h i q)
+      second h l false q = let d : h ≡ i = omega (arith, ltb-false h i q) in rw d f
+
+  -- and at last the search finds none
+  pub clear-all : (n : ℕ) → ClearTo (length live) → anyBare (among live) plus minus n ≡ false
+  clear-all n c = anyBare-clear (among live) plus minus n .1 each
+    where
+      go : (x h : ℕ) → h < length live → x / 2 ≡ getD live h 0 → (b : Bool) → eqb x (2 * getD live h 0) ≡ b → bareBelow (plus x) (minus (negated x)) ≡ false
+      go x h l e true q = rw (eqb-true x (2 * getD live h 0) q, negated-plus (getD live h 0)) (c .with-plus h l)
+      go x h l e false q =
+          let d : x ≡ 2 * getD live h 0 + 1 = omega (arith, eqb-false x (2 * getD live h 0) q) in rw (d, negated-minus (getD live h 0)) (c .with-minus h l)
+
+      each : (x : ℕ) → among live (x / 2) ≡ true → x < n → bareBelow (plus x) (minus (negated x)) ≡ false
+      each x e l = let s = listed-place live (x / 2) e in go x (s .place) (s .inside) (sym (s .is)) (eqb x (2 * getD live (s .place) 0)) refl
 
   -- a literal whose bare sum is one
-  any-found : (m x y : ℕ) → 2 * from ≤ x → x < m → negated x ≡ y → bareBelow (plus x) (minus y) ≡ true → anyBare from plus minus m ≡ true
-  any-found m x y h l n e = go (anyBare from plus minus m) refl
+  any-found : (m x y : ℕ) → among live (x / 2) ≡ true → x < m → negated x ≡ y → bareBelow (plus x) (minus y) ≡ true → anyBare (among live) plus minus m ≡ true
+  any-found m x y h l n e = go (anyBare (among live) plus minus m) refl
     where
-      go : (b : Bool) → anyBare from plus minus m ≡ b → b ≡ true
+      go : (b : Bool) → anyBare (among live) plus minus m ≡ b → b ≡ true
       go true d = refl
-      go false d = clash e (rw n at (anyBare-clear from plus minus m .0 d x h l))
+      go false d = clash e (rw n at (anyBare-clear (among live) plus minus m .0 d x h l))
 
-  -- a quantity one of whose bare sums is
-  pub any-plus : (n b : ℕ) → from ≤ b → b < n → bareBelow (plus (2 * b)) (minus (2 * b + 1)) ≡ true → anyBare from plus minus (2 * n) ≡ true
-  any-plus n b h l = any-found (2 * n) (2 * b) (2 * b + 1) (omega arith) (omega arith) (negated-plus b)
+  -- a listed quantity one of whose bare sums is
+  pub any-plus : (n i : ℕ) → i < length live → getD live i 0 < n → bareBelow (plus (2 * getD live i 0)) (minus (2 * getD live i 0 + 1)) ≡ true
+      → anyBare (among live) plus minus (2 * n) ≡ true
+  any-plus n i h l =
+      let e : 2 * getD live i 0 / 2 ≡ getD live i 0 = omega arith in
+      any-found (2 * n) (2 * getD live i 0) (2 * getD live i 0 + 1) (rw e (listed-at live i h)) (omega arith) (negated-plus (getD live i 0))
 
-  pub any-minus : (n b : ℕ) → from ≤ b → b < n → bareBelow (plus (2 * b + 1)) (minus (2 * b)) ≡ true → anyBare from plus minus (2 * n) ≡ true
-  any-minus n b h l = any-found (2 * n) (2 * b + 1) (2 * b) (omega arith) (omega arith) (negated-minus b)
+  pub any-minus : (n i : ℕ) → i < length live → getD live i 0 < n → bareBelow (plus (2 * getD live i 0 + 1)) (minus (2 * getD live i 0)) ≡ true
+      → anyBare (among live) plus minus (2 * n) ≡ true
+  any-minus n i h l =
+      let e : (2 * getD live i 0 + 1) / 2 ≡ getD live i 0 = omega arith in
+      any-found (2 * n) (2 * getD live i 0 + 1) (2 * getD live i 0) (rw e (listed-at live i h)) (omega arith) (negated-minus (getD live i 0))
 
--- the search depends on the words of the literals past the first quantities alone
-any-same : (from n : ℕ) (plus minus plus' minus' : ℕ → ℤ)
-    → ((x : ℕ) → 2 * from ≤ x → x < 2 * n → plus x ≡ plus' x)
-    → ((x : ℕ) → 2 * from ≤ x → x < 2 * n → minus x ≡ minus' x)
-    → (x : ℕ) → x ≤ 2 * n → anyBare from plus minus x ≡ anyBare from plus' minus' x
+-- ---- of gathered rows
+
+-- the search depends on the words of live literals alone
+any-same : (live : ℕ → Bool) (n : ℕ) (plus minus plus' minus' : ℕ → ℤ)
+    → ((x : ℕ) → x < 2 * n → live (x / 2) ≡ true → plus x ≡ plus' x)
+    → ((x : ℕ) → x < 2 * n → live (x / 2) ≡ true → minus x ≡ minus' x)
+    → (x : ℕ) → x ≤ 2 * n → anyBare live plus minus x ≡ anyBare live plus' minus' x
 unfolding anyBare
-any-same from n plus minus plus' minus' e d zero h = refl
-any-same from n plus minus plus' minus' e d (suc x) h =
-    rw (any-same from n plus minus plus' minus' e d x (omega arith)) (ap (λ (b : Bool). b || anyBare from plus' minus' x) (go (leb (2 * from) x) refl))
+any-same live n plus minus plus' minus' e d zero h = refl
+any-same live n plus minus plus' minus' e d (suc x) h =
+    rw (any-same live n plus minus plus' minus' e d x (omega arith)) (ap (λ (b : Bool). b || anyBare live plus' minus' x) (go (live (x / 2)) refl))
   where
-    go : (b : Bool) → leb (2 * from) x ≡ b → (b && bareBelow (plus x) (minus (negated x))) ≡ (b && bareBelow (plus' x) (minus' (negated x)))
-    go true q = rw (e x (leb-true (2 * from) x q) (omega arith), d (negated x) (omega (arith, leb-true (2 * from) x q)) (omega arith))
+    go : (b : Bool) → live (x / 2) ≡ b → (b && bareBelow (plus x) (minus (negated x))) ≡ (b && bareBelow (plus' x) (minus' (negated x)))
+    go true q = rw (e x (omega arith) q, d (negated x) (omega arith) (rw (negated-half x) q))
     go false q = refl
 
 -- gathered rows tell whether a sum of the table is a contradiction
-pub contradicts-rows : (n j from : ℕ) (t plus minus : List ℤ) (b : Bool)
-    → Gathered n from t (2 * j) plus → Gathered n from t (2 * j + 1) minus → b ≡ bareBelow (loneWord t (2 * j)) (loneWord t (2 * j + 1))
-    → (b || anyBare from (wordAt plus) (wordAt minus) (2 * n)) ≡ contradicts from n j t
+pub contradicts-rows : (n j : ℕ) (live : List ℕ) (t plus minus : List ℤ) (b : Bool) → Gathered n j live t plus minus
+    → b ≡ bareBelow (loneWord t (2 * j)) (loneWord t (2 * j + 1))
+    → (b || anyBare (among live) (wordAt plus) (wordAt minus) (2 * n)) ≡ contradicts (among live) n j t
 unfolding contradicts
-contradicts-rows n j from t plus minus b p m e =
-    rw (e, any-same from n (wordAt plus) (wordAt minus) (pairWord t (2 * j)) (pairWord t (2 * j + 1)) (p .bounds) (m .bounds) (2 * n) (omega arith))
+contradicts-rows n j live t plus minus b g e =
+    rw (
+      e,
+      any-same (among live) n (wordAt plus) (wordAt minus) (pairWord t (2 * j)) (pairWord t (2 * j + 1)) (g .plus-bounds) (g .minus-bounds) (2 * n) (omega arith),
+    )

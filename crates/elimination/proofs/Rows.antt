@@ -1,5 +1,5 @@
 -- The rows of a step: the words of a row, and the rows gathered from a table. Assumes nothing.
-use mathlib.Core.Path.{_≡_, refl, sym, _∙_, ap}
+use mathlib.Core.Path.{_≡_, refl, sym, _∙_}
 use mathlib.Core.Bool.{Bool, true, false}
 use mathlib.Core.List.{List}
 use Prim.Native.Nat.{ℕ, suc, _+_, _*_, _/_, _^_, _≤_, _<_}
@@ -17,7 +17,7 @@ use Rattle.words.specs.Change.{wordAt}
 use Rattle.places.specs.Numbering.{blockStart}
 use Rattle.elimination.specs.Hiding.{pairWord}
 use Rattle.elimination.specs.Magnitude.{addLimit}
-use Rattle.elimination.specs.Inner.{Addable, among, Rising, Listed, Ready, Row, Gathered}
+use Rattle.elimination.specs.Inner.{Addable, Rising, Ready, Row, Gathered}
 use Rattle.elimination.proofs.TermWords.{pair-within}
 use Rattle.elimination.proofs.Lists.{listed-at, listed-place, rising-above}
 
@@ -83,7 +83,7 @@ put-other : (a x : ℕ) (u v : ℤ) (row : List ℤ) → (x / 2 ≡ a → ⊥) �
 put-other a x u v row d =
     getD-set-other (set row (2 * a) u) (2 * a + 1) x v (pos 0) (λ e. d (omega arith)) ∙ getD-set-other row (2 * a) x u (pos 0) (λ e. d (omega arith))
 
--- one listed quantity more: later ones are others
+-- one listed quantity more: it is none of those before it
 pub filled-more : (i : ℕ) (live : List ℕ) (word : ℕ → ℤ) (row row' : List ℤ) → Rising live → i < length live → 2 * getD live i 0 + 2 ≤ length row
     → row' ≡ set (set row (2 * getD live i 0) (word (2 * getD live i 0))) (2 * getD live i 0 + 1) (word (2 * getD live i 0 + 1))
     → FilledTo i live word row → FilledTo (suc i) live word row'

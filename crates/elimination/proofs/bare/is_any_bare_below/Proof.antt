@@ -1,8 +1,7 @@
 -- `bare::is_any_bare_below` meets its contract. The loop's invariant: no bare sum of the quantities passed is a contradiction. The measure is what
 -- is left of the list. Assumes nothing.
 use mathlib.Core.Path.{_≡_, sym, _∙_}
-use mathlib.Core.Bool.{false}
-use Prim.Native.Nat.{ℕ, suc, _+_, _-_, _*_, _≤_, _<_}
+use Prim.Native.Nat.{_+_, _-_, _*_, _≤_, _<_}
 use native.Mathlib.Numerals.{add-one}
 use native.Mathlib.Omega.{arith}
 use lib.ListN.{length, getD}
@@ -10,7 +9,7 @@ use denote.Ref.{now}
 use Rattle.integers.proofs.Parts.{held-value}
 use Rattle.words.specs.Change.{wordAt}
 use Rattle.rules.specs.Limits.{maxQuantities}
-use Rattle.elimination.specs.Hiding.{bareBelow, anyBare}
+use Rattle.elimination.specs.Hiding.{bareBelow}
 use Rattle.elimination.proofs.Rows.{row-held}
 use Rattle.elimination.proofs.BareSums.{ClearTo, clear-none, clear-more, clear-all, any-plus, any-minus}
 use Rattle.elimination.proofs.bare.is_any_bare_below.Statement.{statement}

@@ -1,12 +1,11 @@
 -- `row::gather` meets its contract. The loop's invariant: the bounds with the quantities passed are gathered, and the rows keep their lengths. The measure is
 -- what is left of the list. Assumes nothing.
 use mathlib.Core.Path.{_≡_, refl, _∙_}
-use Prim.Native.Nat.{ℕ, suc, _+_, _-_, _*_, _≤_, _<_}
+use Prim.Native.Nat.{suc, _+_, _-_, _*_, _≤_, _<_}
 use native.Mathlib.Numerals.{add-one}
 use native.Mathlib.Omega.{arith}
-use lib.ListN.{length, getD, length-set}
+use lib.ListN.{length, getD}
 use denote.Ref.{now}
-use Rattle.places.specs.Numbering.{blockStart}
 use Rattle.places.proofs.Numbering.{blockStart-mono}
 use Rattle.elimination.specs.Hiding.{pairWord}
 use Rattle.elimination.proofs.Rows.{FilledTo, filled-none, filled-more, filled-all}

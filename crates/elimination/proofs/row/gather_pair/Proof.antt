@@ -1,11 +1,12 @@
--- `row::gather_pair` meets its contract. Assumes nothing.
-use mathlib.Core.Path.{_≡_, refl, sym, _∙_, ap}
+-- `row::gather_pair` meets its contract: the places read are those of the two quantities' terms, in the block of the higher one. Assumes nothing.
+use mathlib.Core.Path.{_≡_, sym, _∙_, ap}
 use mathlib.Core.List.{List}
 use Prim.Native.Nat.{ℕ, suc, _+_, _*_, _/_, _%_, _≤_, _<_}
 use native.Mathlib.Omega.{arith}
 use lib.IntN.{ℤ}
 use lib.ListN.{length, set, length-set}
 use denote.Ref.{now}
+use borrow.Author.Needs.{needs}
 use Rattle.integers.proofs.Parts.{held-value}
 use Rattle.words.specs.Change.{wordAt}
 use Rattle.places.specs.Numbering.{blockStart, placeOfPair}
@@ -14,7 +15,6 @@ use Rattle.rules.specs.Limits.{maxQuantities, noRule}
 use Rattle.tables.proofs.Sizes.{small-square}
 use Rattle.elimination.specs.Hiding.{pairWord}
 use Rattle.elimination.proofs.TermWords.{pair-same, pair-first, pair-second}
-use borrow.Author.Needs.{needs}
 use Rattle.elimination.proofs.row.gather_pair.Statement.{statement}
 use Rattle.elimination.proofs.row.gather_pair.Tie as tie
 
@@ -37,11 +37,11 @@ high-word t x z a k e l p = let place : k ≡ placeOfPair z x = rw e p in ap (wo
 own-word : (t : List ℤ) (x z : ℕ) → x / 2 ≡ z / 2 → noRule ≡ pairWord t z x
 own-word t x z e = sym (pair-same t z x (sym e))
 
--- two words put in that are others
+-- equal words put in leave equal rows
 set-two : (row : List ℤ) (x : ℕ) {u v w z : ℤ} → u ≡ w → v ≡ z → set (set row x u) (x + 1) v ≡ set (set row x w) (x + 1) z
 set-two row x e f = rw (e, f)
 
--- where the other quantity is lower, and where it is higher
+-- the block read where the other quantity is lower, and where it is higher
 low : (c : tie.Then1) → let s = c .before in
     (s .args .j * s .args .j ≤ maxQuantities * maxQuantities) × (2 * (s .args .j * s .args .j) + 4 * s .args .j + 2 ≤ length (now (s .args .table)))
 low c = let s = c .before in block-facts (s .args .j) _ (s .pre .one) (s .pre .one-room)

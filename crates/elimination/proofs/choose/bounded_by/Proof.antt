@@ -3,21 +3,20 @@
 use mathlib.Core.Path.{_≡_, refl, sym, _∙_, ap}
 use mathlib.Core.Bool.{Bool, true, false}
 use mathlib.Core.List.{List}
-use Prim.Native.Nat.{ℕ, suc, _+_, _-_, _*_, _/_, _%_, _≤_, _<_}
+use Prim.Native.Nat.{ℕ, suc, _+_, _-_, _*_, _/_, _≤_, _<_}
 use native.Mathlib.Numerals.{add-one}
 use native.Mathlib.Omega.{arith}
 use lib.Dec.{ltb}
-use lib.IntN.{ℤ, pos, negℤ, _+ℤ_}
+use lib.IntN.{ℤ, pos, negℤ}
 use lib.ListN.{length, getD}
 use mir.Syntax.{w64}
-use mir.Val.{SFits, toZ, ofZ}
+use mir.Val.{toZ, ofZ}
 use denote.Ref.{now}
 use borrow.Author.Tests.{ltb-true, ltb-false}
 use Rattle.integers.proofs.Parts.{positivePart, negativePart, held-value, word-value}
 use Rattle.integers.proofs.Within.{within-of, within-neg}
 use Rattle.words.specs.Change.{wordAt}
 use Rattle.rules.specs.Limits.{maxQuantities}
-use Rattle.rules.specs.Literal.{quantityOf}
 use Rattle.rules.specs.Meaning.{literalValue}
 use Rattle.rules.proofs.Literals.{value-plus, value-minus}
 use Rattle.tables.specs.Meaning.{assignmentOf}
@@ -177,7 +176,7 @@ shared-slice-copy-out-with-upper : tie.Need-shared-slice-copy-out-with-upper Inv
 shared-slice-copy-out-with-upper c = omega (arith, here (c .before .before))
 
 with-upper-requires-2 : tie.Need-with-upper-requires-2 Inv-loop μ-loop
-with-upper-requires-2 c κs = 
+with-upper-requires-2 c κs =
     let k = c .before .before .before in
     let l = k .before in let s = l .before .before .before in let a = getD (now (s .args .live)) (l .loop .i) 0 in (
       row-held (s .args .n) (now (s .args .live)) (now (s .args .row)) (l .loop .i) (2 * a) (s .pre .1) (k .loop-test .taken) (omega arith) (omega (arith, here k)) (c .with-upper-arg .given),
@@ -197,7 +196,7 @@ sub-with-upper : tie.Need-sub-with-upper Inv-loop μ-loop
 sub-with-upper c = rw (value-word (c .before .before .before)) (zero-less-word (omega arith) (in-range (c .before .before .before .before .before)))
 
 with-upper-requires-3 : tie.Need-with-upper-requires-3 Inv-loop μ-loop
-with-upper-requires-3 c κs = 
+with-upper-requires-3 c κs =
     let k = c .before .before .before .before .before in
     let l = k .before in let s = l .before .before .before in let a = getD (now (s .args .live)) (l .loop .i) 0 in (
       row-held (s .args .n) (now (s .args .live)) (now (s .args .row)) (l .loop .i) (2 * a + 1) (s .pre .1) (k .loop-test .taken) (omega arith) (omega (arith, here k)) (c .with-upper-arg2 .given),
@@ -249,7 +248,7 @@ loop-again c =
     )
 
 returns : tie.Need-returns Inv-loop μ-loop
-returns c = 
+returns c =
     let s = c .before .before .before .before in
     let l = c .before .loop in
     let e : l .i ≡ length (now (s .args .live)) = omega arith in

@@ -1,5 +1,5 @@
 -- The contract of hiding one quantity, from plain facts. Assumes nothing.
-use mathlib.Core.Path.{_≡_, sym, _∙_}
+use mathlib.Core.Path.{_≡_, refl, sym, _∙_}
 use mathlib.Core.Bool.{Bool}
 use mathlib.Core.List.{List}
 use Prim.Native.Nat.{ℕ, suc, _+_, _≤_, _<_}
@@ -22,11 +22,19 @@ use Rattle.elimination.proofs.Exact.{eliminate-exact, eliminate-none}
 use Rattle.elimination.proofs.Growth.{eliminated-within}
 use Rattle.elimination.proofs.Document.{by-rules}
 use Rattle.elimination.proofs.SumOver.{sums-over}
-use Rattle.elimination.specs.Inner.{Ready}
+use Rattle.elimination.specs.Inner.{among, Ready, NamesAlone}
+use Rattle.elimination.proofs.Fewer.{fewer-paired, fewer-contradicts}
 
 clear-done : (n j words : ℕ) → j < n → n ≤ maxQuantities → blockStart n ≤ words → clearReply n words (suc j) ≡ Done
 unfolding clearReply
 clear-done n j words h g l = rw (long-serves n words (omega arith) g l, le-leb 1 (suc j) (omega arith), le-leb (suc j) n (omega arith))
+
+-- where the rules name the quantity and live ones alone, a pairing of these is one of all
+pub paired-alone : (n j : ℕ) (live : List ℕ) (t u : List ℤ) (r : Bool) → Ready n j t → NamesAlone n j live t → Paired (among live) n j t r u → Paired every n j t r u
+paired-alone n j live t u r s a p = record {
+  reply = p .reply ∙ sym (fewer-contradicts every (among live) n j t (s .room) (s .one) (λ i h e. refl) (λ i h d e f. a i h d f));
+  table = p .table ∙ sym (fewer-paired every (among live) n j t (s .room) (s .one) (λ i h e. refl) (λ i h d e f. a i h d f));
+}
 
 -- the sums put in, then the quantity's places cleared
 pub hidden-done : (n j : ℕ) (t u v : List ℤ) (r : Bool) (reply : Reply) → Ready n j t → Paired every n j t r u → Cleared n (j + 1) u reply v → QuantityHidden n j t r v

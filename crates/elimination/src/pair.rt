@@ -45,7 +45,14 @@ fn pair_twos(table: &mut [i64], i: usize, live: &[usize], plus: &[i64], minus: &
         let plus_not_x = plus[x + 1];
         let minus_not_x = minus[x + 1];
         pair_two(table, at + 2, plus_not_x, minus_not_x, plus_y, minus_y);
-        pair_two(table, at + 3, plus_not_x, minus_not_x, plus_not_y, minus_not_y);
+        pair_two(
+            table,
+            at + 3,
+            plus_not_x,
+            minus_not_x,
+            plus_not_y,
+            minus_not_y,
+        );
         h = h + 1;
     }
 }

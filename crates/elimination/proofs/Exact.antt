@@ -114,7 +114,7 @@ unfolding eliminated cleared
 eliminate-length n j t = change-length (blockStart n) (clearing (suc j)) (paired every n j t) ∙ paired-length every n j t
 
 -- the table with the quantity hidden says of the other literals what the paired table does
-eliminated-met : (n j : ℕ) (t : List ℤ) (σ : Assignment) → blockStart n ≤ length t
+pub eliminated-met : (n j : ℕ) (t : List ℤ) (σ : Assignment) → blockStart n ≤ length t
     → Satisfies n (eliminated n j t) σ ↔ TermsMet (Others every n j) (paired every n j t) σ
 unfolding eliminated
 eliminated-met n j t σ l =

@@ -11,6 +11,7 @@ pub mod Feasible
 pub mod Growth
 pub mod Unnamed
 pub mod Fewer
+pub mod Alike
 pub mod DocumentTerms
 pub mod Document
 pub mod SumOver

@@ -1,40 +1,83 @@
 -- 'No assignment' as the program decides it is document 01's, and is given exactly when no integers satisfy the table. Assumes nothing.
-use mathlib.Core.Path.{_≡_, refl, _∙_}
-use mathlib.Core.Bool.{Bool, true, false}
+use mathlib.Core.Path.{_≡_, refl, sym, _∙_}
+use mathlib.Core.Bool.{Bool, true, false, cond, and-false}
 use mathlib.Core.Logic.{_↔_}
 use mathlib.Core.List.{List}
-use Prim.Native.Nat.{ℕ, _≤_}
+use Prim.Native.Nat.{ℕ, zero, suc, _≤_, _<_}
 use native.Mathlib.Omega.{arith}
+use lib.Dec.{eqb, leb}
 use lib.IntN.{ℤ, pos}
-use lib.ListN.{length, replicate, length-replicate}
-use Rattle.tables.specs.Meaning.{Satisfies, Satisfiable, Unsatisfiable, assignmentOf}
+use lib.ListN.{length}
+use borrow.Author.Tests.{le-leb}
 use Rattle.words.specs.Change.{change, copying}
-use Rattle.words.proofs.Change.{change-drop}
-use Rattle.places.specs.Numbering.{blockStart}
+use Rattle.words.proofs.Change.{change-length, change-drop}
+use Rattle.places.specs.Numbering.{blockStart, blockOf}
+use Rattle.places.proofs.Numbering.{block-below}
+use Rattle.rules.specs.Hidden.{hiddenIn}
 use Rattle.rules.specs.Limits.{maxQuantities}
+use Rattle.rules.specs.Meaning.{Assignment, names}
 use Rattle.tables.specs.Tables.{tableSize}
+use Rattle.tables.specs.Meaning.{HoldsRule, ruleIn, Satisfies, Satisfiable, Unsatisfiable, joined}
 use Rattle.tables.proofs.Tests.{clash}
+use Rattle.tables.proofs.Places.{own-named}
 use Rattle.tables.proofs.Sizes.{size-whole}
-use Rattle.keys.specs.Keys.{every, refuted}
-use Rattle.keys.specs.Inner.{pairUpTo, clashUpTo, fillDown, Fits, AllPaired, Decided}
-use Rattle.keys.proofs.Several.{refuted-true, refuted-false}
-use Rattle.keys.proofs.Copying.{SameTable, copied, same-back, same-satisfies, same-fits}
-use Rattle.keys.proofs.Fitting.{hide-ample}
-use Rattle.keys.proofs.Pairing.{pair-room, pair-only, clash-unsatisfiable}
-use Rattle.keys.proofs.Room.{reduced-closed}
-use Rattle.keys.proofs.Filling.{filled-satisfies}
+use Rattle.elimination.specs.Hiding.{every, eliminated}
+use Rattle.elimination.specs.Magnitude.{Unnamed}
+use Rattle.elimination.proofs.Exact.{eliminate-exact}
+use Rattle.keys.specs.declared.live.Part.the-variants.{Outside}
+use Rattle.keys.specs.Keys.{hideUpTo, keyOf, refuted}
+use Rattle.keys.specs.Inner.{outside, memberOf, Fits, PartFits, RestFits, AtTurns, SetEliminated, Decided}
+use Rattle.keys.proofs.Several.{AmpleUpTo, hideUpTo-unnamed, refuted-true, refuted-false}
+use Rattle.keys.proofs.Copying.{SameTable, copied, same-back, same-satisfies, same-part, same-turns}
+use Rattle.keys.proofs.Fitting.{hide-unnamed, set-ample, hide-ample}
 
--- where no contradiction is met, the values read back satisfy the table
-pub reduced-satisfies : (n : ℕ) (t values : List ℤ) (f : Fits n t) → n ≤ length values → clashUpTo true n n t ≡ false
-    → Satisfies n t (assignmentOf (fillDown n (pairUpTo true n n t) n values))
-reduced-satisfies n t values f h e =
-    pair-only true n n t (assignmentOf (fillDown n (pairUpTo true n n t) n values)) (f .grows .room)
-    (filled-satisfies n (pairUpTo true n n t) values h (pair-room true n n t (f .grows .room)) (reduced-closed n n t f (omega arith) e))
+-- ---- members eliminated without a contradiction
 
--- so some integers do
-reduced-satisfiable : (n : ℕ) (t : List ℤ) → Fits n t → clashUpTo true n n t ≡ false → Satisfiable n t
-reduced-satisfiable n t f e =
-    let s = reduced-satisfies n t (replicate n (pos 0)) f (omega (arith, length-replicate n (pos 0))) e in record { assignment = _; satisfies = s }
+-- what satisfies the table with the members hidden is completed step by step
+turns-some : (members : ℕ → Bool) (n m : ℕ) (t u : List ℤ) (σ : Assignment) → m ≤ n → AmpleUpTo members n t → AtTurns members n n t u
+    → Satisfies n (hideUpTo members n m t) σ → Satisfiable n t
+unfolding hideUpTo
+turns-some members n zero t u σ h a e s = record { assignment = σ; satisfies = s }
+turns-some members n (suc j) t u σ h a e s = go (λ τ. turns-some members n j t u τ (omega arith) a e) (members (suc j)) refl s
+  where
+    before : List ℤ
+    before = hideUpTo members n j t
+
+    go : ((τ : Assignment) → Satisfies n before τ → Satisfiable n t) → (b : Bool) → members (suc j) ≡ b
+        → Satisfies n (cond b (eliminated n j before) before) σ → Satisfiable n t
+    go ih true d w =
+        let c = eliminate-exact n j 4611686018427387903 before σ (a j (omega arith)) (omega arith) (e .clear j (omega arith) d) .0 w in
+        ih (joined (eqb (suc j)) σ (c .hiddens)) (c .complete)
+    go ih false d w = ih σ w
+
+-- with all quantities outside a set hidden, and none in it named, no rule is left
+pub rest-left : (n set : ℕ) (t : List ℤ) → RestFits n set t → (σ : Assignment) → Satisfies n (keyOf (outside set) n t) σ
+unfolding keyOf
+rest-left n set t f σ = record { each = λ k p. clash (named k p) (unnamed k p) }
+  where
+    u : List ℤ
+    u = hideUpTo (outside set) n n t
+
+    gone : (i : ℕ) → i < n → (b : Bool) → hiddenIn set (suc i) ≡ b → Unnamed n i u
+    gone i h true e = hide-unnamed (outside set) n n i t (omega arith) (f .sums .room) (f .alone i h (rw e (and-false (leb 0 i))))
+    gone i h false e = hideUpTo-unnamed (outside set) n n i t (omega arith) (f .sums .room) (rw (le-leb (suc i) n h, e))
+
+    named : (k : ℕ) → HoldsRule n u k → names (suc (blockOf k)) (ruleIn u k) ≡ true
+    named k p = own-named (blockOf k) k _ refl
+
+    unnamed : (k : ℕ) → HoldsRule n u k → names (suc (blockOf k)) (ruleIn u k) ≡ false
+    unnamed k p = gone (blockOf k) (block-below n k (p .inside)) (hiddenIn set (suc (blockOf k))) refl .each k p
+
+-- so some integers satisfy the table
+pub reduced-satisfiable : (n set : ℕ) (t u : List ℤ) → RestFits n set t → AtTurns (outside set) n n t u → Satisfiable n t
+unfolding keyOf
+reduced-satisfiable n set t u f a = turns-some (outside set) n n t u (λ q. pos 0) (omega arith) (set-ample (outside set) n t (f .sums)) a (rest-left n set t f (λ q. pos 0))
+
+-- ---- document 01's decision
+
+-- where rules name no quantity of a set, sums fit whatever is eliminated
+pub rest-fits : (n set : ℕ) (t : List ℤ) → RestFits n set t → Fits n t
+rest-fits n set t f = record { members = outside set; sums = f .sums; rest = λ j h e. f .alone j h (rw e (and-false (leb 0 j))) }
 
 -- a decision that is true only where no integers satisfy the table, and false only where some do, is document 01's
 pub decides-refuted : (n : ℕ) (t : List ℤ) (b : Bool) → Fits n t → (b ≡ true → Unsatisfiable n t) → (b ≡ false → Satisfiable n t) → b ≡ refuted n t
@@ -42,48 +85,51 @@ decides-refuted n t b f none some = go b refl (refuted n t) refl
   where
     go : (a : Bool) → b ≡ a → (c : Bool) → refuted n t ≡ c → a ≡ c
     go true d true e = refl
-    go true d false e = let s = refuted-false n t (f .grows .room) (hide-ample every n t f) e in absurd (none d (s .assignment) (s .satisfies))
+    go true d false e = let s = refuted-false n t (f .sums .room) (hide-ample every n t f) e in absurd (none d (s .assignment) (s .satisfies))
     go false d true e = let s = some d in absurd (refuted-true n t (hide-ample every n t f) e (s .assignment) (s .satisfies))
     go false d false e = refl
 
--- so is that of a table reduced, also of a copy of it
-pub reduced-refuted : (n : ℕ) (t u : List ℤ) → SameTable n t u → Fits n t → clashUpTo true n n u ≡ refuted n t
-reduced-refuted n t u same f =
-    decides-refuted n t (clashUpTo true n n u) f
-    (λ d σ s. clash-unsatisfiable true n n u σ (omega arith) (same .theirs) d (same-satisfies n t u σ same s))
-    (λ d. let s = reduced-satisfiable n u (same-fits n t u same f) d in
-    record { assignment = s .assignment; satisfies = same-satisfies n u t (s .assignment) (same-back n t u same) (s .satisfies) })
-
--- the decision is true exactly when no integers satisfy the table
+-- it is true exactly when no integers satisfy the table
 pub refuted-exactly : (n : ℕ) (t : List ℤ) → Fits n t → (refuted n t ≡ true) ↔ Unsatisfiable n t
 refuted-exactly n t f = (refuted-true n t (hide-ample every n t f), λ u. go u (refuted n t) refl)
   where
     go : Unsatisfiable n t → (b : Bool) → refuted n t ≡ b → b ≡ true
     go u true e = refl
     go u false e =
-        let s = refuted-false n t (f .grows .room) (hide-ample every n t f) e in absurd (u (s .assignment) (s .satisfies))
+        let s = refuted-false n t (f .sums .room) (hide-ample every n t f) e in absurd (u (s .assignment) (s .satisfies))
 
 -- ---- in the workspace
 
 copy-whole : (n m : ℕ) (t w u : List ℤ) → n ≤ maxQuantities → m ≡ tableSize n → u ≡ change m (copying t) w → u ≡ change (blockStart n) (copying t) w
 copy-whole n m t w u h d e = let p : m ≡ blockStart n = d ∙ size-whole n h in rw p at e
 
-pub copy-fits : (n m : ℕ) (t w u : List ℤ) → Fits n t → blockStart n ≤ length w → m ≡ tableSize n → u ≡ change m (copying t) w → Fits n u
-copy-fits n m t w u f l d e =
-    rw (copy-whole n m t w u (f .most) d e) (same-fits n t (change (blockStart n) (copying t) w) (copied n t w (f .grows .room) l) f)
+module _ (n m set : ℕ) (t w u : List ℤ) (f : RestFits n set t) (l : blockStart n ≤ length w) (d : m ≡ tableSize n) (e : u ≡ change m (copying t) w) where
+  whole : u ≡ change (blockStart n) (copying t) w
+  whole = copy-whole n m t w u (f .sums .most) d e
 
--- a copy reduced decides the table
-pub copy-decides : (n m : ℕ) (t w u w' : List ℤ) (r : Bool) → Fits n t → blockStart n ≤ length w → m ≡ tableSize n → u ≡ change m (copying t) w
-    → length w' ≡ length w → AllPaired true n u r w' → Decided n t w r w'
-copy-decides n m t w u w' r f l d e g p = record {
-  reply = same;
-  meaning = rw same (refuted-exactly n t f);
-  words = λ h. p .table h ∙ rw whole;
-  lent = record { size = g; rest = p .lent .rest ∙ rw whole (change-drop (blockStart n) (copying t) w); kept = λ h. clash refl h };
-}
-  where
-    whole : u ≡ change (blockStart n) (copying t) w
-    whole = copy-whole n m t w u (f .most) d e
+  same : SameTable n t u
+  same = rw whole (copied n t w (f .sums .room) l)
 
-    same : r ≡ refuted n t
-    same = p .reply ∙ rw whole (reduced-refuted n t (change (blockStart n) (copying t) w) (copied n t w (f .grows .room) l) f)
+  -- a copy fits as the table does,
+  pub copy-fits : RestFits n set u
+  copy-fits = same-part n set Outside t u same f
+
+  -- and with all quantities eliminated decides it
+  pub copy-decides : (w' : List ℤ) (r : Bool) → SetEliminated (outside set) n u r w' → Decided n set t w r w'
+  copy-decides w' r p = record {
+    reply = reply;
+    meaning = rw reply (refuted-exactly n t (rest-fits n set t f));
+    reduced = λ h. same-turns (outside set) n t u w' same (p .some h);
+    lent = record {
+      size = p .lent .size ∙ rw whole (change-length (blockStart n) (copying t) w);
+      rest = p .lent .rest ∙ rw whole (change-drop (blockStart n) (copying t) w);
+      kept = λ h. clash refl h;
+    };
+  }
+    where
+      reply : r ≡ refuted n t
+      reply =
+          decides-refuted n t r (rest-fits n set t f)
+          (λ q σ s. p .none q σ (same-satisfies n t u σ same s))
+          (λ q. let s = reduced-satisfiable n set u w' copy-fits (p .some q) in
+          record { assignment = s .assignment; satisfies = same-satisfies n u t (s .assignment) (same-back n t u same) (s .satisfies) })

@@ -5,11 +5,12 @@ use mathlib.Core.Bool.{Bool, true, false, cond}
 use mathlib.Core.List.{List}
 use mathlib.Core.Logic.{_⊎_, inl, inr}
 use Prim.Native.Nat.{ℕ, zero, suc, _+_, _*_, _≤_, _<_, _^_}
-use native.Mathlib.Nat.{mul-add, add-mul, two-pow-succ}
+use native.Mathlib.Nat.{mul-add, add-mul, mul-le-mul, two-pow-succ}
 use native.Mathlib.Omega.{arith}
 use lib.Dec.{ltb}
 use lib.IntN.{ℤ, pos}
 use lib.ListN.{length}
+use lib.Pow.{pow-mono}
 use borrow.Author.Tests.{ltb-true, ltb-false}
 use Rattle.integers.proofs.Within.{within-mono}
 use Rattle.places.specs.Numbering.{blockStart}
@@ -17,39 +18,21 @@ use Rattle.rules.specs.declared.paper.Paper.{Paper}
 use Rattle.rules.specs.Limits.{maxQuantities, maxBound, boundLimit}
 use Rattle.rules.specs.Hidden.{hiddenCount}
 use Rattle.tables.specs.Meaning.{WordsWithin}
-use Rattle.elimination.specs.Hiding.{eliminated}
+use Rattle.tables.proofs.Tests.{clash}
+use Rattle.elimination.specs.Hiding.{every, eliminated}
 use Rattle.elimination.specs.Magnitude.{Unnamed}
 use Rattle.elimination.proofs.Growth.{eliminated-within}
 use Rattle.elimination.proofs.Unnamed.{eliminated-unnamed-within, unnamed-eliminated}
 use Rattle.elimination.specs.Inner.{Ready}
 use Rattle.keys.specs.Keys.{hideUpTo, keyOf}
-use Rattle.keys.specs.Inner.{Grows, Fits}
+use Rattle.keys.specs.Inner.{SetFits, Fits}
 use Rattle.keys.proofs.Several.{Ample, AmpleUpTo, hideUpTo-length}
-
--- limits that each step raises do not fall
-pub limit-rises : (n : ℕ) (limit reach : ℕ → ℕ) → ((j : ℕ) → j < n → (reach j ≤ limit j) × (limit j + reach j ≤ limit (suc j)))
-    → (a b : ℕ) → a ≤ b → b ≤ n → limit a ≤ limit b
-limit-rises n limit reach step a zero h g = let e : a ≡ zero = omega arith in rw e (omega arith)
-limit-rises n limit reach step a (suc b) h g = go (ltb b a) refl (limit-rises n limit reach step a b)
-  where
-    go : (c : Bool) → ltb b a ≡ c → (a ≤ b → b ≤ n → limit a ≤ limit b) → limit a ≤ limit (suc b)
-    go true e ih = let d : a ≡ suc b = omega (arith, ltb-true b a e) in rw d (omega arith)
-    go false e ih = let s = step b (omega arith) in omega (arith, ih (ltb-false b a e) (omega arith), s .1)
 
 pub words-mono : (m B C : ℕ) (t : List ℤ) → B ≤ C → WordsWithin m (pos B) t → WordsWithin m (pos C) t
 words-mono m B C t h w = record { each = λ k a b r. within-mono h (w .each k a b r) }
 
--- in a table within a limit on the way, bounds add
-pub limit-ample : (n m : ℕ) (t u : List ℤ) (f : Fits n t) → m ≤ n → length u ≡ length t → WordsWithin (blockStart n) (pos (f .limit m)) u → Ample n u
-limit-ample n m t u f h e w = record {
-  room = omega (arith, f .grows .room);
-  words = words-mono (blockStart n) (f .limit m) 4611686018427387903 u
-      (omega (arith, limit-rises n (f .limit) (f .reach) (f .grows .step) m n h (omega arith), f .last)) w;
-  fits = omega arith;
-}
-
 -- a quantity that no rule names stays so
-hide-unnamed : (hidden : ℕ → Bool) (n m i : ℕ) (t : List ℤ) → m ≤ n → blockStart n ≤ length t → Unnamed n i t → Unnamed n i (hideUpTo hidden n m t)
+pub hide-unnamed : (hidden : ℕ → Bool) (n m i : ℕ) (t : List ℤ) → m ≤ n → blockStart n ≤ length t → Unnamed n i t → Unnamed n i (hideUpTo hidden n m t)
 unfolding hideUpTo
 hide-unnamed hidden n zero i t h l u = u
 hide-unnamed hidden n (suc j) i t h l u = go (hide-unnamed hidden n j i t (omega arith) l u) (hidden (suc j))
@@ -95,72 +78,123 @@ hide-within hidden n (suc j) limit t h f = go (hide-within hidden n j limit t (o
 doubled : (B c : ℕ) → B * 2 ^ suc c ≡ B * 2 ^ c + B * 2 ^ c
 doubled B c = rw (two-pow-succ c) (mul-add B (2 ^ c) (2 ^ c))
 
+-- ---- members counted
+
+-- a limit doubled for each member among the first j quantities
+abbrev pub memberLimit : (ℕ → Bool) → ℕ → ℕ → ℕ
+memberLimit members L j = L * 2 ^ hiddenCount members j
+
+-- one quantity more: a member doubles it, another leaves it
+pub limit-step : (members : ℕ → Bool) (L j : ℕ) → members (suc j) ≡ true → memberLimit members L (suc j) ≡ memberLimit members L j + memberLimit members L j
+unfolding hiddenCount
+limit-step members L j e = rw (e, doubled L (hiddenCount members j))
+
+pub limit-stays : (members : ℕ → Bool) (L j : ℕ) → members (suc j) ≡ false → memberLimit members L (suc j) ≡ memberLimit members L j
+unfolding hiddenCount
+limit-stays members L j e = rw e
+
+limit-more : (members : ℕ → Bool) (L j : ℕ) → memberLimit members L j ≤ memberLimit members L (suc j)
+limit-more members L j = go (members (suc j)) refl
+  where
+    go : (b : Bool) → members (suc j) ≡ b → memberLimit members L j ≤ memberLimit members L (suc j)
+    go true e = rw (limit-step members L j e) (omega arith)
+    go false e = rw (limit-stays members L j e) (omega arith)
+
+-- so it does not fall
+pub limit-rises : (members : ℕ → Bool) (L a b : ℕ) → a ≤ b → memberLimit members L a ≤ memberLimit members L b
+limit-rises members L a zero h = let e : a ≡ zero = omega arith in rw e (omega arith)
+limit-rises members L a (suc b) h = go (ltb b a) refl (limit-rises members L a b)
+  where
+    go : (c : Bool) → ltb b a ≡ c → (a ≤ b → memberLimit members L a ≤ memberLimit members L b) → memberLimit members L a ≤ memberLimit members L (suc b)
+    go true e ih = let d : a ≡ suc b = omega (arith, ltb-true b a e) in rw d (omega arith)
+    go false e ih = omega (arith, ih (ltb-false b a e), limit-more members L b)
+
+-- no more are counted than there are
+pub count-most : (members : ℕ → Bool) (n : ℕ) → hiddenCount members n ≤ n
+unfolding hiddenCount
+count-most members zero = omega arith
+count-most members (suc j) = go (members (suc j)) (count-most members j)
+  where
+    go : (b : Bool) → hiddenCount members j ≤ j → cond b (suc (hiddenCount members j)) (hiddenCount members j) ≤ suc j
+    go true h = omega arith
+    go false h = omega arith
+
+-- hiding what is a member, or named by no rule, keeps a table within the members' limit
+pub hidden-within : (hidden members : ℕ → Bool) (n m L : ℕ) (t : List ℤ) → m ≤ n → blockStart n ≤ length t → WordsWithin (blockStart n) (pos L) t
+    → ((j : ℕ) → j < n → hidden (suc j) ≡ true → (members (suc j) ≡ true) ⊎ Unnamed n j t)
+    → WordsWithin (blockStart n) (pos (memberLimit members L m)) (hideUpTo hidden n m t)
+unfolding hiddenCount
+hidden-within hidden members n m L t h l w named = hide-within hidden n m (memberLimit members L) t h (record {
+  room = l;
+  start = words-mono (blockStart n) L (L * 2 ^ 0) t (omega arith) w;
+  rises = λ j g. limit-more members L j;
+  doubles = λ j g e. go j (named j g e);
+})
+  where
+    go : (j : ℕ) → (members (suc j) ≡ true) ⊎ Unnamed n j t → (memberLimit members L j + memberLimit members L j ≤ memberLimit members L (suc j)) ⊎ Unnamed n j t
+    go j (inl e) = inl (rw (limit-step members L j e) (omega arith))
+    go j (inr u) = inr u
+
 -- so a key of a table within B, with k quantities hidden, is within B * 2 ^ k
 pub key-within : (hidden : ℕ → Bool) (n B : ℕ) (t : List ℤ) → blockStart n ≤ length t → WordsWithin (blockStart n) (pos B) t
     → WordsWithin (blockStart n) (pos (B * 2 ^ hiddenCount hidden n)) (keyOf hidden n t)
-unfolding keyOf hiddenCount
-key-within hidden n B t l w = hide-within hidden n n (λ j. B * 2 ^ hiddenCount hidden j) t (omega arith) (record {
-  room = l;
-  start = words-mono (blockStart n) B (B * 2 ^ 0) t (omega arith) w;
-  rises = λ j h. rises j (hidden (suc j));
-  doubles = λ j h e. inl (rw (e, doubled B (hiddenCount hidden j)) (omega arith));
-})
-  where
-    rises : (j : ℕ) (b : Bool) → B * 2 ^ hiddenCount hidden j ≤ B * 2 ^ cond b (suc (hiddenCount hidden j)) (hiddenCount hidden j)
-    rises j true = rw (doubled B (hiddenCount hidden j)) (omega arith)
-    rises j false = omega arith
+unfolding keyOf
+key-within hidden n B t l w = hidden-within hidden hidden n n B t (omega arith) l w (λ j g e. inl e)
 
--- limits that serve pairing serve hiding
-grows-hide : (hidden : ℕ → Bool) (n : ℕ) (limit reach : ℕ → ℕ) (t : List ℤ) → Grows n limit reach t → HideGrows hidden n limit t
-grows-hide hidden n limit reach t f = record {
-  room = f .room;
-  start = f .start;
-  rises = λ j h. let s = f .step j h in omega (arith, s .1);
-  doubles = λ j h e. go j h (f .named j h);
+-- ---- bounds add at every turn
+
+-- in a table within a limit on the way
+limit-ample : (members : ℕ → Bool) (n m : ℕ) (t u : List ℤ) (f : SetFits members n t) → m ≤ n → length u ≡ length t
+    → WordsWithin (blockStart n) (pos (memberLimit members (f .limit) m)) u → Ample n u
+limit-ample members n m t u f h e w = record {
+  room = omega (arith, f .room);
+  words = words-mono (blockStart n) (memberLimit members (f .limit) m) 4611686018427387903 u
+      (omega (arith, limit-rises members (f .limit) m n h, f .last)) w;
+  fits = omega arith;
 }
-  where
-    go : (j : ℕ) → j < n → (reach j ≡ limit j) ⊎ Unnamed n j t → (limit j + limit j ≤ limit (suc j)) ⊎ Unnamed n j t
-    go j h (inl e) = let s = f .step j h in inl (omega (arith, s .1))
-    go j h (inr v) = inr v
 
--- so bounds add at every turn,
+-- with the members hidden,
+pub set-ample : (members : ℕ → Bool) (n : ℕ) (t : List ℤ) → SetFits members n t → AmpleUpTo members n t
+set-ample members n t f j h =
+    limit-ample members n j t (hideUpTo members n j t) f (omega arith) (hideUpTo-length members n j t)
+    (hidden-within members members n j (f .limit) t (omega arith) (f .room) (f .within) (λ i g e. inl e))
+
+-- or any, where no rule names another
 pub hide-ample : (hidden : ℕ → Bool) (n : ℕ) (t : List ℤ) → Fits n t → AmpleUpTo hidden n t
 hide-ample hidden n t f j h =
-    limit-ample n j t (hideUpTo hidden n j t) f (omega arith) (hideUpTo-length hidden n j t)
-    (hide-within hidden n j (f .limit) t (omega arith) (grows-hide hidden n (f .limit) (f .reach) t (f .grows)))
+    limit-ample (f .members) n j t (hideUpTo hidden n j t) (f .sums) (omega arith) (hideUpTo-length hidden n j t)
+    (hidden-within hidden (f .members) n j (f .sums .limit) t (omega arith) (f .sums .room) (f .sums .within) (λ i g e. go i g (f .members (suc i)) refl))
+  where
+    go : (i : ℕ) → i < n → (b : Bool) → f .members (suc i) ≡ b → (f .members (suc i) ≡ true) ⊎ Unnamed n i t
+    go i g true e = inl e
+    go i g false e = inr (f .rest i g e)
 
 -- and the table is ready for the next
-pub hide-ready : (hidden : ℕ → Bool) (n j : ℕ) (t : List ℤ) → Fits n t → j < n → Ready n j (hideUpTo hidden n j t)
-hide-ready hidden n j t f h = let a = hide-ample hidden n t f j h in record { most = f .most; one = h; room = a .room; words = a .words }
+pub set-ready : (members : ℕ → Bool) (n j : ℕ) (t : List ℤ) → SetFits members n t → j < n → Ready n j (hideUpTo members n j t)
+set-ready members n j t f h = let a = set-ample members n t f j h in record { most = f .most; one = h; room = a .room; words = a .words }
 
 -- ---- a paper's limit
-
--- a bound at most doubles at each step
-doubling : (B n j : ℕ) → j < n → (B * 2 ^ j ≤ B * 2 ^ j) × (B * 2 ^ j + B * 2 ^ j ≤ B * 2 ^ suc j)
-doubling B n j h = (omega arith, rw (doubled B j) (omega arith))
 
 -- the one fact about numbers: one more than the limit of a paper, doubled once for each quantity, is below 2 ^ 62
 pub limit-doubled : (paper : Paper) (n set : ℕ) → n ≤ maxQuantities → (boundLimit paper n set + 1) * 2 ^ n < 2 ^ 62
 unfolding boundLimit
 limit-doubled paper n set h =
-    omega (
-      arith,
-      limit-rises maxQuantities (λ j. (maxBound + 1) * 2 ^ j) (λ j. (maxBound + 1) * 2 ^ j) (doubling (maxBound + 1) maxQuantities) n maxQuantities h
-          (omega arith),
-    )
+    let one : maxBound + 1 ≤ maxBound + 1 = omega arith in
+    omega (arith, mul-le-mul one (pow-mono {i = n} {j = maxQuantities} h))
 
--- so sums fit in the table of a paper
+-- so sums fit in the table of a paper, whichever quantities are eliminated
+pub paper-sums : (paper : Paper) (members : ℕ → Bool) (n set : ℕ) (t : List ℤ) → n ≤ maxQuantities → blockStart n ≤ length t
+    → WordsWithin (blockStart n) (pos (boundLimit paper n set)) t → SetFits members n t
+paper-sums paper members n set t h l w = record {
+  most = h;
+  room = l;
+  limit = boundLimit paper n set;
+  within = w;
+  last = let one : boundLimit paper n set ≤ boundLimit paper n set = omega arith in
+      omega (arith, mul-le-mul one (pow-mono {i = hiddenCount members n} {j = n} (count-most members n)), add-mul (boundLimit paper n set) 1 (2 ^ n),
+      limit-doubled paper n set h);
+}
+
 pub paper-fits : (paper : Paper) (n set : ℕ) (t : List ℤ) → n ≤ maxQuantities → blockStart n ≤ length t
     → WordsWithin (blockStart n) (pos (boundLimit paper n set)) t → Fits n t
-paper-fits paper n set t h l w = record {
-  most = h;
-  limit = λ j. boundLimit paper n set * 2 ^ j;
-  reach = λ j. boundLimit paper n set * 2 ^ j;
-  grows = record {
-    room = l;
-    start = words-mono (blockStart n) (boundLimit paper n set) (boundLimit paper n set * 2 ^ 0) t (omega arith) w;
-    named = λ j g. inl refl;
-    step = doubling (boundLimit paper n set) n;
-  };
-  last = omega (arith, add-mul (boundLimit paper n set) 1 (2 ^ n), limit-doubled paper n set h);
-}
+paper-fits paper n set t h l w = record { members = every; sums = paper-sums paper every n set t h l w; rest = λ j g e. clash refl e }

@@ -2,15 +2,13 @@
 -- document 01 and the frauds on named sheets.
 pub mod Several
 pub mod Fitting
-pub mod Pairing
-pub mod Growing
-pub mod Layers
-pub mod Room
-pub mod Filling
+pub mod Turning
+pub mod AtTurns
+pub mod ReadBack
 pub mod Copying
 pub mod Deciding
 pub mod Checking
-pub mod Turns
+pub mod InTurn
 pub mod Promised
 pub mod Sheets
 pub mod Frauds

@@ -39,7 +39,7 @@ use Rattle.keys.proofs.Layers.{reduced-layered}
 use Rattle.keys.proofs.Filling.{fillDown-length, fillDown-rest, filled-range}
 use Rattle.keys.proofs.Deciding.{reduced-satisfies, reduced-refuted, refuted-exactly}
 use Rattle.keys.proofs.Checking.{bounds, checked-fits, key-tied, assignment-tied}
-use Rattle.keys.proofs.Turns.{key-turns}
+use Rattle.keys.proofs.InTurn.{key-turns}
 
 -- ---- words past the table's
 

@@ -18,12 +18,12 @@ use Rattle.tables.specs.Meaning.{HoldsRule, ruleIn, Satisfies, Satisfiable, Uns
 use Rattle.tables.proofs.Tests.{clash, neither}
 use Rattle.tables.proofs.Meanings.{in-range, satisfies-agree}
 use Rattle.tables.proofs.Places.{own-named}
-use Rattle.elimination.specs.Hiding.{contradicts, eliminated}
+use Rattle.elimination.specs.Hiding.{every, contradicts, eliminated}
 use Rattle.elimination.specs.Magnitude.{Unnamed}
 use Rattle.elimination.proofs.Step.{Adds}
 use Rattle.elimination.proofs.Exact.{eliminate-exact, eliminate-none, eliminate-length}
 use Rattle.elimination.proofs.Unnamed.{eliminated-unnamed, unnamed-eliminated}
-use Rattle.keys.specs.Keys.{hideUpTo, keyOf, every, refutedUpTo, refuted}
+use Rattle.keys.specs.Keys.{hideUpTo, keyOf, refutedUpTo, refuted}
 
 pub hideUpTo-length : (hidden : ℕ → Bool) (n m : ℕ) (t : List ℤ) → length (hideUpTo hidden n m t) ≡ length t
 unfolding hideUpTo
@@ -130,12 +130,12 @@ more-exact : (hidden : ℕ → Bool) (n j : ℕ) (t u : List ℤ) (σ₀ : Assig
     → (σ : Assignment) → Satisfies n (eliminated n j u) σ ↔ SheetAllows (upTo hidden (suc j)) (Satisfies n t) σ
 more-exact hidden n j t u σ₀ h a s₀ e ih σ = (to, of)
   where
-    go : (b : Bool) → contradicts 0 n j u ≡ b → b ≡ false
+    go : (b : Bool) → contradicts every n j u ≡ b → b ≡ false
     go true c = absurd (eliminate-none n j u σ₀ (a .room) h c (ih σ₀ .1 (allows-own n (upTo hidden j) t σ₀ s₀)))
     go false c = refl
 
     exact : Satisfies n (eliminated n j u) σ ↔ SheetAllows (eqb (suc j)) (Satisfies n u) σ
-    exact = eliminate-exact n j 4611686018427387903 u σ a h (go (contradicts 0 n j u) refl)
+    exact = eliminate-exact n j 4611686018427387903 u σ a h (go (contradicts every n j u) refl)
 
     to : Satisfies n (eliminated n j u) σ → SheetAllows (upTo hidden (suc j)) (Satisfies n t) σ
     to s =
@@ -185,10 +185,10 @@ several-exact hidden n (suc j) t σ₀ h a s₀ σ =
 
 -- and no step on the way meets a contradiction
 pub never-contradicts : (hidden : ℕ → Bool) (n j : ℕ) (t : List ℤ) (σ₀ : Assignment) → j < n → AmpleUpTo hidden n t → Satisfies n t σ₀
-    → contradicts 0 n j (hideUpTo hidden n j t) ≡ false
-never-contradicts hidden n j t σ₀ h a s₀ = go (contradicts 0 n j (hideUpTo hidden n j t)) refl
+    → contradicts every n j (hideUpTo hidden n j t) ≡ false
+never-contradicts hidden n j t σ₀ h a s₀ = go (contradicts every n j (hideUpTo hidden n j t)) refl
   where
-    go : (b : Bool) → contradicts 0 n j (hideUpTo hidden n j t) ≡ b → b ≡ false
+    go : (b : Bool) → contradicts every n j (hideUpTo hidden n j t) ≡ b → b ≡ false
     go true c =
         absurd (eliminate-none n j (hideUpTo hidden n j t) σ₀ (a j h .room) h c
         (several-exact hidden n j t σ₀ (omega arith) a s₀ σ₀ .1 (allows-own n (upTo hidden j) t σ₀ s₀)))
@@ -266,12 +266,12 @@ refuted-none : (n m : ℕ) (t : List ℤ) (σ : Assignment) → m ≤ n → Ampl
 unfolding refutedUpTo
 refuted-none n zero t σ h a e s = clash e refl
 refuted-none n (suc j) t σ h a e s =
-    go (or-either (refutedUpTo n j t) (contradicts 0 n j (hideUpTo every n j t)) e) (λ d. refuted-none n j t σ (omega arith) a d s)
+    go (or-either (refutedUpTo n j t) (contradicts every n j (hideUpTo every n j t)) e) (λ d. refuted-none n j t σ (omega arith) a d s)
   where
     u : List ℤ
     u = hideUpTo every n j t
 
-    go : (refutedUpTo n j t ≡ true) ⊎ (contradicts 0 n j u ≡ true) → (refutedUpTo n j t ≡ true → ⊥) → ⊥
+    go : (refutedUpTo n j t ≡ true) ⊎ (contradicts every n j u ≡ true) → (refutedUpTo n j t ≡ true → ⊥) → ⊥
     go (inl d) ih = ih d
     go (inr d) ih =
         eliminate-none n j u σ (a j (omega arith) .room) (omega arith) d
@@ -283,7 +283,7 @@ refuted-some : (n m : ℕ) (t : List ℤ) (σ : Assignment) → m ≤ n → Ampl
 unfolding refutedUpTo hideUpTo
 refuted-some n zero t σ h a e s = record { assignment = σ; satisfies = s }
 refuted-some n (suc j) t σ h a e s =
-    let p = neither (refutedUpTo n j t) (contradicts 0 n j (hideUpTo every n j t)) .0 e in
+    let p = neither (refutedUpTo n j t) (contradicts every n j (hideUpTo every n j t)) .0 e in
     let c = eliminate-exact n j 4611686018427387903 (hideUpTo every n j t) σ (a j (omega arith)) (omega arith) (p .1) .0 s in
     refuted-some n j t (joined (eqb (suc j)) σ (c .hiddens)) (omega arith) a (p .0) (c .complete)
 

@@ -1,93 +1,179 @@
 -- What inner functions, here and in the crates above, ask and answer; no promise of the two calls rests on it.
--- All quantities of a table paired, one after the other, with nothing cleared: how the program decides 'no assignment' in one table, and why its sums fit.
--- Where `later`, of each quantity's rules those alone take part whose other quantity is a later one: the table is reduced. The places of each quantity
--- with later ones then stay as they were at its turn, and an assignment is read back from them. Where not, all rules take part, as least bounds need.
-use mathlib.Core.Bool.{Bool, true, false, cond, _||_}
+-- The members of a set of quantities are eliminated in one table, in increasing number, with nothing cleared: a quantity whose turn is over takes no part any more, so its places stay as
+-- they were at its turn. Where the members are the hidden ones, the places of visible quantities then have the key. Where they are all that rules name, no rule is left to meet, and
+-- 'no assignment' is decided. Values are chosen in the opposite order, each from its quantity's rules as at its turn.
+use mathlib.Core.Bool.{Bool, true, false, cond, not, _&&_, _||_}
 use mathlib.Core.Path.{_≡_}
-use mathlib.Core.Logic.{_↔_, _⊎_}
+use mathlib.Core.Logic.{_↔_}
 use mathlib.Core.List.{List}
-use Prim.Native.Nat.{ℕ, zero, suc, _+_, _-_, _≤_, _<_, _^_}
+use Prim.Native.Nat.{ℕ, zero, suc, _+_, _-_, _*_, _/_, _≤_, _<_, _^_}
+use lib.Dec.{leb, ltb}
 use lib.IntN.{ℤ, pos}
-use lib.ListN.{length, set}
-use Rattle.words.specs.Change.{change, copying}
+use lib.ListN.{length, take}
+use lib.ListN.{set as put}
+use Rattle.integers.specs.Bound.{Within}
+use Rattle.words.specs.Change.{wordAt}
 use Rattle.words.specs.Lent.{Lent}
-use Rattle.places.specs.Numbering.{blockStart}
+use Rattle.places.specs.Numbering.{blockStart, isOne, higherAt, lowerAt}
 use Rattle.rules.specs.Refusing.{passed, AllMet}
 use Rattle.rules.specs.declared.refusal.Refusal.{Refusal}
+use Rattle.rules.specs.Hidden.{hiddenIn, hiddenCount}
 use Rattle.rules.specs.Limits.{maxQuantities}
 use Rattle.tables.specs.declared.reply.Reply.{Reply}
 use Rattle.tables.specs.declared.reply.Reply.the-variants.{Done, Refused}
-use Rattle.tables.specs.Meaning.{Unsatisfiable, WordsWithin}
-use Rattle.elimination.specs.Hiding.{paired, contradicts}
-use Rattle.elimination.specs.Magnitude.{addLimit, Past, OwnWithin, Unnamed}
+use Rattle.tables.specs.Meaning.{Satisfies, Unsatisfiable, WordsWithin, assignmentOf}
+use Rattle.elimination.specs.Hiding.{every, contradicts}
 use Rattle.elimination.specs.Choosing.{choice}
-use Rattle.keys.specs.Keys.{refuted, keyReply, assignmentReply}
+use Rattle.elimination.specs.Magnitude.{Unnamed}
+use Rattle.elimination.specs.Inner.{among, Listed, Ready}
+use Rattle.keys.specs.declared.live.Part.{Part}
+use Rattle.keys.specs.declared.live.Part.the-variants.{Inside, Outside}
+use Rattle.keys.specs.Keys.{hideUpTo, keyOf, refuted, keyReply, assignmentReply}
 use Rattle.keys.specs.Meaning.{keyNeedsThen, assignmentNeedsThen}
 
--- quantity j + 1 is paired with the quantities past the first so many
-abbrev pub pairedFrom : Bool → ℕ → ℕ
-pairedFrom later j = cond later (suc j) 0
+-- ---- the quantities that are live
 
--- the first m quantities of n paired
-unfoldable pub pairUpTo : Bool → ℕ → ℕ → List ℤ → List ℤ
-pairUpTo later n zero t = t
-pairUpTo later n (suc j) t = paired (pairedFrom later j) n j (pairUpTo later n j t)
+-- the quantities outside a set
+abbrev pub outside : ℕ → ℕ → Bool
+outside set q = not (hiddenIn set q)
 
--- pairing them meets a contradiction
-unfoldable pub clashUpTo : Bool → ℕ → ℕ → List ℤ → Bool
-clashUpTo later n zero t = false
-clashUpTo later n (suc j) t = clashUpTo later n j t || contradicts (pairedFrom later j) n j (pairUpTo later n j t)
+-- a part of the quantities
+abbrev pub memberOf : ℕ → Part → ℕ → Bool
+memberOf set Inside q = hiddenIn set q
+memberOf set Outside q = outside set q
 
--- ---- an assignment, read back from a reduced table: values for the quantities of n, the last first
+-- is quantity i + 1 live when those of the part among the first `from` have had their turn? All others are, but where the part is outside the set none of those in it
+abbrev pub stillLive : ℕ → Part → ℕ → ℕ → Bool
+stillLive set Inside from i = leb from i || outside set (suc i)
+stillLive set Outside from i = leb from i && outside set (suc i)
 
--- the last m quantities chosen
-unfoldable pub fillDown : ℕ → List ℤ → ℕ → List ℤ → List ℤ
-fillDown n t zero values = values
-fillDown n t (suc m) values = set (fillDown n t m values) (n - suc m) (choice n t (n - suc m) (fillDown n t m values))
+-- the first `count` of a list are these of n quantities, in increasing number
+pub record LiveListed (n set : ℕ) (part : Part) (from count : ℕ) (out : List ℕ) : Type 0 where
+  pub room : count ≤ length out
+  pub listed : Listed n (take count out)
+  pub each : (i : ℕ) → i < n → among (take count out) i ≡ stillLive set part from i
+
+-- the rules of a table over n quantities name live ones alone
+pub record LiveAlone (n : ℕ) (live : List ℕ) (t : List ℤ) : Type 0 where
+  pub listed : Listed n live
+  pub rest : (i : ℕ) → i < n → among live i ≡ false → Unnamed n i t
 
 -- ---- the sums fit
 
--- `limit j` bounds the magnitudes when the first j quantities are paired or hidden, and `reach j` those of the rules of quantity j + 1 at its turn. A
--- step at most doubles the magnitudes; on a quantity that no rule names it enlarges nothing, and the quantity's reach may be 0
-pub record Grows (n : ℕ) (limit reach : ℕ → ℕ) (t : List ℤ) : Type 0 where
+-- with the members of a set eliminated, each of which doubles the bounds at most
+pub record SetFits (members : ℕ → Bool) (n : ℕ) (t : List ℤ) : Type 0 where
+  pub most : n ≤ maxQuantities
   pub room : blockStart n ≤ length t
-  pub start : WordsWithin (blockStart n) (pos (limit 0)) t
-  pub named : (j : ℕ) → j < n → (reach j ≡ limit j) ⊎ Unnamed n j t
-  pub step : (j : ℕ) → j < n → (reach j ≤ limit j) × (limit j + reach j ≤ limit (suc j))
+  pub limit : ℕ
+  pub within : WordsWithin (blockStart n) (pos limit) t
+  pub last : limit * 2 ^ hiddenCount members n < 2 ^ 62
 
--- and in the end they are small enough: the sums fit. A table within the sheet's limits does, since 10 ^ 9 * 2 ^ 32 is below 2 ^ 62
+-- with any quantities eliminated, where rules name members alone: a step on another enlarges nothing. A table within the sheet's limits does, since 10 ^ 9 * 2 ^ 32 is
+-- below 2 ^ 62
 pub record Fits (n : ℕ) (t : List ℤ) : Type 0 where
-  pub most : n ≤ maxQuantities
-  pub limit : ℕ → ℕ
-  pub reach : ℕ → ℕ
-  pub grows : Grows n limit reach t
-  pub last : limit n < 2 ^ 62
+  pub members : ℕ → Bool
+  pub sums : SetFits members n t
+  pub rest : (j : ℕ) → j < n → members (suc j) ≡ false → Unnamed n j t
 
--- a reduced table: its words add, the rules of each quantity are within its reach, and the reaches add up to the limit at the end
-pub record Layered (n : ℕ) (t : List ℤ) : Type 0 where
-  pub most : n ≤ maxQuantities
-  pub room : blockStart n ≤ length t
-  pub words : WordsWithin (blockStart n) addLimit t
-  pub limit : ℕ → ℕ
-  pub reach : ℕ → ℕ
-  pub own : (j : ℕ) → j < n → OwnWithin (Past (suc j) n) j (reach j) t
-  pub step : (j : ℕ) → j < n → (reach j ≤ limit j) × (limit j + reach j ≤ limit (suc j))
-  pub last : limit n < 2 ^ 62
+-- with a part eliminated, where the rules name no quantity that takes no part
+pub record PartFits (n set : ℕ) (part : Part) (t : List ℤ) : Type 0 where
+  pub sums : SetFits (memberOf set part) n t
+  pub alone : (i : ℕ) → i < n → stillLive set part 0 i ≡ false → Unnamed n i t
 
--- ---- what the loops leave
+abbrev pub RestFits : ℕ → ℕ → List ℤ → Type 0
+RestFits n set t = PartFits n set Outside t
 
--- all quantities paired: whether a contradiction is met, and where not, every word; where one is, the table's words are free
-pub record AllPaired (later : Bool) (n : ℕ) (before : List ℤ) (r : Bool) (after : List ℤ) : Type 0 where
-  pub reply : r ≡ clashUpTo later n n before
-  pub table : r ≡ false → after ≡ pairUpTo later n n before
+-- ---- members eliminated, nothing cleared
+
+-- the turn of quantity i + 1 among the first m; m where it is no member of these
+abbrev pub turnOf : (ℕ → Bool) → ℕ → ℕ → ℕ
+turnOf members m i = cond (members (suc i) && ltb i m) i m
+
+-- the turn of a place: that of its lowest member
+unfoldable pub turnAt : (ℕ → Bool) → ℕ → ℕ → ℕ
+turnAt members m k = cond (isOne k || leb m (turnOf members m (lowerAt k / 2))) (turnOf members m (higherAt k / 2)) (turnOf members m (lowerAt k / 2))
+
+-- the members among the first m of n quantities eliminated: each place is as it is at its turn with the members before hidden, in the end as in the key where it names none of them;
+-- and no sum was a contradiction
+pub record AtTurns (members : ℕ → Bool) (n m : ℕ) (before after : List ℤ) : Type 0 where
+  pub words : (k : ℕ) → k < blockStart n → wordAt after k ≡ wordAt (hideUpTo members n (turnAt members m k) before) k
+  pub clear : (j : ℕ) → j < m → members (suc j) ≡ true → contradicts every n j (hideUpTo members n j before) ≡ false
+
+-- all members eliminated, and whether a contradiction is met: then no integers satisfy the table, and its words are free
+pub record SetEliminated (members : ℕ → Bool) (n : ℕ) (before : List ℤ) (r : Bool) (after : List ℤ) : Type 0 where
+  pub none : r ≡ true → Unsatisfiable n before
+  pub some : r ≡ false → AtTurns members n n before after
   pub lent : Lent (blockStart n) true before after
 
--- 'no assignment' decided of a table: true exactly when no integers satisfy it. Where some do, the workspace has its copy of the table reduced
-pub record Decided (n : ℕ) (table workspace : List ℤ) (r : Bool) (workspace' : List ℤ) : Type 0 where
+-- 'no assignment' decided of a table whose rules name no quantity of the set: true exactly when no integers satisfy it. Where some do, the workspace has its copy of the table with all others
+-- eliminated
+pub record Decided (n set : ℕ) (table workspace : List ℤ) (r : Bool) (workspace' : List ℤ) : Type 0 where
   pub reply : r ≡ refuted n table
   pub meaning : (r ≡ true) ↔ Unsatisfiable n table
-  pub words : r ≡ false → workspace' ≡ pairUpTo true n n (change (blockStart n) (copying table) workspace)
+  pub reduced : r ≡ false → AtTurns (outside set) n n table workspace'
   pub lent : Lent (blockStart n) true workspace workspace'
+
+-- ---- values read back
+
+-- the members of a set in a table in which they are eliminated, and values for the others, of at most `wide` in magnitude: all values fit
+pub record Readable (members : ℕ → Bool) (n wide : ℕ) (t table values : List ℤ) : Type 0 where
+  pub fits : SetFits members n t
+  pub at : AtTurns members n n t table
+  pub room : blockStart n ≤ length table
+  pub values-room : n ≤ length values
+  pub others : (i : ℕ) → i < n → members (suc i) ≡ false → Within (pos wide) (wordAt values i)
+  pub last : wide + (fits .limit * 2 ^ hiddenCount members n - fits .limit) < 2 ^ 62
+
+-- the values of the members: where the values of the others satisfy the table with the members hidden, all of them satisfy it
+pub record ValuesRead (members : ℕ → Bool) (n wide : ℕ) (t table values values' : List ℤ) (r : Readable members n wide t table values) : Type 0 where
+  pub meaning : Satisfies n (keyOf members n t) (assignmentOf values) → Satisfies n t (assignmentOf values')
+  pub others : (i : ℕ) → i < n → members (suc i) ≡ false → wordAt values' i ≡ wordAt values i
+  pub within : (i : ℕ) → i < n → Within (pos (wide + (r .fits .limit * 2 ^ hiddenCount members n - r .fits .limit))) (wordAt values' i)
+  pub lent : Lent n true values values'
+
+-- a part of a table in which it was eliminated
+pub record PartReadable (n set : ℕ) (part : Part) (table values : List ℤ) : Type 0 where
+  pub wide : ℕ
+  pub from : List ℤ
+  pub readable : Readable (memberOf set part) n wide from table values
+  pub alone : (i : ℕ) → i < n → stillLive set part 0 i ≡ false → Unnamed n i from
+
+-- of the last m quantities those of the part given their values, the last first
+unfoldable pub readBack : ℕ → Part → ℕ → List ℤ → ℕ → List ℤ → List ℤ
+readBack set part n t zero values = values
+readBack set part n t (suc m) values =
+    cond (memberOf set part (suc (n - suc m)))
+    (put (readBack set part n t m values) (n - suc m) (choice (stillLive set part (suc (n - suc m))) n t (n - suc m) (readBack set part n t m values)))
+    (readBack set part n t m values)
+
+-- a table reduced: all quantities outside the set eliminated, and none in it named
+pub record Reduced (n set : ℕ) (t table : List ℤ) : Type 0 where
+  pub fits : RestFits n set t
+  pub at : AtTurns (outside set) n n t table
+  pub room : blockStart n ≤ length table
+
+pub record Fillable (n set : ℕ) (table values : List ℤ) : Type 0 where
+  pub from : List ℤ
+  pub reduced : Reduced n set from table
+  pub values-room : n ≤ length values
+
+-- the values read back from it: they satisfy the table, and are 0 in the set
+pub record Filled (n set : ℕ) (table values values' : List ℤ) : Type 0 where
+  pub meaning : (t : List ℤ) → Reduced n set t table → Satisfies n t (assignmentOf values')
+  pub zero : (i : ℕ) → i < n → hiddenIn set (suc i) ≡ true → wordAt values' i ≡ pos 0
+  pub within : (t : List ℤ) (r : Reduced n set t table) → (i : ℕ) → i < n
+      → Within (pos (r .fits .sums .limit * 2 ^ hiddenCount (outside set) n - r .fits .sums .limit)) (wordAt values' i)
+  pub lent : Lent n true values values'
+
+-- ---- a member's step
+
+-- quantity j + 1 of a table, in which no rule names a quantity of the set before it, with a list and rows for the live ones
+pub record MemberReady (n set j : ℕ) (table : List ℤ) (list : List ℕ) (plus minus : List ℤ) : Type 0 where
+  pub ready : Ready n j table
+  pub gone : (i : ℕ) → i < j → hiddenIn set (suc i) ≡ true → Unnamed n i table
+  pub list-room : n ≤ length list
+  pub plus-room : 2 * n ≤ length plus
+  pub minus-room : 2 * n ≤ length minus
 
 -- ---- the calls' checks before 5: a refusal is the call's reply, and where they are done the needs are met
 

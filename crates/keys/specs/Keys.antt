@@ -16,7 +16,7 @@ use Rattle.tables.specs.declared.reply.Reply.{Reply}
 use Rattle.tables.specs.declared.reply.Reply.the-variants.{Done}
 use Rattle.tables.specs.Tables.{serves, wordsInLimit}
 use Rattle.tables.specs.Replies.{replyNumber, check}
-use Rattle.elimination.specs.Hiding.{contradicts, eliminated}
+use Rattle.elimination.specs.Hiding.{every, contradicts, eliminated}
 
 -- of the first m quantities those that are hidden, hidden in increasing number, in a table over n quantities
 unfoldable pub hideUpTo : (ℕ → Bool) → ℕ → ℕ → List ℤ → List ℤ
@@ -27,14 +27,10 @@ hideUpTo hidden n (suc j) t = cond (hidden (suc j)) (eliminated n j (hideUpTo hi
 unfoldable pub keyOf : (ℕ → Bool) → ℕ → List ℤ → List ℤ
 keyOf hidden n t = hideUpTo hidden n n t
 
--- all quantities, hidden and visible
-abbrev pub every : ℕ → Bool
-every q = true
-
--- hiding the first m quantities of all, one after the other, meets a contradiction
+-- hiding the first m of all quantities, hidden and visible, one after the other, meets a contradiction
 unfoldable pub refutedUpTo : ℕ → ℕ → List ℤ → Bool
 refutedUpTo n zero t = false
-refutedUpTo n (suc j) t = refutedUpTo n j t || contradicts 0 n j (hideUpTo every n j t)
+refutedUpTo n (suc j) t = refutedUpTo n j t || contradicts every n j (hideUpTo every n j t)
 
 -- 'no assignment' is decided for all quantities
 unfoldable pub refuted : ℕ → List ℤ → Bool

@@ -1,9 +1,8 @@
 // The assignment call: integers that satisfy a table, or the refusal that there are none.
 use crate::checks;
 use crate::decide;
-use crate::live;
-use elimination::choose;
-use rules::hidden;
+use crate::live::Part;
+use crate::turns;
 use rules::hidden::Set;
 use rules::paper;
 use rules::paper::Paper;
@@ -11,34 +10,16 @@ use rules::refusal::Refusal;
 use tables::limit;
 use tables::reply::Reply;
 use tables::table;
-ghost use mathlib.Core.Path.{_≡_};
-ghost use Prim.Native.Nat.{_≤_};
-ghost use lib.ListN.{length};
-ghost use Rattle.rules.specs.Hidden.{hiddenIn};
-ghost use Rattle.tables.specs.Meaning.{NamesVisible};
-ghost use Rattle.keys.specs.Inner.{Layered, fillDown, AssignmentChecked};
+ghost use Rattle.keys.specs.Inner.{Fillable, Filled, AssignmentChecked};
 ghost use Rattle.keys.specs.Promises.{Assigned};
 
-// Chooses a value for each quantity of a reduced table, the last first; 0 for those of the set, which its rules do not name.
+// Chooses a value for each quantity outside the set from a table in which these are eliminated; 0 for those of the set, which no rule names.
 pub fn fill(n: usize, set: Set, table: &[i64], values: &mut [i64])
-    requires { ⌜ Layered n (now table) × NamesVisible n (hiddenIn set) (now table) × (n ≤ length (now values)) ⌝ }
-    ensures { λ _. ⌜ now (values .exit) ≡ fillDown n (now (table .entry)) n (now (values .entry)) ⌝ }
+    requires { ⌜ Fillable n set (now table) (now values) ⌝ }
+    ensures { λ _. ⌜ Filled n set (now (table .entry)) (now (values .entry)) (now (values .exit)) ⌝ }
 {
-    let mut list = [0; live::MOST];
-    let mut plus = [0; live::ROW];
-    let mut minus = [0; live::ROW];
-    let count = live::list(n, set, n, &mut list);
-    let mut i = count;
-    let mut j = n;
-    while 0 < j {
-        j = j - 1;
-        if hidden::is_hidden(set, j + 1) {
-            values[j] = 0;
-        } else {
-            values[j] = choose::choose(n, table, values, j, &list[i..count], &mut plus, &mut minus);
-            i = i - 1;
-        }
-    }
+    words::fill(values, 0, n, 0);
+    turns::read_back(n, set, Part::Outside, table, values);
 }
 
 // The assignment call's checks before 5: its first refusal, or done.

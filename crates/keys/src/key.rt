@@ -2,6 +2,7 @@
 use crate::checks;
 use crate::decide;
 use crate::live;
+use crate::live::Part;
 use rules::hidden;
 use rules::hidden::Set;
 use rules::paper;
@@ -35,7 +36,7 @@ fn hide_member(
     if !hidden::is_hidden(set, j + 1) {
         return;
     }
-    let count = live::list(n, set, j + 1, list);
+    let count = live::list(n, set, Part::Inside, j + 1, list);
     elimination::hide::hide(n, table, j, &list[..count], plus, minus);
 }
 

@@ -2,6 +2,6 @@
 pub mod assignment;
 mod checks;
 pub mod decide;
-pub mod hidden_first;
 pub mod key;
 pub mod live;
+pub mod turns;

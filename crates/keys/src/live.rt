@@ -1,12 +1,12 @@
-// The live quantities of a step, listed in increasing number, each by its number less one.
+// The quantities of a sheet parted by a set, and those of them that are live at a turn: listed in increasing number, each by its number less one.
 use rules::hidden;
 use rules::hidden::Set;
 use rules::sheet::Sheet;
 ghost use mathlib.Core.Path.{_≡_};
-ghost use Prim.Native.Nat.{_≤_};
+ghost use Prim.Native.Nat.{suc, _≤_, _<_};
 ghost use lib.ListN.{length};
 ghost use Rattle.rules.specs.Limits.{maxQuantities};
-ghost use Rattle.keys.specs.Inner.{stillLive, LiveListed};
+ghost use Rattle.keys.specs.Inner.{memberOf, stillLive, LiveListed};
 
 // The most that a list has.
 pub const MOST: usize = Sheet::MAX_QUANTITIES;
@@ -14,26 +14,56 @@ pub const MOST: usize = Sheet::MAX_QUANTITIES;
 // The words of a row: one for each literal.
 pub const ROW: usize = 2 * MOST;
 
-// Whether quantity `i + 1` is outside the set or past the first `from` quantities.
-fn is_live(set: Set, from: usize, i: usize) -> bool
-    requires { ⌜ i ≤ maxQuantities ⌝ }
-    ensures { λ r. ⌜ r ≡ stillLive set from i ⌝ }
-{
-    if from <= i {
-        return true;
-    }
-    !hidden::is_hidden(set, i + 1)
+// A part of the quantities, given by a set.
+pub enum Part {
+    // those in the set
+    Inside,
+    // those outside it
+    Outside,
 }
 
-// Lists, of `n` quantities, those outside the set and those past the first `from`, and answers how many they are.
-pub fn list(n: usize, set: Set, from: usize, out: &mut [usize]) -> usize
+// Whether quantity `j + 1` is of the part.
+pub(crate) fn is_member(set: Set, part: Part, j: usize) -> bool
+    requires { ⌜ j < maxQuantities ⌝ }
+    ensures { λ r. ⌜ r ≡ memberOf set part (suc j) ⌝ }
+{
+    match part {
+        Part::Inside => hidden::is_hidden(set, j + 1),
+        Part::Outside => !hidden::is_hidden(set, j + 1),
+    }
+}
+
+// Whether quantity `i + 1` is live when the first `from` of the part have had their turn: of those in the set the later ones, and none where the part is outside it; of those outside it
+// all, and only the later ones where they are the part.
+fn is_live(set: Set, part: Part, from: usize, i: usize) -> bool
+    requires { ⌜ i < maxQuantities ⌝ }
+    ensures { λ r. ⌜ r ≡ stillLive set part from i ⌝ }
+{
+    match part {
+        Part::Inside => {
+            if from <= i {
+                return true;
+            }
+            !hidden::is_hidden(set, i + 1)
+        }
+        Part::Outside => {
+            if from <= i {
+                return !hidden::is_hidden(set, i + 1);
+            }
+            false
+        }
+    }
+}
+
+// Lists the live quantities of `n`, and answers how many they are.
+pub fn list(n: usize, set: Set, part: Part, from: usize, out: &mut [usize]) -> usize
     requires { ⌜ (n ≤ maxQuantities) × (n ≤ length (now out)) ⌝ }
-    ensures { λ r. ⌜ LiveListed n set from r (now (out .exit)) ⌝ }
+    ensures { λ r. ⌜ LiveListed n set part from r (now (out .exit)) ⌝ }
 {
     let mut count = 0;
     let mut i = 0;
     while i < n {
-        if is_live(set, from, i) {
+        if is_live(set, part, from, i) {
             out[count] = i;
             count = count + 1;
         }

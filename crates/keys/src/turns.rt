@@ -1,0 +1,49 @@
+// The quantities of a part eliminated in one table, in increasing number, with nothing cleared; and their values, read back in the opposite order. A quantity whose turn is over takes no
+// part any more, so its places stay as they were at its turn.
+use crate::live;
+use crate::live::Part;
+use elimination::choose;
+use elimination::pair;
+use rules::hidden::Set;
+ghost use mathlib.Core.Path.{_≡_};
+ghost use Rattle.keys.specs.Inner.{memberOf, PartFits, SetEliminated, PartReadable, readBack};
+
+// Pairs each quantity of the part in increasing number with all but those of it before, and answers whether a contradiction is met, at which it stops. Where the part is outside the set,
+// those in it take no part: no rule names them.
+pub fn eliminate(n: usize, set: Set, part: Part, table: &mut [i64]) -> bool
+    requires { ⌜ PartFits n set part (now table) ⌝ }
+    ensures { λ r. ⌜ SetEliminated (memberOf set part) n (now (table .entry)) r (now (table .exit)) ⌝ }
+{
+    let mut list = [0; live::MOST];
+    let mut plus = [0; live::ROW];
+    let mut minus = [0; live::ROW];
+    let mut j = 0;
+    while j < n {
+        if live::is_member(set, part, j) {
+            let count = live::list(n, set, part, j + 1, &mut list);
+            if pair::pair(n, table, j, &list[..count], &mut plus, &mut minus) {
+                return true;
+            }
+        }
+        j = j + 1;
+    }
+    false
+}
+
+// Chooses a value for each quantity of the part, the last first, from its rules as at its turn, given the values of the others.
+pub fn read_back(n: usize, set: Set, part: Part, table: &[i64], values: &mut [i64])
+    requires { ⌜ PartReadable n set part (now table) (now values) ⌝ }
+    ensures { λ _. ⌜ now (values .exit) ≡ readBack set part n (now (table .entry)) n (now (values .entry)) ⌝ }
+{
+    let mut list = [0; live::MOST];
+    let mut plus = [0; live::ROW];
+    let mut minus = [0; live::ROW];
+    let mut j = n;
+    while 0 < j {
+        j = j - 1;
+        if live::is_member(set, part, j) {
+            let count = live::list(n, set, part, j + 1, &mut list);
+            values[j] = choose::choose(n, table, values, j, &list[..count], &mut plus, &mut minus);
+        }
+    }
+}

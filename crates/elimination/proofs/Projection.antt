@@ -183,6 +183,14 @@ bounded-same live value row row' lone (suc i) v same =
     go true e k = rw (same i (omega arith) e, k)
     go false e k = k
 
+-- or another set that has the same of these quantities
+pub bounded-live : (live other : ℕ → Bool) (value row : ℕ → ℤ) (lone : ℤ) (i : ℕ) (v : ℤ) → ((x : ℕ) → x < i → live (x / 2) ≡ other (x / 2))
+    → boundedBy live value row lone i v ≡ boundedBy other value row lone i v
+unfolding boundedBy withUppers
+bounded-live live other value row lone zero v same = refl
+bounded-live live other value row lone (suc i) v same =
+    rw (same i (omega arith), bounded-live live other value row lone i v (λ x h. same x (omega arith)))
+
 -- ---- from the sums to the integer
 
 -- where every sum holds, the integer chosen keeps its bounds. The literals In are live and below i, and all of these that have a rule with -v are In.

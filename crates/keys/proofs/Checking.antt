@@ -27,7 +27,8 @@ use Rattle.tables.proofs.Limits.{wordsInLimit-within}
 use Rattle.tables.proofs.Sizes.{serves-sized, serves-tells, size-known}
 use Rattle.tables.proofs.Refusing.{Tied, tied-done, tied-more, Before, before-none, before-more}
 use Rattle.tables.specs.Replies.{check}
-use Rattle.keys.specs.Keys.{every, refuted, boundsInLimit, lentChecks, keyReply, assignmentReply}
+use Rattle.elimination.specs.Hiding.{every}
+use Rattle.keys.specs.Keys.{refuted, boundsInLimit, lentChecks, keyReply, assignmentReply}
 use Rattle.keys.specs.Inner.{Fits, KeyChecked, AssignmentChecked}
 use Rattle.keys.specs.Meaning.{BoundsWithin, NumbersWithin, keyNeeds, assignmentNeeds}
 use Rattle.keys.proofs.Several.{refuted-false}

@@ -4,19 +4,19 @@ use mathlib.Core.Path.{_≡_, refl}
 use mathlib.Core.Bool.{Bool, true, false, cond}
 use mathlib.Core.List.{List}
 use mathlib.Core.Logic.{_⊎_, inl, inr}
-use Prim.Native.Nat.{ℕ, zero, suc, _+_, _*_, _≤_, _<_, _^_}
-use native.Mathlib.Nat.{mul-add, add-mul, mul-le-mul, two-pow-succ}
+use Prim.Native.Nat.{ℕ, zero, suc, _+_, _*_, _/_, _≤_, _<_, _^_}
+use native.Mathlib.Nat.{mul-add, add-mul, mul-le-mul, two-pow-succ, zero-div}
 use native.Mathlib.Omega.{arith}
 use lib.Dec.{ltb}
 use lib.IntN.{ℤ, pos}
 use lib.ListN.{length}
 use lib.Pow.{pow-mono}
-use borrow.Author.Tests.{ltb-true, ltb-false}
+use borrow.Author.Tests.{ltb-true, ltb-false, le-leb}
 use Rattle.integers.proofs.Within.{within-mono}
 use Rattle.places.specs.Numbering.{blockStart}
 use Rattle.rules.specs.declared.paper.Paper.{Paper}
 use Rattle.rules.specs.Limits.{maxQuantities, maxBound, boundLimit}
-use Rattle.rules.specs.Hidden.{hiddenCount}
+use Rattle.rules.specs.Hidden.{hiddenIn, hiddenCount}
 use Rattle.tables.specs.Meaning.{WordsWithin}
 use Rattle.tables.proofs.Tests.{clash}
 use Rattle.elimination.specs.Hiding.{every, eliminated}
@@ -25,7 +25,7 @@ use Rattle.elimination.proofs.Growth.{eliminated-within}
 use Rattle.elimination.proofs.Unnamed.{eliminated-unnamed-within, unnamed-eliminated}
 use Rattle.elimination.specs.Inner.{Ready}
 use Rattle.keys.specs.Keys.{hideUpTo, keyOf}
-use Rattle.keys.specs.Inner.{SetFits, Fits}
+use Rattle.keys.specs.Inner.{outside, SetFits, Fits, RestFits}
 use Rattle.keys.proofs.Several.{Ample, AmpleUpTo, hideUpTo-length}
 
 pub words-mono : (m B C : ℕ) (t : List ℤ) → B ≤ C → WordsWithin m (pos B) t → WordsWithin m (pos C) t
@@ -191,10 +191,26 @@ paper-sums paper members n set t h l w = record {
   limit = boundLimit paper n set;
   within = w;
   last = let one : boundLimit paper n set ≤ boundLimit paper n set = omega arith in
-      omega (arith, mul-le-mul one (pow-mono {i = hiddenCount members n} {j = n} (count-most members n)), add-mul (boundLimit paper n set) 1 (2 ^ n),
-      limit-doubled paper n set h);
+      omega (
+        arith,
+        mul-le-mul one (pow-mono {i = hiddenCount members n} {j = n} (count-most members n)),
+        add-mul (boundLimit paper n set) 1 (2 ^ n),
+        limit-doubled paper n set h,
+      );
 }
 
 pub paper-fits : (paper : Paper) (n set : ℕ) (t : List ℤ) → n ≤ maxQuantities → blockStart n ≤ length t
     → WordsWithin (blockStart n) (pos (boundLimit paper n set)) t → Fits n t
 paper-fits paper n set t h l w = record { members = every; sums = paper-sums paper every n set t h l w; rest = λ j g e. clash refl e }
+
+-- and with none left out in particular
+none-set : (q : ℕ) → hiddenIn 0 q ≡ false
+none-set zero = refl
+none-set (suc j) = let z : 0 / 2 ^ j ≡ 0 = zero-div (2 ^ j) in rw z
+
+pub whole-fits : (paper : Paper) (n set : ℕ) (t : List ℤ) → n ≤ maxQuantities → blockStart n ≤ length t
+    → WordsWithin (blockStart n) (pos (boundLimit paper n set)) t → RestFits n 0 t
+whole-fits paper n set t h l w = record {
+  sums = paper-sums paper (outside 0) n set t h l w;
+  alone = λ i g e. clash (rw (none-set (suc i), le-leb 0 i (omega arith))) e;
+}

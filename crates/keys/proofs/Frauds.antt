@@ -10,7 +10,7 @@ use Rattle.integers.proofs.Parts.{linear}
 use Rattle.words.specs.Change.{wordAt}
 use Rattle.rules.specs.Steps.{ruleOf}
 use Rattle.tables.specs.Tables.{emptyTable, tableOf, cleared}
-use Rattle.elimination.specs.Hiding.{contradicts, eliminated}
+use Rattle.elimination.specs.Hiding.{every, contradicts, eliminated}
 use Rattle.keys.specs.Keys.{refuted}
 use Rattle.keys.proofs.Sheets.{Case, sheetTable, keyTable, replyTo, sheetA, seenLate, steps}
 
@@ -93,13 +93,13 @@ rounded-up = differ (keyTable sumHalved) (tableOf 2 (ruleOf (pos 1) (pos 0) (pos
 -- ---- refusal 5
 
 -- 5 decided on the hidden quantities only: hiding the one hidden quantity meets no contradiction, yet the reply is 5
-pub hidden-only : (contradicts 0 2 0 (sheetTable seenLate) ≡ false) × (replyTo seenLate ≡ 5)
+pub hidden-only : (contradicts every 2 0 (sheetTable seenLate) ≡ false) × (replyTo seenLate ≡ 5)
 unfolding steps
 hidden-only = (refl, refl)
 
 -- 5 decided before any pair is added: as the sheet stands, no two of its rules contradict each other over either quantity, yet no integers satisfy it
 pub before-pairs :
-    (contradicts 0 2 0 (sheetTable seenLate) ≡ false) × (contradicts 0 2 1 (sheetTable seenLate) ≡ false)
+    (contradicts every 2 0 (sheetTable seenLate) ≡ false) × (contradicts every 2 1 (sheetTable seenLate) ≡ false)
     × (refuted 2 (sheetTable seenLate) ≡ true)
 unfolding steps
 before-pairs = (refl, refl, refl)

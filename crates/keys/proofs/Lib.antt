@@ -3,10 +3,14 @@
 pub mod Several
 pub mod Fitting
 pub mod Turning
+pub mod Listing
 pub mod AtTurns
 pub mod ReadBack
 pub mod Copying
 pub mod Deciding
+pub mod Filling
+pub mod Taking
+pub mod Hiding
 pub mod Checking
 pub mod InTurn
 pub mod Promised

@@ -7,7 +7,6 @@ use Prim.Native.Nat.{ℕ, zero, suc, _≤_}
 use native.Mathlib.Omega.{arith}
 use lib.IntN.{ℤ}
 use lib.ListN.{length, drop}
-use Rattle.words.specs.Change.{change, copying}
 use Rattle.words.proofs.Change.{change-drop}
 use Rattle.words.specs.Lent.{Lent}
 use Rattle.places.specs.Numbering.{blockStart}
@@ -23,21 +22,19 @@ use Rattle.tables.specs.declared.reply.Reply.{Reply}
 use Rattle.tables.specs.declared.reply.Reply.the-variants.{Done, Refused}
 use Rattle.tables.specs.Tables.{cleared}
 use Rattle.tables.proofs.Tests.{clash}
-use Rattle.tables.specs.Meaning.{Satisfiable, Unsatisfiable, assignmentOf}
+use Rattle.tables.specs.Meaning.{Satisfiable, Unsatisfiable}
 use Rattle.tables.proofs.Sizes.{serves-sized}
 use Rattle.tables.proofs.Refusing.{tied-decided}
 use Rattle.keys.specs.Meaning.{BoundsWithin, keyNeedsThen, assignmentNeedsThen}
 use Rattle.tables.specs.Replies.{replyNumber, check}
-use Rattle.elimination.specs.Hiding.{paired, eliminated}
-use Rattle.keys.specs.Keys.{every, hideUpTo, keyOf, refuted, lentChecks, keyReply, assignmentReply, freesWorkspace}
-use Rattle.keys.specs.Inner.{pairUpTo, fillDown, Fits, Layered, Decided}
+use Rattle.elimination.specs.Hiding.{every, paired, eliminated}
+use Rattle.keys.specs.Keys.{hideUpTo, keyOf, refuted, lentChecks, keyReply, assignmentReply, freesWorkspace}
+use Rattle.keys.specs.Inner.{Fits, RestFits, Decided, Reduced, Filled}
 use Rattle.keys.specs.Promises.{KeyMade, Keyed, AssignmentFound, Assigned}
 use Rattle.keys.proofs.Several.{key-exact, key-visible, refuted-false}
-use Rattle.keys.proofs.Fitting.{hide-ample, key-within}
-use Rattle.keys.proofs.Copying.{SameTable, copied, same-back, same-satisfies, same-fits}
-use Rattle.keys.proofs.Layers.{reduced-layered}
-use Rattle.keys.proofs.Filling.{fillDown-length, fillDown-rest, filled-range}
-use Rattle.keys.proofs.Deciding.{reduced-satisfies, reduced-refuted, refuted-exactly}
+use Rattle.keys.proofs.Fitting.{hide-ample, key-within, whole-fits}
+use Rattle.keys.proofs.Filling.{filled-range}
+use Rattle.keys.proofs.Deciding.{refuted-exactly}
 use Rattle.keys.proofs.Checking.{bounds, checked-fits, key-tied, assignment-tied}
 use Rattle.keys.proofs.InTurn.{key-turns}
 
@@ -88,6 +85,9 @@ key-late n set t w (s, (l, (m, u))) = rw (serves-sized n (length t) .1 s, le-leb
 pub key-fits : (n set : ℕ) (t : List ℤ) (w : ℕ) → AllMet (keyNeedsThen n set t w passed) → Fits n t
 key-fits n set t w (s, (l, (m, u))) = checked-fits n set t s (m .1)
 
+pub key-rest : (n set : ℕ) (t : List ℤ) (w : ℕ) → AllMet (keyNeedsThen n set t w passed) → RestFits n 0 t
+key-rest n set t w (s, (l, (m, u))) = whole-fits Sheet n set t (s .most) (s .room) (m .1)
+
 key-none : (n set : ℕ) (t : List ℤ) (w : ℕ) (r : Reply) → r ≡ keyReply n set t w → AllMet (keyNeedsThen n set t w passed)
     → (replyNumber r ≡ 5) ↔ Unsatisfiable n t
 key-none n set t w r e p = five-none n t r (e ∙ key-late n set t w p) (refuted-exactly n t (key-fits n set t w p))
@@ -106,11 +106,11 @@ key-refused n set t w w' r f e d l = record {
 }
 
 -- the reply by the decision
-key-decided : (n set : ℕ) (t w w' : List ℤ) (b : Bool) → AllMet (keyNeedsThen n set t (length w) passed) → Decided n t w b w'
+key-decided : (n set : ℕ) (t w w' : List ℤ) (b : Bool) → AllMet (keyNeedsThen n set t (length w) passed) → Decided n 0 t w b w'
     → check (not b) NoAssignment Done ≡ keyReply n set t (length w)
 key-decided n set t w w' b p d = sym (key-late n set t (length w) p ∙ rw (← d .reply))
 
-pub key-five : (n set : ℕ) (t w w' : List ℤ) → AllMet (keyNeedsThen n set t (length w) passed) → Decided n t w true w'
+pub key-five : (n set : ℕ) (t w w' : List ℤ) → AllMet (keyNeedsThen n set t (length w) passed) → Decided n 0 t w true w'
     → Keyed n set t w (Refused NoAssignment) t w'
 key-five n set t w w' p d = key-refused n set t w w' (Refused NoAssignment) NoAssignment (key-decided n set t w w' true p d) refl (d .lent)
 
@@ -119,18 +119,18 @@ pub key-made : (n set : ℕ) (t : List ℤ) → Fits n t → BoundsWithin Sheet 
 key-made n set t f b s = record {
   meaning = λ σ. key-exact (hiddenIn set) n t (s .assignment) (hide-ample (hiddenIn set) n t f) (s .satisfies) σ;
   some = s;
-  steps = key-turns (hiddenIn set) n t (s .assignment) (f .grows .room) (hide-ample (hiddenIn set) n t f) (s .satisfies);
+  steps = key-turns (hiddenIn set) n t (s .assignment) (f .sums .room) (hide-ample (hiddenIn set) n t f) (s .satisfies);
   like = record {
-    visible = key-visible (hiddenIn set) n t (f .grows .room);
-    growth = key-within (hiddenIn set) n (boundLimit Sheet n set) t (f .grows .room) b;
+    visible = key-visible (hiddenIn set) n t (f .sums .room);
+    growth = key-within (hiddenIn set) n (boundLimit Sheet n set) t (f .sums .room) b;
   };
 }
 
-pub key-done : (n set : ℕ) (t w t' w' : List ℤ) → AllMet (keyNeedsThen n set t (length w) passed) → Decided n t w false w'
+pub key-done : (n set : ℕ) (t w t' w' : List ℤ) → AllMet (keyNeedsThen n set t (length w) passed) → Decided n 0 t w false w'
     → t' ≡ keyOf (hiddenIn set) n t → Keyed n set t w Done t' w'
 key-done n set t w t' w' p d k =
     let f = key-fits n set t (length w) p in
-    let s = refuted-false n t (f .grows .room) (hide-ample every n t f) (sym (d .reply)) in
+    let s = refuted-false n t (f .sums .room) (hide-ample every n t f) (sym (d .reply)) in
     let e = key-decided n set t w w' false p d in
     record {
       reply = e;
@@ -152,6 +152,9 @@ assignment-late n t w v (s, (l, (k, (b, u)))) = rw (serves-sized n (length t) .1
 pub assignment-fits : (n : ℕ) (t : List ℤ) (w v : ℕ) → AllMet (assignmentNeedsThen n t w v passed) → Fits n t
 assignment-fits n t w v (s, (l, (k, (b, u)))) = checked-fits n 0 t s b
 
+pub assignment-rest : (n : ℕ) (t : List ℤ) (w v : ℕ) → AllMet (assignmentNeedsThen n t w v passed) → RestFits n 0 t
+assignment-rest n t w v (s, (l, (k, (b, u)))) = whole-fits Sheet n 0 t (s .most) (s .room) b
+
 assignment-none : (n : ℕ) (t : List ℤ) (w v : ℕ) (r : Reply) → r ≡ assignmentReply n t w v → AllMet (assignmentNeedsThen n t w v passed)
     → (replyNumber r ≡ 5) ↔ Unsatisfiable n t
 assignment-none n t w v r e p = five-none n t r (e ∙ assignment-late n t w v p) (refuted-exactly n t (assignment-fits n t w v p))
@@ -169,53 +172,35 @@ assignment-refused n t w v w' r f e d l = record {
 }
 
 assignment-decided : (n : ℕ) (t w v w' : List ℤ) (b : Bool)
-    → AllMet (assignmentNeedsThen n t (length w) (length v) passed) → Decided n t w b w'
+    → AllMet (assignmentNeedsThen n t (length w) (length v) passed) → Decided n 0 t w b w'
     → check (not b) NoAssignment Done ≡ assignmentReply n t (length w) (length v)
 assignment-decided n t w v w' b p d = sym (assignment-late n t (length w) (length v) p ∙ rw (← d .reply))
 
 pub assignment-five : (n : ℕ) (t w v w' : List ℤ)
-    → AllMet (assignmentNeedsThen n t (length w) (length v) passed) → Decided n t w true w'
+    → AllMet (assignmentNeedsThen n t (length w) (length v) passed) → Decided n 0 t w true w'
     → Assigned n t w v (Refused NoAssignment) w' v
 assignment-five n t w v w' p d =
     assignment-refused n t w v w' (Refused NoAssignment) NoAssignment (assignment-decided n t w v w' true p d) refl (d .lent)
 
 -- the table that the values are read from
-pub decided-layered : (n : ℕ) (t w w' : List ℤ) (r : Bool) → Fits n t → blockStart n ≤ length w → r ≡ false → Decided n t w r w' → Layered n w'
-decided-layered n t w w' r f l e d =
-    rw (d .words e) (reduced-layered n (change (blockStart n) (copying t) w)
-    (same-fits n t (change (blockStart n) (copying t) w) (copied n t w (f .grows .room) l) f))
+pub decided-reduced : (n set : ℕ) (t w w' : List ℤ) → RestFits n set t → blockStart n ≤ length w → Decided n set t w false w' → Reduced n set t w'
+decided-reduced n set t w w' f l d = record { fits = f; at = d .reduced refl; room = omega (arith, d .lent .size) }
 
 -- the values read back from it, where some integers satisfy the table
 pub record ValuesFound (n : ℕ) (t v v' : List ℤ) : Type 0 where
   pub written : Lent n true v v'
   pub found : AssignmentFound n t v'
 
-pub values-found : (n : ℕ) (t w v w' v' : List ℤ) → Fits n t → blockStart n ≤ length t → blockStart n ≤ length w → n ≤ length v → Decided n t w false w'
-    → v' ≡ fillDown n w' n v → ValuesFound n t v v'
-values-found n t w v w' v' g m l p d k =
-    let u : List ℤ = change (blockStart n) (copying t) w in
-    let same : SameTable n t u = copied n t w m l in
-    let f : Fits n u = same-fits n t u same g in
-    let filled : v' ≡ fillDown n (pairUpTo true n n u) n v = k ∙ rw (d .words refl) in
-    let s = reduced-satisfies n u v f p (reduced-refuted n t u same g ∙ sym (d .reply)) in
-    rw filled (record {
-      written = record {
-        size = fillDown-length n n (pairUpTo true n n u) v;
-        rest = fillDown-rest n n (pairUpTo true n n u) v (omega arith);
-        kept = λ c. clash refl c;
-      };
-      found = record {
-        meaning = same-satisfies n u t (assignmentOf (fillDown n (pairUpTo true n n u) n v)) (same-back n t u same) s;
-        range = λ i h. filled-range n (pairUpTo true n n u) v (reduced-layered n u f) p i h;
-      };
-    })
+pub values-found : (n set : ℕ) (t w v w' v' : List ℤ) → RestFits n set t → blockStart n ≤ length w → Decided n set t w false w' → Filled n set w' v v' → ValuesFound n t v v'
+values-found n set t w v w' v' f l d k =
+    let r = decided-reduced n set t w w' f l d in
+    record { written = k .lent; found = record { meaning = k .meaning t r; range = λ i h. filled-range n set t w' v v' r k i h } }
 
 pub assignment-done : (n : ℕ) (t w v w' v' : List ℤ)
-    → AllMet (assignmentNeedsThen n t (length w) (length v) passed) → Decided n t w false w'
-    → v' ≡ fillDown n w' n v → Assigned n t w v Done w' v'
+    → AllMet (assignmentNeedsThen n t (length w) (length v) passed) → Decided n 0 t w false w' → Filled n 0 w' v v' → Assigned n t w v Done w' v'
 assignment-done n t w v w' v' p d k =
     let e = assignment-decided n t w v w' false p d in
-    let a = values-found n t w v w' v' (assignment-fits n t (length w) (length v) p) (p .0 .room) (p .1 .0) (p .1 .1 .0) d k in
+    let a = values-found n 0 t w v w' v' (assignment-rest n t (length w) (length v) p) (p .1 .0) d k in
     record {
       reply = e;
       decided = tied-decided _ Done _ e (assignment-tied n t (length w) (length v));

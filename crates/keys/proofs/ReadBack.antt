@@ -33,7 +33,7 @@ use Rattle.elimination.proofs.Unnamed.{unnamed-lone, unnamed-pair}
 use Rattle.elimination.proofs.Values.{literal-within}
 use Rattle.keys.specs.Keys.{hideUpTo, keyOf}
 use Rattle.keys.specs.declared.live.Part.{Part}
-use Rattle.keys.specs.Inner.{memberOf, stillLive, AtTurns, Readable, readBack}
+use Rattle.keys.specs.Inner.{memberOf, stillLive, AtTurns, Readable, readOne, readBack}
 use Rattle.keys.proofs.Several.{Ample, hideUpTo-length, hideUpTo-unnamed}
 use Rattle.keys.proofs.Fitting.{memberLimit, limit-step, limit-stays, limit-rises, hidden-within, set-ample, hide-unnamed}
 use Rattle.keys.proofs.Turning.{notYet, turn-had, turn-own, yet-later, yet-before, had-yet}
@@ -169,7 +169,7 @@ module _ (set : ℕ) (part : Part) (n wide : ℕ) (t table values : List ℤ) (r
 
   -- the values have the same room
   pub read-length : (m : ℕ) → length (readBack set part n table m values) ≡ length values
-  unfolding readBack
+  unfolding readBack readOne
   read-length zero = refl
   read-length (suc m) = go (members (suc (n - suc m))) (read-length m)
     where
@@ -182,7 +182,7 @@ module _ (set : ℕ) (part : Part) (n wide : ℕ) (t table values : List ℤ) (r
 
   -- words past the first n stay
   pub read-rest : (m : ℕ) → m ≤ n → drop n (readBack set part n table m values) ≡ drop n values
-  unfolding readBack
+  unfolding readBack readOne
   read-rest zero h = refl
   read-rest (suc m) h = go (members (suc (n - suc m))) (read-rest m (omega arith))
     where
@@ -196,7 +196,7 @@ module _ (set : ℕ) (part : Part) (n wide : ℕ) (t table values : List ℤ) (r
 
   -- and so do those of the others
   pub read-others : (m : ℕ) → m ≤ n → (i : ℕ) → members (suc i) ≡ false → wordAt (readBack set part n table m values) i ≡ wordAt values i
-  unfolding readBack
+  unfolding readBack readOne
   read-others zero h i e = refl
   read-others (suc m) h i e = go (members (suc (n - suc m))) refl (read-others m (omega arith) i e)
     where
@@ -212,7 +212,7 @@ module _ (set : ℕ) (part : Part) (n wide : ℕ) (t table values : List ℤ) (r
 
   pub read-satisfies : Satisfies n (keyOf members n t) (assignmentOf values) → (m : ℕ) → m ≤ n
       → Satisfies n (hideUpTo members n (n - m) t) (assignmentOf (readBack set part n table m values))
-  unfolding readBack keyOf hideUpTo choice
+  unfolding readBack readOne keyOf hideUpTo choice
   read-satisfies s zero h = rw none s
     where
       none : n - 0 ≡ n
@@ -275,7 +275,7 @@ module _ (set : ℕ) (part : Part) (n wide : ℕ) (t table values : List ℤ) (r
 
   pub read-within : (m : ℕ) → m ≤ n → (i : ℕ) → i < n → (members (suc i) ≡ false) ⊎ (n - m ≤ i)
       → Within (pos (readLimit (n - m))) (wordAt (readBack set part n table m values) i)
-  unfolding readBack
+  unfolding readBack readOne
   read-within zero h i g (inl e) = within-mono (omega arith) (r .others i g e)
   read-within zero h i g (inr l) = let z : ⊥ = omega arith in absurd z
   read-within (suc m) h i g c = go (λ k p d. read-within m (omega arith) k p d) (members (suc j)) refl (eqb i j) refl

@@ -22,9 +22,9 @@ use Rattle.rules.specs.Limits.{maxQuantities}
 use Rattle.tables.specs.declared.reply.Reply.{Reply}
 use Rattle.tables.specs.declared.reply.Reply.the-variants.{Done, Refused}
 use Rattle.tables.specs.Meaning.{Satisfies, Unsatisfiable, WordsWithin, assignmentOf}
-use Rattle.elimination.specs.Hiding.{every, contradicts}
+use Rattle.elimination.specs.Hiding.{every, paired, contradicts}
 use Rattle.elimination.specs.Choosing.{choice}
-use Rattle.elimination.specs.Magnitude.{Unnamed}
+use Rattle.elimination.specs.Magnitude.{valueLimit, Unnamed}
 use Rattle.elimination.specs.Inner.{among, Listed, Ready}
 use Rattle.keys.specs.declared.live.Part.{Part}
 use Rattle.keys.specs.declared.live.Part.the-variants.{Inside, Outside}
@@ -138,13 +138,14 @@ pub record PartReadable (n set : ℕ) (part : Part) (table values : List ℤ) : 
   pub readable : Readable (memberOf set part) n wide from table values
   pub alone : (i : ℕ) → i < n → stillLive set part 0 i ≡ false → Unnamed n i from
 
--- of the last m quantities those of the part given their values, the last first
+-- quantity j + 1 given its value where it is of the part
+unfoldable pub readOne : ℕ → Part → ℕ → List ℤ → ℕ → List ℤ → List ℤ
+readOne set part n t j values = cond (memberOf set part (suc j)) (put values j (choice (stillLive set part (suc j)) n t j values)) values
+
+-- the last m quantities, the last first
 unfoldable pub readBack : ℕ → Part → ℕ → List ℤ → ℕ → List ℤ → List ℤ
 readBack set part n t zero values = values
-readBack set part n t (suc m) values =
-    cond (memberOf set part (suc (n - suc m)))
-    (put (readBack set part n t m values) (n - suc m) (choice (stillLive set part (suc (n - suc m))) n t (n - suc m) (readBack set part n t m values)))
-    (readBack set part n t m values)
+readBack set part n t (suc m) values = readOne set part n t (n - suc m) (readBack set part n t m values)
 
 -- a table reduced: all quantities outside the set eliminated, and none in it named
 pub record Reduced (n set : ℕ) (t table : List ℤ) : Type 0 where
@@ -165,15 +166,29 @@ pub record Filled (n set : ℕ) (table values values' : List ℤ) : Type 0 where
       → Within (pos (r .fits .sums .limit * 2 ^ hiddenCount (outside set) n - r .fits .sums .limit)) (wordAt values' i)
   pub lent : Lent n true values values'
 
--- ---- a member's step
+-- ---- one turn
 
--- quantity j + 1 of a table, in which no rule names a quantity of the set before it, with a list and rows for the live ones
-pub record MemberReady (n set j : ℕ) (table : List ℤ) (list : List ℕ) (plus minus : List ℤ) : Type 0 where
+-- quantity j + 1 of a table whose words add, with room for a list of live quantities and for rows
+pub record TurnReady (n j : ℕ) (table : List ℤ) (list : List ℕ) (plus minus : List ℤ) : Type 0 where
   pub ready : Ready n j table
-  pub gone : (i : ℕ) → i < j → hiddenIn set (suc i) ≡ true → Unnamed n i table
   pub list-room : n ≤ length list
   pub plus-room : 2 * n ≤ length plus
   pub minus-room : 2 * n ≤ length minus
+
+-- it is paired with the live ones where it is of the part
+pub record TurnTaken (n set : ℕ) (part : Part) (j : ℕ) (before : List ℤ) (r : Bool) (after : List ℤ) : Type 0 where
+  pub reply : r ≡ (memberOf set part (suc j) && contradicts (stillLive set part (suc j)) n j before)
+  pub table : after ≡ cond (memberOf set part (suc j)) (paired (stillLive set part (suc j)) n j before) before
+
+-- the live quantities have values
+pub record ChoiceReady (n set : ℕ) (part : Part) (j : ℕ) (values : List ℤ) : Type 0 where
+  pub room : n ≤ length values
+  pub each : (i : ℕ) → i < n → stillLive set part (suc j) i ≡ true → Within valueLimit (wordAt values i)
+
+-- to be hidden: where rules name no quantity of the set before it
+pub record HideReady (n set j : ℕ) (table : List ℤ) (list : List ℕ) (plus minus : List ℤ) : Type 0 where
+  pub turn : TurnReady n j table list plus minus
+  pub gone : (i : ℕ) → i < j → hiddenIn set (suc i) ≡ true → Unnamed n i table
 
 -- ---- the calls' checks before 5: a refusal is the call's reply, and where they are done the needs are met
 

@@ -17,7 +17,7 @@ ghost use Prim.Native.Nat.{suc};
 ghost use Rattle.rules.specs.Hidden.{hiddenIn};
 ghost use Rattle.elimination.specs.Hiding.{eliminated};
 ghost use Rattle.keys.specs.Keys.{keyOf};
-ghost use Rattle.keys.specs.Inner.{Fits, MemberReady, KeyChecked};
+ghost use Rattle.keys.specs.Inner.{Fits, HideReady, KeyChecked};
 ghost use Rattle.keys.specs.Promises.{Keyed};
 
 // Hides quantity `j + 1` where the set has it; of the set none before it is named by a rule any more. List and rows are free.
@@ -30,7 +30,7 @@ fn hide_member(
     plus: &mut [i64],
     minus: &mut [i64],
 )
-    requires { ⌜ MemberReady n set j (now table) (now list) (now plus) (now minus) ⌝ }
+    requires { ⌜ HideReady n set j (now table) (now list) (now plus) (now minus) ⌝ }
     ensures { λ _. ⌜ now (table .exit) ≡ cond (hiddenIn set (suc j)) (eliminated n j (now (table .entry))) (now (table .entry)) ⌝ }
 {
     if !hidden::is_hidden(set, j + 1) {

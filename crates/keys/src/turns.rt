@@ -6,7 +6,29 @@ use elimination::choose;
 use elimination::pair;
 use rules::hidden::Set;
 ghost use mathlib.Core.Path.{_≡_};
-ghost use Rattle.keys.specs.Inner.{memberOf, PartFits, SetEliminated, PartReadable, readBack};
+ghost use Prim.Native.Nat.{suc};
+ghost use Rattle.keys.specs.Inner.{memberOf, PartFits, SetEliminated, PartReadable, readBack, readOne, TurnReady, TurnTaken, ChoiceReady};
+
+// Pairs quantity `j + 1` with the live ones where it is of the part, and answers whether a contradiction is met. List and rows are free.
+fn take_turn(
+    n: usize,
+    set: Set,
+    part: Part,
+    table: &mut [i64],
+    j: usize,
+    list: &mut [usize],
+    plus: &mut [i64],
+    minus: &mut [i64],
+) -> bool
+    requires { ⌜ TurnReady n j (now table) (now list) (now plus) (now minus) ⌝ }
+    ensures { λ r. ⌜ TurnTaken n set part j (now (table .entry)) r (now (table .exit)) ⌝ }
+{
+    if !live::is_member(set, part, j) {
+        return false;
+    }
+    let count = live::list(n, set, part, j + 1, list);
+    pair::pair(n, table, j, &list[..count], plus, minus)
+}
 
 // Pairs each quantity of the part in increasing number with all but those of it before, and answers whether a contradiction is met, at which it stops. Where the part is outside the set,
 // those in it take no part: no rule names them.
@@ -19,18 +41,37 @@ pub fn eliminate(n: usize, set: Set, part: Part, table: &mut [i64]) -> bool
     let mut minus = [0; live::ROW];
     let mut j = 0;
     while j < n {
-        if live::is_member(set, part, j) {
-            let count = live::list(n, set, part, j + 1, &mut list);
-            if pair::pair(n, table, j, &list[..count], &mut plus, &mut minus) {
-                return true;
-            }
+        if take_turn(n, set, part, table, j, &mut list, &mut plus, &mut minus) {
+            return true;
         }
         j = j + 1;
     }
     false
 }
 
-// Chooses a value for each quantity of the part, the last first, from its rules as at its turn, given the values of the others.
+// Chooses a value for quantity `j + 1` where it is of the part, from its rules as at its turn, given the values of the live ones. List and rows are free.
+fn choose_value(
+    n: usize,
+    set: Set,
+    part: Part,
+    table: &[i64],
+    values: &mut [i64],
+    j: usize,
+    list: &mut [usize],
+    plus: &mut [i64],
+    minus: &mut [i64],
+)
+    requires { ⌜ TurnReady n j (now table) (now list) (now plus) (now minus) × ChoiceReady n set part j (now values) ⌝ }
+    ensures { λ _. ⌜ now (values .exit) ≡ readOne set part n (now (table .entry)) j (now (values .entry)) ⌝ }
+{
+    if !live::is_member(set, part, j) {
+        return;
+    }
+    let count = live::list(n, set, part, j + 1, list);
+    values[j] = choose::choose(n, table, values, j, &list[..count], plus, minus);
+}
+
+// Chooses a value for each quantity of the part, the last first, given the values of the others.
 pub fn read_back(n: usize, set: Set, part: Part, table: &[i64], values: &mut [i64])
     requires { ⌜ PartReadable n set part (now table) (now values) ⌝ }
     ensures { λ _. ⌜ now (values .exit) ≡ readBack set part n (now (table .entry)) n (now (values .entry)) ⌝ }
@@ -41,9 +82,16 @@ pub fn read_back(n: usize, set: Set, part: Part, table: &[i64], values: &mut [i6
     let mut j = n;
     while 0 < j {
         j = j - 1;
-        if live::is_member(set, part, j) {
-            let count = live::list(n, set, part, j + 1, &mut list);
-            values[j] = choose::choose(n, table, values, j, &list[..count], &mut plus, &mut minus);
-        }
+        choose_value(
+            n,
+            set,
+            part,
+            table,
+            values,
+            j,
+            &mut list,
+            &mut plus,
+            &mut minus,
+        );
     }
 }

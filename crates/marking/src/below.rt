@@ -3,8 +3,7 @@ use places::Place;
 use rules::sheet::Sheet;
 
 // The first of `count` places from `at` on whose word is a rule, and smaller than that of `least`.
-fn first_of(rules: &[i64], least: &[i64], at: usize, count: usize) -> Place
-{
+fn first_of(rules: &[i64], least: &[i64], at: usize, count: usize) -> Place {
     let mut i = 0;
     while i < count {
         let w = rules[at + i];
@@ -19,8 +18,7 @@ fn first_of(rules: &[i64], least: &[i64], at: usize, count: usize) -> Place
 }
 
 // The first such place in the block of the live quantity of place `i` in the list.
-fn first_in_block(live: &[usize], i: usize, rules: &[i64], least: &[i64]) -> Place
-{
+fn first_in_block(live: &[usize], i: usize, rules: &[i64], least: &[i64]) -> Place {
     let b = live[i];
     let start = 2 * (b * b);
     let alone = first_of(rules, least, start, 2);
@@ -39,8 +37,7 @@ fn first_in_block(live: &[usize], i: usize, rules: &[i64], least: &[i64]) -> Pla
 }
 
 // The first such place of all.
-pub(crate) fn first_below(live: &[usize], rules: &[i64], least: &[i64]) -> Place
-{
+pub(crate) fn first_below(live: &[usize], rules: &[i64], least: &[i64]) -> Place {
     let mut i = 0;
     while i < live.len() {
         let found = first_in_block(live, i, rules, least);

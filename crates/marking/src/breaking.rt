@@ -12,8 +12,7 @@ use tables::table;
 use tightening::tighten;
 
 // Copies the first `m` words over the next `m`.
-fn copy_back(workspace: &mut [i64], m: usize)
-{
+fn copy_back(workspace: &mut [i64], m: usize) {
     let mut i = 0;
     while i < m {
         workspace[m + i] = workspace[i];
@@ -22,8 +21,7 @@ fn copy_back(workspace: &mut [i64], m: usize)
 }
 
 // Writes the key to the back of the workspace, from its front, where the sheet has its hidden quantities paired.
-fn copy_key(n: usize, set: Set, workspace: &mut [i64])
-{
+fn copy_key(n: usize, set: Set, workspace: &mut [i64]) {
     let m = table::size(n);
     copy_back(workspace, m);
     hidden_first::clear_set(n, set, &mut workspace[m..]);
@@ -37,8 +35,7 @@ fn break_rule(
     table: &mut [i64],
     rule: Rule,
     values: &mut [i64],
-)
-{
+) {
     table::put(n, table, rule.opposite());
     decide::pair_all(n, table, visible, true);
     assignment::fill(n, set, table, values);
@@ -51,8 +48,7 @@ pub(crate) fn reduce_sheet(
     visible: &[usize],
     sheet: &[i64],
     workspace: &mut [i64],
-) -> bool
-{
+) -> bool {
     let m = table::size(n);
     words::copy(workspace, sheet, m);
     if hidden_first::pair_set(n, set, workspace) {
@@ -70,8 +66,7 @@ pub(crate) fn break_key(
     script: &[i64],
     workspace: &mut [i64],
     values: &mut [i64],
-) -> Rule
-{
+) -> Rule {
     let m = table::size(n);
     words::copy(&mut workspace[m..], script, m);
     if tighten::tighten(n, &mut workspace[m..], visible) {
@@ -95,8 +90,7 @@ pub(crate) fn break_sheet(
     rule: Rule,
     workspace: &mut [i64],
     values: &mut [i64],
-)
-{
+) {
     let m = table::size(n);
     copy_key(n, set, workspace);
     break_rule(n, set, visible, &mut workspace[m..], rule, values);

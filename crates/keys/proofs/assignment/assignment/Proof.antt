@@ -1,6 +1,6 @@
 -- `assignment::assignment` meets its contract: the checks, the decision in the workspace, then the values. Assumes nothing.
 use borrow.Author.Needs.{needs}
-use Rattle.keys.proofs.Promised.{untouched, assignment-fits, assignment-refused, assignment-five, assignment-done, decided-layered}
+use Rattle.keys.proofs.Promised.{untouched, assignment-rest, assignment-refused, assignment-five, assignment-done, decided-reduced}
 use Rattle.keys.proofs.assignment.assignment.Statement.{statement}
 use Rattle.keys.proofs.assignment.assignment.Tie as tie
 
@@ -21,7 +21,7 @@ decide-requires : tie.Need-decide-requires
 decide-requires c κs =
     let a = c .before in
     let p = a .before .before .check .ensures .passes (a .enum-told .given .1) in
-    (assignment-fits _ _ _ _ p, p .1 .0)
+    (assignment-rest _ _ _ _ p, p .1 .0)
 
 same-length : tie.Need-same-length
 same-length c = search needs
@@ -39,7 +39,7 @@ fill-requires c κs =
     let d = o .before .before in
     let a = d .before .before in
     let p = a .before .before .check .ensures .passes (a .enum-told .given .1) in
-    (decided-layered _ _ _ _ _ (assignment-fits _ _ _ _ p) (p .1 .0) (o .if1 .left) (d .decide .ensures), p .1 .1 .0)
+    record { from = _; reduced = decided-reduced _ _ _ _ _ (assignment-rest _ _ _ _ p) (p .1 .0) (rw (o .if1 .left) at (d .decide .ensures)); values-room = p .1 .1 .0 }
 
 same-length-2 : tie.Need-same-length-2
 same-length-2 c = search needs

@@ -1,6 +1,6 @@
 -- `key::key` meets its contract: the checks, the decision in the workspace, then the hiding in the table. Assumes nothing.
 use borrow.Author.Needs.{needs}
-use Rattle.keys.proofs.Promised.{untouched, key-fits, key-refused, key-five, key-done}
+use Rattle.keys.proofs.Promised.{untouched, key-fits, key-rest, key-refused, key-five, key-done}
 use Rattle.keys.proofs.key.key.Statement.{statement}
 use Rattle.keys.proofs.key.key.Tie as tie
 
@@ -24,7 +24,7 @@ decide-requires : tie.Need-decide-requires
 decide-requires c κs =
     let a = c .before .before in
     let p = a .before .before .check .ensures .passes (a .enum-told .given .1) in
-    (key-fits _ _ _ _ p, p .1 .0)
+    (key-rest _ _ _ _ p, p .1 .0)
 
 same-length-2 : tie.Need-same-length-2
 same-length-2 c = search needs

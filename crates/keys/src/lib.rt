@@ -1,6 +1,8 @@
 // The key of a sheet and an assignment of a table, in place and with one lent workspace.
 pub mod assignment;
+pub mod breaking;
 mod checks;
+pub mod copying;
 pub mod decide;
 pub mod key;
 pub mod live;

@@ -3,7 +3,7 @@
 -- program pairs all quantities and so decides 'no assignment' in one table, which document 01 leaves free.
 pub mod Keys
 pub mod Inner
-pub mod Copying
+pub mod Copies
 pub mod Breaking
 pub mod Meaning
 pub mod Promises

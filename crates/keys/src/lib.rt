@@ -2,7 +2,7 @@
 pub mod assignment;
 pub mod breaking;
 mod checks;
-pub mod copying;
+pub mod copies;
 pub mod decide;
 pub mod key;
 pub mod live;

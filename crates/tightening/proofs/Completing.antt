@@ -20,16 +20,17 @@ use Rattle.rules.proofs.Literals.{sign-cases, value-plus, value-minus, value-ne
 use Rattle.tables.specs.Tables.{hasRule}
 use Rattle.tables.specs.Meaning.{Satisfies, SheetAllows}
 use Rattle.tables.proofs.Tests.{clash}
-use Rattle.elimination.specs.Hiding.{pairWord, loneWord}
-use Rattle.elimination.specs.Magnitude.{Past, Unnamed}
+use Rattle.elimination.specs.Hiding.{every, pairWord, loneWord}
+use Rattle.elimination.specs.Magnitude.{Live, Unnamed}
 use Rattle.elimination.proofs.TermWords.{pair-none, pair-sym}
 use Rattle.elimination.proofs.SumWords.{hasRule-mono}
 use Rattle.elimination.proofs.Terms.{TermsMet, satisfies-met, literal-agree}
 use Rattle.elimination.proofs.Unnamed.{unnamed-lone, unnamed-pair}
 use Rattle.keys.specs.Keys.{keyOf}
-use Rattle.keys.specs.Inner.{pairUpTo, Fits}
+use Rattle.keys.specs.Inner.{Fits}
 use Rattle.keys.proofs.Several.{hideUpTo-length, hideUpTo-unnamed, key-exact}
 use Rattle.keys.proofs.Fitting.{hide-ample}
+use Rattle.tightening.specs.Tightening.{pairUpTo}
 use Rattle.tightening.proofs.Lower.{most-lone, most-pair, key-most}
 
 -- ---- visible quantities
@@ -51,15 +52,15 @@ key-hides hidden n t x l h e =
     hideUpTo-unnamed hidden n n (x / 2) t (omega arith) l (rw (le-leb (suc (x / 2)) n (omega arith)) (rw (add-one (x / 2)) at e))
 
 -- what meets the paired table on the visible literals meets the key, which names no others
-key-met : (hidden : ℕ → Bool) (n : ℕ) (t : List ℤ) (σ : Assignment) → blockStart n ≤ length t → TermsMet (Visible hidden n) (pairUpTo false n n t) σ
-    → TermsMet (Past 0 n) (keyOf hidden n t) σ
+key-met : (hidden : ℕ → Bool) (n : ℕ) (t : List ℤ) (σ : Assignment) → blockStart n ≤ length t → TermsMet (Visible hidden n) (pairUpTo n n t) σ
+    → TermsMet (Live every n) (keyOf hidden n t) σ
 key-met hidden n t σ l m = record {
   one = λ x i r. one-of x (i .1) r (hidden (quantityOf x)) refl;
   two = λ x y i k r. two-of x y (i .1) (k .1) r (hidden (quantityOf x)) refl (hidden (quantityOf y)) refl;
 }
   where
     u : List ℤ
-    u = pairUpTo false n n t
+    u = pairUpTo n n t
 
     v : List ℤ
     v = keyOf hidden n t
@@ -86,10 +87,10 @@ key-met hidden n t σ l m = record {
 
 -- so hidden values complete it, where some integers satisfy the table
 pub visible-completes : (hidden : ℕ → Bool) (n : ℕ) (t : List ℤ) (σ₀ σ : Assignment) → Fits n t → Satisfies n t σ₀
-    → TermsMet (Visible hidden n) (pairUpTo false n n t) σ → SheetAllows hidden (Satisfies n t) σ
+    → TermsMet (Visible hidden n) (pairUpTo n n t) σ → SheetAllows hidden (Satisfies n t) σ
 visible-completes hidden n t σ₀ σ f s m =
     key-exact hidden n t σ₀ (hide-ample hidden n t f) s σ .0
-    (satisfies-met n (keyOf hidden n t) σ (key-room hidden n t (f .grows .room)) .1 (key-met hidden n t σ (f .grows .room) m))
+    (satisfies-met n (keyOf hidden n t) σ (key-room hidden n t (f .sums .room)) .1 (key-met hidden n t σ (f .sums .room) m))
 
 -- ---- the integer of one literal
 

@@ -22,34 +22,34 @@ use Rattle.tables.specs.Tables.{hasRule}
 use Rattle.tables.specs.Meaning.{Satisfies, Satisfiable, Breaks}
 use Rattle.tables.proofs.Tests.{clash}
 use Rattle.tables.proofs.Values.{meets-at, at-meets}
-use Rattle.elimination.specs.Hiding.{withSum, pairWord, loneWord}
+use Rattle.elimination.specs.Hiding.{every, withSum, pairWord, loneWord}
 use Rattle.elimination.specs.Magnitude.{addLimit}
 use Rattle.elimination.proofs.TermWords.{lone-at, pair-at}
 use Rattle.elimination.proofs.SumWords.{hasRule-mono, withSum-word, withSum-sum, withSum-elim}
-use Rattle.keys.specs.Keys.{every, refuted}
-use Rattle.keys.specs.Inner.{pairUpTo, clashUpTo, Fits}
+use Rattle.keys.specs.Keys.{refuted}
+use Rattle.keys.specs.Inner.{Fits}
 use Rattle.keys.proofs.Several.{refuted-false}
 use Rattle.keys.proofs.Fitting.{hide-ample}
-use Rattle.keys.proofs.Pairing.{pair-room, clash-unsatisfiable}
-use Rattle.keys.proofs.Growing.{pair-ample}
 use Rattle.keys.proofs.Deciding.{decides-refuted}
-use Rattle.tightening.specs.Tightening.{strengthening, strengthened, tightened}
+use Rattle.tightening.specs.Tightening.{pairUpTo, clashUpTo, strengthening, strengthened, tightened}
 use Rattle.tightening.specs.Promises.{LeastBound}
+use Rattle.tightening.proofs.Pairing.{pair-room, clash-unsatisfiable}
+use Rattle.tightening.proofs.Growing.{pair-ample}
 use Rattle.tightening.proofs.Lower.{clear-refuted}
 use Rattle.tightening.proofs.ReachedBounds.{Reaches, paired-terms, lone-reached, pair-reached}
 
 -- ---- contradictions
 
 -- where no contradiction is met, neither is one by hiding, so some integers satisfy the table
-clear-satisfiable : (n : ℕ) (t : List ℤ) → Fits n t → clashUpTo false n n t ≡ false → Satisfiable n t
+clear-satisfiable : (n : ℕ) (t : List ℤ) → Fits n t → clashUpTo n n t ≡ false → Satisfiable n t
 unfolding refuted
-clear-satisfiable n t f e = refuted-false n t (f .grows .room) (hide-ample every n t f) (clear-refuted n n t (omega arith) (f .grows .room) e)
+clear-satisfiable n t f e = refuted-false n t (f .sums .room) (hide-ample every n t f) (clear-refuted n n t (omega arith) (f .sums .room) e)
 
 -- both decisions are the same
-pub clash-refuted : (n : ℕ) (t : List ℤ) → Fits n t → clashUpTo false n n t ≡ refuted n t
+pub clash-refuted : (n : ℕ) (t : List ℤ) → Fits n t → clashUpTo n n t ≡ refuted n t
 clash-refuted n t f =
-    decides-refuted n t (clashUpTo false n n t) f
-    (λ d σ s. clash-unsatisfiable false n n t σ (omega arith) (f .grows .room) d s)
+    decides-refuted n t (clashUpTo n n t) f
+    (λ d σ s. clash-unsatisfiable n n t σ (omega arith) (f .sums .room) d s)
     (clear-satisfiable n t f)
 
 -- ---- words
@@ -126,13 +126,13 @@ unfolding positivePart negativePart
 sum-rule a b h g = lt-ltZ (a +ℤ b) noRule (omega (linear, parts-add a b))
 
 -- where pairing meets no contradiction, each word of the tightest table is the least bound of its term
-pub tightened-least : (n : ℕ) (t : List ℤ) → Fits n t → clashUpTo false n n t ≡ false → (k : ℕ) → k < blockStart n
+pub tightened-least : (n : ℕ) (t : List ℤ) → Fits n t → clashUpTo n n t ≡ false → (k : ℕ) → k < blockStart n
     → LeastBound n t k (wordAt (tightened n t) k)
 unfolding tightened positivePart negativePart
 tightened-least n t f clear k h = go (isOne k) refl
   where
     u : List ℤ
-    u = pairUpTo false n n t
+    u = pairUpTo n n t
 
     x : ℕ
     x = lowerAt k
@@ -150,7 +150,7 @@ tightened-least n t f clear k h = go (isOne k) refl
     s = clear-satisfiable n t f clear .satisfies
 
     room : blockStart n ≤ length u
-    room = pair-room false n n t (f .grows .room)
+    room = pair-room n n t (f .sums .room)
 
     next : (c w : ℤ) → c <ℤ w → (c +ℤ pos 1) ≤ℤ w
     next c w l = omega (linear, parts-add c (pos 1))
@@ -162,7 +162,7 @@ tightened-least n t f clear k h = go (isOne k) refl
     adds : (z : ℕ) → z < 2 * n → hasRule (loneWord u z) ≡ true → Within addLimit (loneWord u z)
     adds z i =
         let p = one-below n z i in
-        pair-ample false n n t f (omega arith) .words .each (placeOfOne z) p (omega (arith, room))
+        pair-ample n n t f (omega arith) .words .each (placeOfOne z) p (omega (arith, room))
 
     w : ℤ
     w = withSum (loneWord u x) (loneWord u y) (pairWord u x y)
@@ -183,15 +183,15 @@ tightened-least n t f clear k h = go (isOne k) refl
         let m = paired-terms n t f τ z in
         let o = at-lower k e in
         withSum-elim (λ (w : ℤ). hasRule w ≡ true → (literalValue τ x +ℤ literalValue τ y) ≤ℤ w) (loneWord u x) (loneWord u y) (pairWord u x y)
-        (m .two x y (omega arith, omega (arith, inside)) (omega arith, inside))
-        (λ p q r. let a = m .one x (omega arith, omega (arith, inside)) p in let b = m .one y (omega arith, inside) q in
+        (m .two x y (refl, omega (arith, inside)) (refl, inside))
+        (λ p q r. let a = m .one x (refl, omega (arith, inside)) p in let b = m .one y (refl, inside) q in
         omega (linear, parts-add (literalValue τ x) (literalValue τ y), parts-add (loneWord u x) (loneWord u y)))
 
     go : (b : Bool) → isOne k ≡ b → LeastBound n t k (wordAt (strengthened n u) k)
     go true e =
         rw (strengthened-lone n u k room h e)
         (least-bound n t k (loneWord u y) (λ τ. literalValue τ y) (λ c τ. one-meaning τ k c e)
-        (λ τ z. paired-terms n t f τ z .one y (omega arith, inside)) one)
+        (λ τ z. paired-terms n t f τ z .one y (refl, inside)) one)
     go false e =
         rw (strengthened-pair n u k room h e)
         (least-bound n t k w (λ τ. literalValue τ x +ℤ literalValue τ y) (λ c τ. two-meaning τ k c e) (kept e) (two e))

@@ -13,18 +13,24 @@ use Rattle.places.specs.Numbering.{blockStart}
 use Rattle.tables.specs.Meaning.{Unsatisfiable}
 use Rattle.tables.proofs.Tests.{clash}
 use Rattle.keys.specs.Keys.{refuted}
-use Rattle.keys.specs.Inner.{pairUpTo, Fits, AllPaired}
+use Rattle.keys.specs.Inner.{Fits, LiveAlone}
 use Rattle.keys.proofs.Deciding.{refuted-exactly}
-use Rattle.keys.proofs.Growing.{pair-ample}
-use Rattle.tightening.specs.Tightening.{strengthened, tightened}
+use Rattle.tightening.specs.Tightening.{pairUpTo, strengthened, tightened}
 use Rattle.tightening.specs.Promises.{LeastBound, Tightened}
+use Rattle.tightening.specs.Inner.{AllPaired, Adding}
+use Rattle.tightening.proofs.Pairing.{pair-unnamed}
+use Rattle.tightening.proofs.Growing.{pair-ample}
 use Rattle.tightening.proofs.Least.{clash-refuted, bound-least, tightened-least}
-use Rattle.tightening.specs.Inner.{Adding}
 
 -- the words of a table paired without a contradiction add
-pub clear-adding : (n : ℕ) (t u : List ℤ) → Fits n t → AllPaired false n t false u → Adding n u
+pub clear-adding : (n : ℕ) (t u : List ℤ) → Fits n t → AllPaired n t false u → Adding n u
 clear-adding n t u f p =
-    let a = pair-ample false n n t f (omega arith) in rw (p .table refl) (record { most = f .most; room = a .room; words = a .words })
+    let a = pair-ample n n t f (omega arith) in rw (p .table refl) (record { most = f .sums .most; room = a .room; words = a .words })
+
+-- and its rules name live quantities alone, as before
+pub clear-alone : (n : ℕ) (live : List ℕ) (t u : List ℤ) → Fits n t → LiveAlone n live t → AllPaired n t false u → LiveAlone n live u
+clear-alone n live t u f a p =
+    rw (p .table refl) (record { listed = a .listed; rest = λ i h e. pair-unnamed n n i t (omega arith) (f .sums .room) (a .rest i h e) })
 
 -- strengthening keeps the table's length, and the words past it
 strengthen-length : (n : ℕ) (t : List ℤ) → length (strengthened n t) ≡ length t
@@ -40,7 +46,7 @@ answer-tells : (n : ℕ) (t : List ℤ) (r : Bool) → Fits n t → r ≡ refute
 answer-tells n t r f e = rw e (refuted-exactly n t f)
 
 -- with a contradiction met, no integers satisfy the table
-pub tightened-none : (n : ℕ) (t u : List ℤ) → Fits n t → AllPaired false n t true u → Tightened n t true u
+pub tightened-none : (n : ℕ) (t u : List ℤ) → Fits n t → AllPaired n t true u → Tightened n t true u
 tightened-none n t u f p = record {
   reply = same;
   none = answer-tells n t true f same;
@@ -54,7 +60,7 @@ tightened-none n t u f p = record {
     same = p .reply ∙ clash-refuted n t f
 
 -- with none, the strengthened table is the tightest
-pub tightened-some : (n : ℕ) (t u v : List ℤ) → Fits n t → AllPaired false n t false u → v ≡ strengthened n u → Tightened n t false v
+pub tightened-some : (n : ℕ) (t u v : List ℤ) → Fits n t → AllPaired n t false u → v ≡ strengthened n u → Tightened n t false v
 unfolding tightened
 tightened-some n t u v f p e = record {
   reply = same;
@@ -72,7 +78,7 @@ tightened-some n t u v f p e = record {
     same : false ≡ refuted n t
     same = p .reply ∙ clash-refuted n t f
 
-    made : v ≡ strengthened n (pairUpTo false n n t)
+    made : v ≡ strengthened n (pairUpTo n n t)
     made = e ∙ rw (p .table refl)
 
     bounds : (k : ℕ) → k < blockStart n → LeastBound n t k (wordAt v k)

@@ -16,11 +16,12 @@ use Rattle.rules.proofs.Literals.{value-negated}
 use Rattle.tables.specs.Tables.{hasRule}
 use Rattle.tables.specs.Meaning.{Satisfies, SheetAllows, joined}
 use Rattle.tables.proofs.Tests.{clash}
-use Rattle.elimination.specs.Hiding.{pairWord, loneWord}
-use Rattle.elimination.specs.Magnitude.{Past}
+use Rattle.elimination.specs.Hiding.{every, pairWord, loneWord}
+use Rattle.elimination.specs.Magnitude.{Live}
 use Rattle.elimination.proofs.Terms.{TermsMet, satisfies-met, met-some, literal-agree}
-use Rattle.keys.specs.Inner.{pairUpTo, Fits}
-use Rattle.keys.proofs.Pairing.{pair-room, pair-kept}
+use Rattle.keys.specs.Inner.{Fits}
+use Rattle.tightening.specs.Tightening.{pairUpTo}
+use Rattle.tightening.proofs.Pairing.{pair-room, pair-kept}
 use Rattle.tightening.proofs.Completing.{Visible, visible-completes, changed, changed-own, changed-other, raised-met}
 
 -- some assignment that satisfies a table brings a value to d or above
@@ -31,26 +32,26 @@ pub record Reaches (n : ℕ) (t : List ℤ) (value : Assignment → ℤ) (d : �
 
 module _ (n : ℕ) (t : List ℤ) (f : Fits n t) where
   -- what satisfies the table meets every rule of the paired table
-  pub paired-terms : (σ : Assignment) → Satisfies n t σ → TermsMet (Past 0 n) (pairUpTo false n n t) σ
+  pub paired-terms : (σ : Assignment) → Satisfies n t σ → TermsMet (Live every n) (pairUpTo n n t) σ
   paired-terms σ s =
-      satisfies-met n (pairUpTo false n n t) σ (pair-room false n n t (f .grows .room)) .0 (pair-kept false n n t σ (omega arith) (f .grows .room) s)
+      satisfies-met n (pairUpTo n n t) σ (pair-room n n t (f .sums .room)) .0 (pair-kept n n t σ (omega arith) (f .sums .room) s)
 
   -- the literal r raised to v, where the bounds that it has with visible literals leave room: hidden values complete it
   raised : (hidden : ℕ → Bool) (σ : Assignment) (r : ℕ) (v : ℤ) → Satisfies n t σ → literalValue σ r ≤ℤ v
-      → (hasRule (loneWord (pairUpTo false n n t) r) ≡ true → v ≤ℤ loneWord (pairUpTo false n n t) r)
-      → ((z : ℕ) → Visible hidden n z → (z / 2 ≡ r / 2 → ⊥) → hasRule (pairWord (pairUpTo false n n t) z r) ≡ true
-      → (literalValue σ z +ℤ v) ≤ℤ pairWord (pairUpTo false n n t) z r)
+      → (hasRule (loneWord (pairUpTo n n t) r) ≡ true → v ≤ℤ loneWord (pairUpTo n n t) r)
+      → ((z : ℕ) → Visible hidden n z → (z / 2 ≡ r / 2 → ⊥) → hasRule (pairWord (pairUpTo n n t) z r) ≡ true
+      → (literalValue σ z +ℤ v) ≤ℤ pairWord (pairUpTo n n t) z r)
       → SheetAllows hidden (Satisfies n t) (changed σ r v)
   raised hidden σ r v s g alone beside =
       visible-completes hidden n t σ (changed σ r v) f s
-      (raised-met (Visible hidden n) (pairUpTo false n n t) σ r v
-      (met-some (Visible hidden n) (Past 0 n) (pairUpTo false n n t) σ (λ x i. (omega arith, i .0)) (paired-terms σ s)) g alone beside)
+      (raised-met (Visible hidden n) (pairUpTo n n t) σ r v
+      (met-some (Visible hidden n) (Live every n) (pairUpTo n n t) σ (λ x i. (refl, i .0)) (paired-terms σ s)) g alone beside)
 
   -- ---- one literal
 
   -- one literal reaches what its bound alone leaves room for
   pub lone-reached : (x : ℕ) (d : ℤ) (σ : Assignment) → x < 2 * n → Satisfies n t σ
-      → (hasRule (loneWord (pairUpTo false n n t) x) ≡ true → d ≤ℤ loneWord (pairUpTo false n n t) x)
+      → (hasRule (loneWord (pairUpTo n n t) x) ≡ true → d ≤ℤ loneWord (pairUpTo n n t) x)
       → Reaches n t (λ τ. literalValue τ x) d
   lone-reached x d σ h s alone = go (ltZ (literalValue σ x) d) refl
     where
@@ -83,34 +84,34 @@ module _ (n : ℕ) (t : List ℤ) (f : Fits n t) where
     record Leaves : Type 0 where
       assignment : Assignment
       satisfies : Satisfies n t assignment
-      alone : hasRule (loneWord (pairUpTo false n n t) y) ≡ true → d ≤ℤ (literalValue assignment x +ℤ loneWord (pairUpTo false n n t) y)
-      turned : hasRule (pairWord (pairUpTo false n n t) (negated x) y) ≡ true
-          → d ≤ℤ ((literalValue assignment x +ℤ literalValue assignment x) +ℤ pairWord (pairUpTo false n n t) (negated x) y)
+      alone : hasRule (loneWord (pairUpTo n n t) y) ≡ true → d ≤ℤ (literalValue assignment x +ℤ loneWord (pairUpTo n n t) y)
+      turned : hasRule (pairWord (pairUpTo n n t) (negated x) y) ≡ true
+          → d ≤ℤ ((literalValue assignment x +ℤ literalValue assignment x) +ℤ pairWord (pairUpTo n n t) (negated x) y)
 
     -- x as large as it can be leaves it: -x and y's bound gives y a bound, which is no less than y's least
     leaves : (σ : Assignment) → Satisfies n t σ
-        → (hasRule (loneWord (pairUpTo false n n t) x) ≡ true → hasRule (loneWord (pairUpTo false n n t) y) ≡ true
-        → d ≤ℤ (loneWord (pairUpTo false n n t) x +ℤ loneWord (pairUpTo false n n t) y))
+        → (hasRule (loneWord (pairUpTo n n t) x) ≡ true → hasRule (loneWord (pairUpTo n n t) y) ≡ true
+        → d ≤ℤ (loneWord (pairUpTo n n t) x +ℤ loneWord (pairUpTo n n t) y))
         → Leaves
     unfolding positivePart negativePart
     leaves σ s both = go (hasRule p) refl
       where
         p : ℤ
-        p = loneWord (pairUpTo false n n t) x
+        p = loneWord (pairUpTo n n t) x
 
         q : ℤ
-        q = loneWord (pairUpTo false n n t) y
+        q = loneWord (pairUpTo n n t) y
 
         b : ℤ
-        b = pairWord (pairUpTo false n n t) (negated x) y
+        b = pairWord (pairUpTo n n t) (negated x) y
 
         -- y is at most p + b everywhere, so y's bound is
         implied : hasRule p ≡ true → hasRule b ≡ true → (hasRule q ≡ true → ((p +ℤ b) +ℤ pos 1) ≤ℤ q) → ⊥
         implied e g room =
             let r = lone-reached y ((p +ℤ b) +ℤ pos 1) σ k s room in
             let m = paired-terms (r .assignment) (r .satisfies) in
-            let first = m .one x (omega arith, h) e in
-            let second = rw (value-negated (r .assignment) x) at (m .two (negated x) y (omega arith, omega arith) (omega arith, k) g) in
+            let first = m .one x (refl, h) e in
+            let second = rw (value-negated (r .assignment) x) at (m .two (negated x) y (refl, omega arith) (refl, k) g) in
             let third = r .reaches in
             omega (
               linear,
@@ -135,7 +136,7 @@ module _ (n : ℕ) (t : List ℤ) (f : Fits n t) where
         go true e =
             let r = lone-reached x p σ h s (λ g. omega linear) in
             let low = r .reaches in
-            let high = paired-terms (r .assignment) (r .satisfies) .one x (omega arith, h) e in
+            let high = paired-terms (r .assignment) (r .satisfies) .one x (refl, h) e in
             let v = literalValue (r .assignment) x in
             record {
               assignment = r .assignment;
@@ -157,9 +158,9 @@ module _ (n : ℕ) (t : List ℤ) (f : Fits n t) where
 
     -- two literals reach what their bound together and the sum of their bounds alone leave room for
     pub pair-reached : (σ : Assignment) → Satisfies n t σ
-        → (hasRule (pairWord (pairUpTo false n n t) x y) ≡ true → d ≤ℤ pairWord (pairUpTo false n n t) x y)
-        → (hasRule (loneWord (pairUpTo false n n t) x) ≡ true → hasRule (loneWord (pairUpTo false n n t) y) ≡ true
-        → d ≤ℤ (loneWord (pairUpTo false n n t) x +ℤ loneWord (pairUpTo false n n t) y))
+        → (hasRule (pairWord (pairUpTo n n t) x y) ≡ true → d ≤ℤ pairWord (pairUpTo n n t) x y)
+        → (hasRule (loneWord (pairUpTo n n t) x) ≡ true → hasRule (loneWord (pairUpTo n n t) y) ≡ true
+        → d ≤ℤ (loneWord (pairUpTo n n t) x +ℤ loneWord (pairUpTo n n t) y))
         → Reaches n t (λ τ. literalValue τ x +ℤ literalValue τ y) d
     pair-reached σ s together both = from (leaves σ s both)
       where
@@ -190,8 +191,8 @@ module _ (n : ℕ) (t : List ℤ) (f : Fits n t) where
             v : ℤ
             v = d +ℤ negℤ a
 
-            beside : (z : ℕ) → z / 2 ≡ x / 2 → (b : Bool) → eqb z x ≡ b → hasRule (pairWord (pairUpTo false n n t) z y) ≡ true
-                → (literalValue τ z +ℤ v) ≤ℤ pairWord (pairUpTo false n n t) z y
+            beside : (z : ℕ) → z / 2 ≡ x / 2 → (b : Bool) → eqb z x ≡ b → hasRule (pairWord (pairUpTo n n t) z y) ≡ true
+                → (literalValue τ z +ℤ v) ≤ℤ pairWord (pairUpTo n n t) z y
             beside z e true g r =
                 let q = eqb-true z x g in
                 let l = together (rw q at r) in
@@ -206,7 +207,7 @@ module _ (n : ℕ) (t : List ℤ) (f : Fits n t) where
                   parts-add d (negℤ a),
                   parts-add (negℤ a) v,
                   parts-add a a,
-                  parts-add (a +ℤ a) (pairWord (pairUpTo false n n t) (negated x) y),
+                  parts-add (a +ℤ a) (pairWord (pairUpTo n n t) (negated x) y),
                 ))
 
             go : (b : Bool) → ltZ (a +ℤ literalValue τ y) d ≡ b → Reaches n t (λ ρ. literalValue ρ x +ℤ literalValue ρ y) d
@@ -218,7 +219,7 @@ module _ (n : ℕ) (t : List ℤ) (f : Fits n t) where
             go true e =
                 let c = raised hidden τ y v (w .satisfies)
                 (omega (linear, ltZ-true (a +ℤ literalValue τ y) d e, parts-add a (literalValue τ y), parts-neg a, parts-add d (negℤ a)))
-                (λ r. let l = w .alone r in omega (linear, parts-neg a, parts-add d (negℤ a), parts-add a (loneWord (pairUpTo false n n t) y)))
+                (λ r. let l = w .alone r in omega (linear, parts-neg a, parts-add d (negℤ a), parts-add a (loneWord (pairUpTo n n t) y)))
                 (λ z i u. beside z (only z (eqb (quantityOf z) (quantityOf x)) refl (eqb (quantityOf z) (quantityOf y)) refl (i .1) u) (eqb z x) refl) in
                 let ρ = joined hidden (changed τ y v) (c .hiddens) in
                 let at-x = literal-agree ρ (changed τ y v) x (rw first) in

@@ -1,64 +1,62 @@
 -- Strengthening as a pairing: the bounds of the literals alone, gathered in a row, and pairing that row with itself. Assumes nothing.
-use mathlib.Core.Path.{_≡_, refl, _∙_, ap}
-use mathlib.Core.Bool.{Bool, true, false, cond, _&&_}
+use mathlib.Core.Path.{_≡_, refl, sym, _∙_, ap}
+use mathlib.Core.Bool.{Bool, true, false, cond, _&&_, and-false}
 use mathlib.Core.List.{List}
-use Prim.Native.Nat.{ℕ, suc, _+_, _*_, _/_, _%_, _≤_, _<_}
+use Prim.Native.Nat.{ℕ, suc, _+_, _*_, _/_, _≤_, _<_}
 use native.Mathlib.Omega.{arith}
 use lib.IntN.{ℤ, _+ℤ_}
-use lib.ListN.{length, set, replicate, length-replicate}
+use lib.ListN.{length}
 use lib.Signed.{ltZ}
 use Rattle.integers.specs.Bound.{half, smaller}
 use Rattle.integers.proofs.Parts.{linear, parts-add, parts-half}
-use Rattle.words.specs.Change.{wordAt, change}
-use Rattle.words.proofs.Change.{change-length, change-below, change-more, change-same}
+use Rattle.words.specs.Change.{wordAt}
+use Rattle.words.proofs.Change.{change-same}
 use Rattle.places.specs.Numbering.{blockStart, placeOfOne, placeOfPair, isOne, higherAt, lowerAt}
-use Rattle.places.proofs.Numbering.{one-below, at-one, at-lower, at-pair, at-below}
+use Rattle.places.proofs.Numbering.{blockStart-suc, blockStart-mono, at-one, at-lower, at-pair, at-below}
 use Rattle.rules.specs.Limits.{maxQuantities, noRule}
 use Rattle.tables.specs.Tables.{hasRule}
 use Rattle.tables.proofs.Sizes.{small-square}
 use Rattle.elimination.specs.Hiding.{withSum, withHalf, loneWord, onOne, onTwo, pairing}
-use Rattle.elimination.proofs.SumWords.{withSum-right}
-use Rattle.elimination.proofs.PairedWords.{pairing-one, pairing-two}
-use Rattle.elimination.specs.Inner.{Addable, Row, BlocksPaired}
+use Rattle.elimination.specs.Magnitude.{addLimit}
+use Rattle.elimination.specs.Inner.{among, Row, BlocksPaired}
+use Rattle.elimination.proofs.TermWords.{lone-within}
+use Rattle.elimination.proofs.SumWords.{withSum-left, withSum-right}
+use Rattle.elimination.proofs.PairedWords.{live-one, live-pair, pairing-one, pairing-two, pairing-dead}
+use Rattle.elimination.proofs.Unnamed.{unnamed-lone}
+use Rattle.elimination.proofs.Lists.{listed-place}
+use Rattle.elimination.proofs.Rows.{FilledTo}
+use Rattle.elimination.proofs.Blocks.{one-plus, one-minus}
+use Rattle.keys.specs.Inner.{LiveAlone}
 use Rattle.tightening.specs.Tightening.{strengthening, strengthened}
-use Rattle.tightening.specs.Inner.{Adding, gatheringLone}
+use Rattle.tightening.specs.Inner.{Adding, LoneGathered}
 
 -- ---- the bounds of the literals alone
 
--- the place of a literal alone, written out, is one of the table's, and the square in it is small
-pub lone-below : (n x : ℕ) → n ≤ maxQuantities → x < 2 * n
-    → (2 * ((x / 2) * (x / 2)) + x % 2 < blockStart n) × ((x / 2) * (x / 2) ≤ maxQuantities * maxQuantities)
-unfolding placeOfOne blockStart
-lone-below n x m h = (one-below n x h, small-square (x / 2) (omega arith))
+-- the places of a quantity's literals alone, written out, are the table's, and the square in them is small
+pub lone-places : (n a : ℕ) → n ≤ maxQuantities → a < n → (2 * (a * a) + 1 < blockStart n) × (a * a ≤ maxQuantities * maxQuantities)
+unfolding blockStart
+lone-places n a m h = (omega (arith, blockStart-mono {a = suc a} {b = n} h, blockStart-suc a), small-square a (omega arith))
 
--- and its word is gathered next
-pub lone-more : (t before row : List ℤ) (x : ℕ) → x < length before → row ≡ change x (gatheringLone t) before
-    → set row x (wordAt t (2 * ((x / 2) * (x / 2)) + x % 2)) ≡ change (suc x) (gatheringLone t) before
-unfolding placeOfOne blockStart
-lone-more t before row x h e = rw e (change-more x (gatheringLone t) before h)
+-- and have their bounds
+pub plus-lone : (t : List ℤ) (a : ℕ) → wordAt t (2 * (a * a)) ≡ loneWord t (2 * a)
+unfolding blockStart
+plus-lone t a = ap (wordAt t) (one-plus a)
 
--- a row holds the bound of each literal of n quantities alone, and its words add
-pub record LoneRow (n : ℕ) (t row : List ℤ) : Type 0 where
-  pub bounds : (x : ℕ) → x < 2 * n → wordAt row x ≡ loneWord t x
-  pub adds : Row n row
+pub minus-lone : (t : List ℤ) (a : ℕ) → wordAt t (2 * (a * a) + 1) ≡ loneWord t (2 * a + 1)
+unfolding blockStart
+minus-lone t a = ap (wordAt t) (one-minus a)
 
--- as one does that they were gathered into
-pub lone-gathered : (n : ℕ) (t row : List ℤ) → Adding n t → row ≡ change (2 * n) (gatheringLone t) (replicate 64 noRule) → LoneRow n t row
-lone-gathered n t row a e =
-    record { bounds = bounds; adds = record { most = a .most; room = room; words = record { each = λ x h l. rw (bounds x h) (word x h) } } }
-  where
-    size : length (replicate 64 noRule) ≡ 64
-    size = length-replicate 64 noRule
+-- with all live quantities passed all are gathered
+pub lone-all : (n : ℕ) (live : List ℕ) (t row : List ℤ) → FilledTo (length live) live (loneWord t) row → LoneGathered n live t row
+lone-all n live t row f = record { bounds = λ x l e. let s = listed-place live (x / 2) e in f .each (s .place) x (s .inside) (sym (s .is)) }
 
-    room : 2 * n ≤ length row
-    room = rw (e, change-length (2 * n) (gatheringLone t) (replicate 64 noRule), size) (omega arith)
-
-    bounds : (x : ℕ) → x < 2 * n → wordAt row x ≡ loneWord t x
-    bounds x h =
-        ap (λ (u : List ℤ). wordAt u x) e ∙ change-below (2 * n) (gatheringLone t) (replicate 64 noRule) x h (omega arith)
-
-    word : (x : ℕ) → x < 2 * n → Addable (loneWord t x)
-    word x h = a .words .each (placeOfOne x) (one-below n x h) (omega (arith, one-below n x h))
+-- and the gathered row adds
+pub lone-adds : (n : ℕ) (live : List ℕ) (t row : List ℤ) → Adding n t → 2 * n ≤ length row → LoneGathered n live t row → Row n live row
+lone-adds n live t row a l g = record {
+  most = a .most;
+  room = l;
+  words = λ x h e. rw (g .bounds x h e) (lone-within n addLimit t x (a .room) (a .words) h);
+}
 
 -- ---- the row paired with itself
 
@@ -108,23 +106,43 @@ two-summed : (row : ℕ → ℤ) (x y : ℕ) (w : ℤ) → onTwo row row x y w �
 unfolding onTwo
 two-summed row x y w = sum-again (row x) (row y) w
 
--- so it strengthens the table
-pub strengthening-paired : (n : ℕ) (t row u : List ℤ) → LoneRow n t row → BlocksPaired n 0 row row noRule noRule t u → u ≡ strengthened n t
+-- so it strengthens the table: literals that are not live have no bound alone
+pub strengthening-paired : (n : ℕ) (live : List ℕ) (t row u : List ℤ) → blockStart n ≤ length t → LiveAlone n live t → LoneGathered n live t row
+    → BlocksPaired n live row row noRule noRule t u → u ≡ strengthened n t
 unfolding strengthened strengthening
-strengthening-paired n t row u r p =
-    p .table ∙ change-same (blockStart n) (pairing 0 f f noRule noRule) (strengthening t) t (λ k h. go k h (isOne k) refl)
+strengthening-paired n live t row u l a g p =
+    p .table ∙ change-same (blockStart n) (pairing (among live) f f noRule noRule) (strengthening t) t (λ k h. go k h (isOne k) refl)
   where
     f : ℕ → ℤ
     f = wordAt row
 
-    one-at : (x : ℕ) → x < 2 * n → pairing 0 f f noRule noRule (placeOfOne x) (loneWord t x) ≡ loneWord t x
-    one-at x h = pairing-one 0 f f noRule noRule x (loneWord t x) (omega arith) ∙ rw (← r .bounds x h) (one-kept f x)
+    -- at the place of one literal
+    one-at : (x : ℕ) → x < 2 * n → (b : Bool) → among live (x / 2) ≡ b
+        → pairing (among live) f f noRule noRule (placeOfOne x) (loneWord t x) ≡ loneWord t x
+    one-at x h true e = pairing-one (among live) f f noRule noRule x (loneWord t x) e ∙ rw (← g .bounds x h e) (one-kept f x)
+    one-at x h false e = pairing-dead (among live) f f noRule noRule (placeOfOne x) (loneWord t x) (live-one (among live) x ∙ e)
 
-    two-at : (x y : ℕ) (w : ℤ) → x / 2 < y / 2 → y < 2 * n → pairing 0 f f noRule noRule (placeOfPair x y) w ≡ withSum (loneWord t x) (loneWord t y) w
-    two-at x y w o h =
-        pairing-two 0 f f noRule noRule x y w (omega arith) o ∙ two-summed f x y w ∙ rw (r .bounds x (omega arith), r .bounds y h)
+    -- a literal that is not live has no bound alone
+    alone : (x : ℕ) → x < 2 * n → among live (x / 2) ≡ false → hasRule (loneWord t x) ≡ false
+    alone x h e = unnamed-lone n (x / 2) t l (a .rest (x / 2) (omega arith) e) x h refl
+
+    -- at that of two
+    two-at : (x y : ℕ) (w : ℤ) → x / 2 < y / 2 → y < 2 * n → (b : Bool) → among live (x / 2) ≡ b → (c : Bool) → among live (y / 2) ≡ c
+        → pairing (among live) f f noRule noRule (placeOfPair x y) w ≡ withSum (loneWord t x) (loneWord t y) w
+    two-at x y w o h true d true e =
+        pairing-two (among live) f f noRule noRule x y w d e o ∙ two-summed f x y w ∙ rw (g .bounds x (omega arith) d, g .bounds y h e)
+    two-at x y w o h false d c e =
+        pairing-dead (among live) f f noRule noRule (placeOfPair x y) w (live-pair (among live) x y o ∙ rw (d, and-false (among live (y / 2))))
+        ∙ sym (withSum-left (loneWord t x) (loneWord t y) w (alone x (omega arith) d))
+    two-at x y w o h true d false e =
+        pairing-dead (among live) f f noRule noRule (placeOfPair x y) w (live-pair (among live) x y o ∙ rw e)
+        ∙ sym (withSum-right (loneWord t x) (loneWord t y) w (alone y h e))
 
     go : (k : ℕ) → k < blockStart n → (b : Bool) → isOne k ≡ b
-        → pairing 0 f f noRule noRule k (wordAt t k) ≡ cond b (wordAt t k) (withSum (loneWord t (lowerAt k)) (loneWord t (higherAt k)) (wordAt t k))
-    go k h true e = rw (at-one k e) at (one-at (higherAt k) (at-below n k h))
-    go k h false e = rw (at-pair k e) at (two-at (lowerAt k) (higherAt k) (wordAt t k) (at-lower k e) (at-below n k h))
+        → pairing (among live) f f noRule noRule k (wordAt t k)
+        ≡ cond b (wordAt t k) (withSum (loneWord t (lowerAt k)) (loneWord t (higherAt k)) (wordAt t k))
+    go k h true e = rw (at-one k e) at (one-at (higherAt k) (at-below n k h) (among live (higherAt k / 2)) refl)
+    go k h false e =
+        rw (at-pair k e) at
+        (two-at (lowerAt k) (higherAt k) (wordAt t k) (at-lower k e) (at-below n k h)
+        (among live (lowerAt k / 2)) refl (among live (higherAt k / 2)) refl)

@@ -1,14 +1,31 @@
 // The tightest table of a table that some integers satisfy: every quantity is paired with all others and nothing is cleared; then each term of two literals
 // gets the sum of their bounds alone.
 use elimination::pair;
-use keys::decide;
 use keys::live;
 use rules::sheet::Sheet;
 ghost use mathlib.Core.Path.{_≡_};
 ghost use Rattle.keys.specs.Inner.{Fits, LiveAlone};
 ghost use Rattle.tightening.specs.Tightening.{strengthened};
 ghost use Rattle.tightening.specs.Promises.{Tightened};
-ghost use Rattle.tightening.specs.Inner.{Adding, LoneGatherable, LoneGathered};
+ghost use Rattle.tightening.specs.Inner.{AllPaired, Adding, LoneGatherable, LoneGathered};
+
+// Pairs every quantity of the table, whose rules name live ones alone, and answers whether a contradiction is met, at which it stops. The step on a quantity that
+// no rule names changes nothing, so only live ones are visited.
+fn pair_all(n: usize, table: &mut [i64], live: &[usize]) -> bool
+    requires { ⌜ Fits n (now table) × LiveAlone n (now live) (now table) ⌝ }
+    ensures { λ r. ⌜ AllPaired n (now (table .entry)) r (now (table .exit)) ⌝ }
+{
+    let mut plus = [0; live::ROW];
+    let mut minus = [0; live::ROW];
+    let mut turn = 0;
+    while turn < live.len() {
+        if pair::pair(n, table, live[turn], live, &mut plus, &mut minus) {
+            return true;
+        }
+        turn = turn + 1;
+    }
+    false
+}
 
 // Gathers the bound of each literal of a live quantity alone.
 fn gather_lone(n: usize, table: &[i64], live: &[usize], row: &mut [i64])
@@ -25,8 +42,8 @@ fn gather_lone(n: usize, table: &[i64], live: &[usize], row: &mut [i64])
     }
 }
 
-// Puts the sum of the bounds of each two literals alone in at their term. With both rows the same, pairing does just that: a literal's own bound, added to
-// itself and halved, stays.
+// Puts the sum of the bounds of each two literals alone in at their term; literals that are not live have none. With both rows the same, pairing does just that:
+// a literal's own bound, added to itself and halved, stays.
 fn strengthen(n: usize, table: &mut [i64], live: &[usize])
     requires { ⌜ Adding n (now table) × LiveAlone n (now live) (now table) ⌝ }
     ensures { λ _. ⌜ now (table .exit) ≡ strengthened n (now (table .entry)) ⌝ }
@@ -41,7 +58,7 @@ pub fn tighten(n: usize, table: &mut [i64], live: &[usize]) -> bool
     requires { ⌜ Fits n (now table) × LiveAlone n (now live) (now table) ⌝ }
     ensures { λ r. ⌜ Tightened n (now (table .entry)) r (now (table .exit)) ⌝ }
 {
-    if decide::pair_all(n, table, live, false) {
+    if pair_all(n, table, live) {
         return true;
     }
     strengthen(n, table, live);

@@ -1,10 +1,13 @@
 -- `tighten::strengthen` meets its contract: pairing the gathered row with itself strengthens the table. Assumes nothing.
-use mathlib.Core.Path.{refl}
+use mathlib.Core.Path.{_≡_, refl, _∙_}
 use native.Mathlib.Omega.{arith}
+use lib.IntN.{pos}
+use lib.ListN.{length, length-replicate}
 use denote.Ref.{now}
 use borrow.Author.Needs.{needs}
 use Rattle.tables.proofs.Tests.{clash}
-use Rattle.tightening.proofs.Strengthening.{LoneRow, lone-gathered, strengthening-paired}
+use Rattle.elimination.specs.Inner.{Row}
+use Rattle.tightening.proofs.Strengthening.{lone-adds, strengthening-paired}
 use Rattle.tightening.proofs.tighten.strengthen.Statement.{statement}
 use Rattle.tightening.proofs.tighten.strengthen.Tie as tie
 
@@ -20,19 +23,23 @@ slice-aggregate-pair-blocks c = search needs
 slice-aggregate-pair-blocks-2 : tie.Need-slice-aggregate-pair-blocks-2
 slice-aggregate-pair-blocks-2 c = search needs
 
--- the row that was gathered
-row : (c : tie.After-gather-lone) → let s = c .before .before .before in LoneRow (s .args .n) (now (s .args .table)) (c .gather-lone .last .1 .1 .0)
-row c = let s = c .before .before .before in lone-gathered _ _ _ (s .pre) (c .gather-lone .ensures .row)
+-- the words of the row that was gathered add
+row : (c : tie.After-gather-lone) → let s = c .before .before .before .before in
+    Row (s .args .n) (now (s .args .live)) (c .gather-lone .last .1 .1 .1 .0)
+row c =
+    let s = c .before .before .before .before in
+    let size : length (c .gather-lone .last .1 .1 .1 .0) ≡ 64 = c .gather-lone .kept .1 .1 .1 .0 ∙ length-replicate 64 (pos 0) in
+    lone-adds _ _ _ _ (s .pre .0) (omega (arith, size, s .pre .0 .most)) (c .gather-lone .ensures)
 
 pair-blocks-requires : tie.Need-pair-blocks-requires
 pair-blocks-requires c κs =
     let g = c .before .before .before .before in
-    let s = g .before .before .before in
+    let s = g .before .before .before .before in
     record {
-      some = omega arith;
-      room = s .pre .room;
-      plus-row = row g .adds;
-      minus-row = row g .adds;
+      listed = s .pre .1 .listed;
+      room = s .pre .0 .room;
+      plus-row = row g;
+      minus-row = row g;
       plus-alone = λ q. clash q refl;
       minus-alone = λ q. clash q refl;
     }
@@ -41,7 +48,11 @@ same-length : tie.Need-same-length
 same-length c = search needs
 
 returns : tie.Need-returns
-returns c = let p = c .before in strengthening-paired _ _ _ _ (row (p .before .before .before .before .before)) (p .pair-blocks .ensures)
+returns c =
+    let p = c .before in
+    let g = p .before .before .before .before .before in
+    let s = g .before .before .before .before in
+    strengthening-paired _ _ _ _ _ (s .pre .0 .room) (s .pre .1) (g .gather-lone .ensures) (p .pair-blocks .ensures)
 
 pub strengthen-spec : {M : Type 1} → statement M
 strengthen-spec =

@@ -6,7 +6,7 @@ ghost use Prim.Native.Nat.{_*_, _≤_};
 ghost use lib.ListN.{length};
 ghost use Rattle.places.specs.Numbering.{blockStart};
 ghost use Rattle.rules.specs.Limits.{maxQuantities};
-ghost use Rattle.keys.specs.Copying.{KeyCopied};
+ghost use Rattle.keys.specs.Copies.{KeyCopied};
 
 // Copies the first `m` words over the next `m`.
 fn copy_on(words: &mut [i64], m: usize)

@@ -47,12 +47,12 @@ orElse carry (Two x y c) next = carry (Two x y c)
 orElse carry (Nothing c) next = next
 
 -- of a sheet that no integers satisfy: equal where none satisfy the script, and else loose with no rule. Of others: loose where some assignment of the script
--- breaks a rule of the key, tight where some assignment of the sheet breaks a rule of the script, and else equal
+-- breaks a rule of the key, tight where some assignment of the key breaks a rule of the script, and else equal. What the key allows hidden values complete to an assignment of the sheet
 unfoldable pub verdictOf : (ℕ → Bool) → ℕ → List ℤ → List ℤ → Verdict
 verdictOf hidden n sheet script =
     cond (refuted n sheet)
     (cond (refuted n script) Equal (Loose trivialRule))
-    (orElse Loose (firstBroken n (keyOf hidden n sheet) script) (orElse Tight (firstBroken n script sheet) Equal))
+    (orElse Loose (firstBroken n (keyOf hidden n sheet) script) (orElse Tight (firstBroken n script (keyOf hidden n sheet)) Equal))
 
 -- ---- the checks
 

@@ -1,98 +1,88 @@
-// The first rule by place that some assignment of a table breaks, and such an assignment. Whether a rule is broken is one comparison with the least bound of its
-// term, so all of a table's rules are decided in O(n³) steps.
-use crate::below;
-use keys::assignment;
-use keys::decide;
-use keys::hidden_first;
+// The first rule by place that some assignment of a table breaks, and an assignment that breaks a rule. Whether a rule is broken is one comparison with the least bound of its
+// term, so all of a table's rules are decided in O(n³) steps. The workspace has room for two tables: the sheet's at its front, with the hidden quantities eliminated, so that the places of
+// visible ones have the key; at its back the one that is made the tightest or broken.
+use keys::breaking;
+use keys::copies;
+use keys::live::Part;
+use keys::turns;
 use places::Place;
 use rules::hidden::Set;
 use rules::rule::Rule;
-use tables::place;
 use tables::table;
+use tightening::below;
 use tightening::tighten;
+ghost use Rattle.marking.specs.Inner.{SheetReducible, SheetReduced, ScriptComparable, FrontFound, ScriptBreakable, ScriptBroken, SomeSheetBreakable, SheetBroken};
 
-// Copies the first `m` words over the next `m`.
-fn copy_back(workspace: &mut [i64], m: usize) {
-    let mut i = 0;
-    while i < m {
-        workspace[m + i] = workspace[i];
-        i = i + 1;
-    }
-}
-
-// Writes the key to the back of the workspace, from its front, where the sheet has its hidden quantities paired.
-fn copy_key(n: usize, set: Set, workspace: &mut [i64]) {
-    let m = table::size(n);
-    copy_back(workspace, m);
-    hidden_first::clear_set(n, set, &mut workspace[m..]);
-}
-
-// Writes an assignment of the table that breaks the rule: one of the table with the rule's opposite put in.
-fn break_rule(
-    n: usize,
-    set: Set,
-    visible: &[usize],
-    table: &mut [i64],
-    rule: Rule,
-    values: &mut [i64],
-) {
-    table::put(n, table, rule.opposite());
-    decide::pair_all(n, table, visible, true);
-    assignment::fill(n, set, table, values);
-}
-
-// Pairs the sheet's hidden quantities at the front of the workspace, writes the least bounds of its key to the back, and answers whether no integers satisfy the sheet.
+// Eliminates the sheet's hidden quantities at the front of the workspace, writes the least bounds of its key to the back, and answers whether no integers satisfy the sheet.
 pub(crate) fn reduce_sheet(
     n: usize,
     set: Set,
     visible: &[usize],
     sheet: &[i64],
     workspace: &mut [i64],
-) -> bool {
+) -> bool
+    requires { ⌜ SheetReducible n set (now visible) (now sheet) (now workspace) ⌝ }
+    ensures { λ r. ⌜ SheetReduced n set (now (sheet .entry)) (now (workspace .entry)) r (now (workspace .exit)) ⌝ }
+{
     let m = table::size(n);
     words::copy(workspace, sheet, m);
-    if hidden_first::pair_set(n, set, workspace) {
+    if turns::eliminate(n, set, Part::Inside, workspace) {
         return true;
     }
-    copy_key(n, set, workspace);
+    copies::copy_key(n, set, workspace);
     tighten::tighten(n, &mut workspace[m..], visible)
 }
 
-// The first rule of the key that some assignment of the script breaks
-pub(crate) fn break_key(
+// The first place of visible quantities at the front of the workspace whose rule some assignment of the script breaks. The back is free.
+pub(crate) fn first_broken(
     n: usize,
-    set: Set,
     visible: &[usize],
     script: &[i64],
     workspace: &mut [i64],
-    values: &mut [i64],
-) -> Rule {
+) -> Place
+    requires { ⌜ ScriptComparable n (now visible) (now script) (now workspace) ⌝ }
+    ensures { λ r. ⌜ FrontFound n (now (visible .entry)) (now (script .entry)) (now (workspace .entry)) r (now (workspace .exit)) ⌝ }
+{
     let m = table::size(n);
     words::copy(&mut workspace[m..], script, m);
     if tighten::tighten(n, &mut workspace[m..], visible) {
-        return Rule::trivial();
+        return Place::Nowhere;
     }
-    let found = below::first_below(visible, &workspace[..m], &workspace[m..]);
-    let Place::At(k) = found else {
-        return Rule::trivial();
-    };
-    let rule = place::rule_at(k as u32, workspace[k]);
-    words::copy(&mut workspace[m..], script, m);
-    break_rule(n, set, visible, &mut workspace[m..], rule, values);
-    rule
+    let words = &workspace[..];
+    below::first_below(n, visible, words, &words[m..])
 }
 
-// Writes an assignment of the sheet that breaks the rule
-pub(crate) fn break_sheet(
+// Writes an assignment of the script that breaks the rule, 0 at hidden quantities.
+pub(crate) fn break_script(
     n: usize,
     set: Set,
-    visible: &[usize],
+    script: &[i64],
     rule: Rule,
     workspace: &mut [i64],
     values: &mut [i64],
-) {
+)
+    requires { ⌜ ScriptBreakable n set (now script) rule (now workspace) (now values) ⌝ }
+    ensures { λ _. ⌜ ScriptBroken n set (now (script .entry)) rule
+        (now (workspace .entry)) (now (values .entry)) (now (workspace .exit)) (now (values .exit)) ⌝ }
+{
+    words::copy(workspace, script, table::size(n));
+    breaking::break_rule(n, set, workspace, rule, values);
+}
+
+// Writes an assignment of the sheet that breaks the rule: visible values of the key that break it, and hidden ones that complete them.
+pub(crate) fn break_sheet(
+    n: usize,
+    set: Set,
+    rule: Rule,
+    workspace: &mut [i64],
+    values: &mut [i64],
+)
+    requires { ⌜ SomeSheetBreakable n set rule (now workspace) (now values) ⌝ }
+    ensures { λ _. ⌜ SheetBroken n set rule
+        (now (workspace .entry)) (now (values .entry)) (now (workspace .exit)) (now (values .exit)) ⌝ }
+{
     let m = table::size(n);
-    copy_key(n, set, workspace);
-    break_rule(n, set, visible, &mut workspace[m..], rule, values);
-    hidden_first::complete(n, set, workspace, values);
+    copies::copy_key(n, set, workspace);
+    breaking::break_rule(n, set, &mut workspace[m..], rule, values);
+    turns::read_back(n, set, Part::Inside, workspace, values);
 }

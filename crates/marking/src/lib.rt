@@ -1,5 +1,4 @@
 // Marking two tables: the verdict on a script, the rule that it carries and the assignment that shows it.
-mod below;
 mod breaking;
 mod check;
 pub mod mark;

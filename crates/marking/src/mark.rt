@@ -1,5 +1,4 @@
 // Marking two tables: a script against a sheet.
-use crate::below;
 use crate::breaking;
 use crate::check;
 use crate::verdict::Marking;
@@ -7,18 +6,20 @@ use crate::verdict::Verdict;
 use keys::assignment;
 use keys::decide;
 use keys::live;
+use keys::live::Part;
 use places::Place;
 use rules::hidden::Set;
 use rules::rule::Rule;
 use tables::place;
 use tables::reply::Reply;
 use tables::table;
+use tightening::below;
 ghost use mathlib.Core.Bool.{true};
 ghost use mathlib.Core.Path.{_≡_};
 ghost use lib.ListN.{length};
 ghost use Rattle.keys.specs.Keys.{refuted};
 ghost use Rattle.marking.specs.Promises.{TablesMarked};
-ghost use Rattle.marking.specs.Inner.{TablesAccepted, VerdictGiven};
+ghost use Rattle.marking.specs.Inner.{TablesAccepted, VerdictGiven, NarrowReady, NarrowGiven};
 
 // The verdict where no integers satisfy the sheet: the script is equal if none satisfy it either, and else loose with no rule.
 fn unsatisfiable_sheet(
@@ -41,8 +42,29 @@ fn unsatisfiable_sheet(
     Verdict::Loose(Rule::trivial())
 }
 
-// The verdict on tables that passed the checks.
-fn verdict(
+// The verdict on a script that is not loose: tight with its rule at the place, if there is one, and an assignment of the sheet that breaks it.
+fn narrow_verdict(
+    n: usize,
+    set: Set,
+    script: &[i64],
+    tight: Place,
+    workspace: &mut [i64],
+    values: &mut [i64],
+) -> Verdict
+    requires { ⌜ NarrowReady n set (now script) tight (now workspace) (now values) ⌝ }
+    ensures { λ r. ⌜ NarrowGiven n set (now (script .entry)) tight
+        (now (workspace .entry)) (now (values .entry)) r (now (workspace .exit)) (now (values .exit)) ⌝ }
+{
+    let Place::At(k) = tight else {
+        return Verdict::Equal;
+    };
+    let rule = place::rule_at(k as u32, script[k]);
+    breaking::break_sheet(n, set, rule, workspace, values);
+    Verdict::Tight(rule)
+}
+
+// The verdict on tables that passed the checks. Rules of the script are compared with the least bounds of the key, then rules of the key with those of the script.
+pub fn verdict(
     n: usize,
     set: Set,
     sheet: &[i64],
@@ -55,21 +77,18 @@ fn verdict(
         (now (workspace .entry)) (now (values .entry)) r (now (workspace .exit)) (now (values .exit)) ⌝ }
 {
     let mut list = [0; live::MOST];
-    let count = live::list(n, set, n, &mut list);
+    let count = live::list(n, set, Part::Outside, 0, &mut list);
     if breaking::reduce_sheet(n, set, &list[..count], sheet, workspace) {
         return unsatisfiable_sheet(n, set, sheet, script, workspace, values);
     }
-    let tight = below::first_below(&list[..count], script, &workspace[table::size(n)..]);
-    let loose = breaking::break_key(n, set, &list[..count], script, workspace, values);
-    if loose.has_term() {
-        return Verdict::Loose(loose);
-    }
-    let Place::At(k) = tight else {
-        return Verdict::Equal;
+    let tight = below::first_below(n, &list[..count], script, &workspace[table::size(n)..]);
+    let loose = breaking::first_broken(n, &list[..count], script, workspace);
+    let Place::At(k) = loose else {
+        return narrow_verdict(n, set, script, tight, workspace, values);
     };
-    let rule = place::rule_at(k as u32, script[k]);
-    breaking::break_sheet(n, set, &list[..count], rule, workspace, values);
-    Verdict::Tight(rule)
+    let rule = place::rule_at(k as u32, workspace[k]);
+    breaking::break_script(n, set, script, rule, workspace, values);
+    Verdict::Loose(rule)
 }
 
 // Marks the script against the sheet, both tables over `n` quantities, those of the set `hidden` hidden. For loose and tight, `values` gets an assignment that shows

@@ -9,6 +9,8 @@ pub mod ReadBack
 pub mod Copying
 pub mod Deciding
 pub mod Filling
+pub mod Puts
+pub mod Opposites
 pub mod Taking
 pub mod Hiding
 pub mod Checking

@@ -9,3 +9,4 @@ pub mod Least
 pub mod Walking
 pub mod Strengthening
 pub mod Promised
+pub mod FirstBelow

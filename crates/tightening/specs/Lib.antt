@@ -3,3 +3,4 @@
 pub mod Tightening
 pub mod Inner
 pub mod Promises
+pub mod Below

@@ -2,14 +2,17 @@
 use rules::hidden;
 use rules::hidden::Set;
 use tables::table;
+ghost use mathlib.Core.Path.{_≡_};
 ghost use Prim.Native.Nat.{_*_, _≤_};
 ghost use lib.ListN.{length};
 ghost use Rattle.places.specs.Numbering.{blockStart};
 ghost use Rattle.rules.specs.Limits.{maxQuantities};
-ghost use Rattle.keys.specs.Copies.{KeyCopied};
+ghost use Rattle.keys.specs.Copies.{copiedOn, setCleared, KeyCopied};
 
 // Copies the first `m` words over the next `m`.
 fn copy_on(words: &mut [i64], m: usize)
+    requires { ⌜ 2 * m ≤ length (now words) ⌝ }
+    ensures { λ _. ⌜ now (words .exit) ≡ copiedOn m (now (words .entry)) ⌝ }
 {
     let mut i = 0;
     while i < m {
@@ -20,6 +23,8 @@ fn copy_on(words: &mut [i64], m: usize)
 
 // Clears the places of each quantity of the set.
 fn clear_set(n: usize, set: Set, table: &mut [i64])
+    requires { ⌜ (n ≤ maxQuantities) × (blockStart n ≤ length (now table)) ⌝ }
+    ensures { λ _. ⌜ now (table .exit) ≡ setCleared n set (now (table .entry)) ⌝ }
 {
     let mut j = 0;
     while j < n {

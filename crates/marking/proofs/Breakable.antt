@@ -22,29 +22,15 @@ use Rattle.tables.specs.Meaning.{HoldsRule, ruleIn, Satisfies, Breaks}
 use Rattle.tables.proofs.Places.{ruleAt-bound, ruleAt-hasPlace}
 use Rattle.tables.proofs.Putting.{hasPlace-put}
 use Rattle.tables.proofs.Tests.{clash, both-true}
-use Rattle.keys.specs.Keys.{every, refuted}
+use Rattle.elimination.specs.Hiding.{every}
+use Rattle.keys.specs.Keys.{refuted}
 use Rattle.keys.specs.Inner.{Fits}
 use Rattle.keys.proofs.Several.{refuted-true, refuted-false}
 use Rattle.keys.proofs.Fitting.{hide-ample}
 use Rattle.marking.specs.Meaning.{FirstAt, FirstBroken, NoneBroken}
 use Rattle.marking.specs.Marking.{breakable, firstRule, firstBroken}
 use Rattle.marking.proofs.Carried.{ruleAt-term}
-use Rattle.marking.proofs.Puts.{put-lowers, opposite-hasPlace}
-
--- ---- the opposite of a rule, put in
-
--- the bound of the opposite of a place's rule is the opposite bound
-pub opposed-bound : (k : ℕ) (c : ℤ) → boundOf (oppositeOf (ruleAt k c)) ≡ oppositeBound c
-opposed-bound k c = opposite-bound (ruleAt k c) ∙ ap oppositeBound (ruleAt-bound k c)
-
--- with the opposite of a place's rule put in, a table is satisfied exactly by what satisfies it and breaks the rule
-pub opposed-satisfies : (n : ℕ) (t : List ℤ) (k : ℕ) (c : ℤ) → blockStart n ≤ length t → k < blockStart n → hasRule (oppositeBound c) ≡ true
-    → (σ : Assignment) → Satisfies n (putRule t (oppositeOf (ruleAt k c))) σ ↔ (Satisfies n t σ × (Meets σ (ruleAt k c) → ⊥))
-opposed-satisfies n t k c l h e σ =
-    let u = opposite-hasPlace n (ruleAt k c) (ruleAt-hasPlace n k c h) in
-    let p = hasPlace-put n t (oppositeOf (ruleAt k c)) σ l u (rw (opposed-bound k c) e) in
-    let o = opposite-meaning σ (ruleAt k c) in
-    rw (put-lowers n t (oppositeOf (ruleAt k c)) u) (λ s. (p .0 s .0, o .0 (p .0 s .1)), λ s. p .1 (s .0, o .1 (s .1)))
+use Rattle.keys.proofs.Opposites.{opposed-satisfies}
 
 -- a rule is breakable exactly when some assignment of the table breaks it
 pub breakable-exactly : (n : ℕ) (t : List ℤ) (k : ℕ) (c : ℤ) → blockStart n ≤ length t → k < blockStart n → hasRule (oppositeBound c) ≡ true
@@ -62,7 +48,7 @@ breakable-exactly n t k c l h e f = go (refuted n u) refl
           (opposed-satisfies n t k c l h e (w .assignment) .1 (w .satisfies, w .broken))),
     )
     go false d =
-        let s = refuted-false n u (f .grows .room) (hide-ample every n u f) d in
+        let s = refuted-false n u (f .sums .room) (hide-ample every n u f) d in
         let p = opposed-satisfies n t k c l h e (s .assignment) .0 (s .satisfies) in
         (λ w. record { assignment = s .assignment; satisfies = p .0; broken = p .1 }, λ w. refl)
 

@@ -1,5 +1,5 @@
 -- What the verdict means: demand 3 of tables that passed the checks, and the rule that is carried. Assumes nothing.
-use mathlib.Core.Path.{_≡_, refl, ap}
+use mathlib.Core.Path.{_≡_, refl}
 use mathlib.Core.Bool.{Bool, true, false, cond}
 use mathlib.Core.List.{List}
 use mathlib.Core.Logic.{_↔_, _⊎_, inl, inr}
@@ -19,21 +19,24 @@ use Rattle.rules.specs.Hidden.{hiddenIn}
 use Rattle.rules.specs.Meaning.{Assignment, Meets, termValue, boundOf, hasTerm}
 use Rattle.rules.specs.Steps.{trivialRule}
 use Rattle.tables.specs.Tables.{hasRule}
-use Rattle.tables.specs.Meaning.{HoldsRule, ruleIn, Satisfies, Satisfiable, Unsatisfiable, Solutions, joined, SheetAllows, NamesVisible}
+use Rattle.tables.specs.Meaning.{HoldsRule, ruleIn, Satisfies, Satisfiable, Unsatisfiable, Solutions, joined, SheetAllows, Breaks, NamesVisible}
 use Rattle.tables.proofs.Tests.{clash}
 use Rattle.tables.proofs.Meanings.{script-visible}
-use Rattle.keys.specs.Keys.{keyOf, every, refuted}
+use Rattle.tables.proofs.Values.{meets-named}
+use Rattle.elimination.specs.Hiding.{every}
+use Rattle.keys.specs.Keys.{keyOf, refuted}
 use Rattle.keys.specs.Inner.{Fits}
-use Rattle.keys.proofs.Several.{hideUpTo-length, hide-all, allows-own, key-exact, refuted-false}
+use Rattle.keys.proofs.Several.{allows-own, key-exact, refuted-false}
 use Rattle.keys.proofs.Fitting.{hide-ample}
 use Rattle.keys.proofs.Deciding.{refuted-exactly}
 use Rattle.marking.specs.declared.verdict.Verdict.{Verdict}
 use Rattle.marking.specs.declared.verdict.Verdict.the-variants.{Equal, Loose, Tight}
 use Rattle.marking.specs.Verdicts.{verdictNumber}
-use Rattle.marking.specs.Meaning.{AllowSame, IsLoose, IsNarrow, IsTight, ByDemand, FirstBroken, NoneBroken, LooseRule, TightRule}
+use Rattle.marking.specs.Meaning.{AllowSame, IsLoose, IsNarrow, IsTight, ByDemand, FirstAt, FirstBroken, NoneBroken, LooseRule, TightRule}
 use Rattle.marking.specs.Marking.{firstBroken, orElse, verdictOf}
 use Rattle.marking.specs.Inner.{TablesAccepted}
 use Rattle.marking.proofs.Breakable.{Exactly, breakable-exactly, first-some, first-none}
+use Rattle.marking.proofs.Opposed.{key-room as Opposed·key-room}
 use Rattle.marking.proofs.Opposed.{sheet-fitting, script-fitting, tight-opposed, loose-opposed, tight-small, loose-small}
 
 -- ---- the three conditions exclude each other, so the one that holds gives the number
@@ -120,8 +123,8 @@ unbroken-satisfied n rules paper σ l none s = go (unsatisfied-place n rules σ 
 -- ---- of a sheet that no integers satisfy
 
 -- where no contradiction is met, some integers satisfy the table
-some-satisfy : (n : ℕ) (t : List ℤ) → Fits n t → refuted n t ≡ false → Satisfiable n t
-some-satisfy n t f e = refuted-false n t (f .grows .room) (hide-ample every n t f) e
+pub some-satisfy : (n : ℕ) (t : List ℤ) → Fits n t → refuted n t ≡ false → Satisfiable n t
+some-satisfy n t f e = refuted-false n t (f .sums .room) (hide-ample every n t f) e
 
 -- where none satisfy the script either, they allow the same
 nothing-same : (hidden : ℕ → Bool) (n : ℕ) (sheet script : List ℤ) → Unsatisfiable n sheet → Unsatisfiable n script
@@ -140,11 +143,11 @@ nothing-loose hidden n sheet script u s = record {
 -- ---- of others
 
 -- the key is exact: it allows what the sheet does
-abbrev KeyExact : (ℕ → Bool) → ℕ → List ℤ → Type 0
+abbrev pub KeyExact : (ℕ → Bool) → ℕ → List ℤ → Type 0
 KeyExact hidden n sheet = (σ : Assignment) → Satisfies n (keyOf hidden n sheet) σ ↔ SheetAllows hidden (Satisfies n sheet) σ
 
 -- it is, of tables that passed the checks
-key-allows : (n set : ℕ) (sheet script : List ℤ) (w v : ℕ) → TablesAccepted n set sheet script w v → Satisfiable n sheet
+pub key-allows : (n set : ℕ) (sheet script : List ℤ) (w v : ℕ) → TablesAccepted n set sheet script w v → Satisfiable n sheet
     → KeyExact (hiddenIn set) n sheet
 key-allows n set sheet script w v m s =
     key-exact (hiddenIn set) n sheet (s .assignment) (hide-ample (hiddenIn set) n sheet (sheet-fitting n set sheet script w v m)) (s .satisfies)
@@ -172,6 +175,38 @@ broken-narrow hidden n sheet script r f = record {
   completed = allows-own n hidden sheet (f .at .breaks .assignment) (f .at .breaks .satisfies);
   forbidden = λ s. f .at .breaks .broken (s .each (f .place) (f .at .holds));
 }
+
+-- a rule of the script that some assignment of the key breaks is one that some assignment of the sheet breaks: hidden values complete it, and the rule names visible quantities alone
+key-breaks : (hidden : ℕ → Bool) (n : ℕ) (sheet script : List ℤ) (k : ℕ) → NamesVisible n hidden script → KeyExact hidden n sheet → HoldsRule n script k
+    → Breaks (Satisfies n (keyOf hidden n sheet)) (ruleIn script k) → Breaks (Satisfies n sheet) (ruleIn script k)
+key-breaks hidden n sheet script k visible exact p b =
+    let a = exact (b .assignment) .0 (b .satisfies) in record {
+      assignment = joined hidden (b .assignment) (a .hiddens);
+      satisfies = a .complete;
+      broken = λ m. b .broken (meets-named (joined hidden (b .assignment) (a .hiddens)) (b .assignment) (ruleIn script k) (λ q e. rw (visible .each k p q e)) m);
+    }
+
+-- and conversely
+sheet-breaks : (hidden : ℕ → Bool) (n : ℕ) (sheet script : List ℤ) (k : ℕ) → KeyExact hidden n sheet
+    → Breaks (Satisfies n sheet) (ruleIn script k) → Breaks (Satisfies n (keyOf hidden n sheet)) (ruleIn script k)
+sheet-breaks hidden n sheet script k exact b = record {
+  assignment = b .assignment;
+  satisfies = exact (b .assignment) .1 (allows-own n hidden sheet (b .assignment) (b .satisfies));
+  broken = b .broken;
+}
+
+-- so the first is the same
+pub key-first : (hidden : ℕ → Bool) (n : ℕ) (sheet script : List ℤ) (k : ℕ) → NamesVisible n hidden script → KeyExact hidden n sheet
+    → FirstAt n script (Satisfies n (keyOf hidden n sheet)) k → FirstAt n script (Satisfies n sheet) k
+key-first hidden n sheet script k visible exact f = record {
+  holds = f .holds;
+  breaks = key-breaks hidden n sheet script k visible exact (f .holds) (f .breaks);
+  first = λ i h g b. f .first i h g (sheet-breaks hidden n sheet script i exact b);
+}
+
+key-none : (hidden : ℕ → Bool) (n : ℕ) (sheet script : List ℤ) → KeyExact hidden n sheet → NoneBroken n script (Satisfies n (keyOf hidden n sheet))
+    → NoneBroken n script (Satisfies n sheet)
+key-none hidden n sheet script exact f k p b = f k p (sheet-breaks hidden n sheet script k exact b)
 
 -- none of either: they allow the same, the script's rules naming visible quantities alone
 unbroken-same : (hidden : ℕ → Bool) (n : ℕ) (sheet script : List ℤ) → blockStart n ≤ length (keyOf hidden n sheet) → blockStart n ≤ length script
@@ -211,14 +246,14 @@ verdict-means n set sheet script w v m = go (refuted n sheet) refl
     key = keyOf hidden n sheet
 
     key-room : blockStart n ≤ length key
-    key-room = omega (arith, m .sized .sheet-room, ap length (hide-all hidden n sheet), hideUpTo-length hidden n n sheet)
+    key-room = Opposed·key-room n set sheet script w v m
 
     key-exactly : Exactly n key script
     key-exactly k p = breakable-exactly n script k (wordAt key k) (m .sized .script-room) (p .inside) (loose-small n set sheet script w v m k p)
         (loose-opposed n set sheet script w v m k p)
 
-    script-exactly : Exactly n script sheet
-    script-exactly k p = breakable-exactly n sheet k (wordAt script k) (m .sized .sheet-room) (p .inside) (tight-small n set sheet script w v m k p)
+    script-exactly : Exactly n script key
+    script-exactly k p = breakable-exactly n key k (wordAt script k) key-room (p .inside) (tight-small n set sheet script w v m k p)
         (tight-opposed n set sheet script w v m k p)
 
     without : Unsatisfiable n sheet → (b : Bool) → refuted n script ≡ b → Means hidden n sheet script (cond b Equal (Loose trivialRule))
@@ -231,37 +266,39 @@ verdict-means n set sheet script w v m = go (refuted n sheet) refl
     exact : Satisfiable n sheet → KeyExact hidden n sheet
     exact = key-allows n set sheet script w v m
 
-    not-loose : Satisfiable n sheet → NoneBroken n key (Satisfies n script) → Means hidden n sheet script (orElse Tight (firstBroken n script sheet) Equal)
-    not-loose s keys = carried-or-next (Means hidden n sheet script) Tight (firstBroken n script sheet) Equal tight equal
+    not-loose : Satisfiable n sheet → NoneBroken n key (Satisfies n script) → Means hidden n sheet script (orElse Tight (firstBroken n script key) Equal)
+    not-loose s keys = carried-or-next (Means hidden n sheet script) Tight (firstBroken n script key) Equal tight equal
       where
-        tight : hasTerm (firstBroken n script sheet) ≡ true → Means hidden n sheet script (Tight (firstBroken n script sheet))
+        tight : hasTerm (firstBroken n script key) ≡ true → Means hidden n sheet script (Tight (firstBroken n script key))
         tight e =
-            let f = first-some n script sheet (m .sized .script-room) script-exactly e in (
+            let g = first-some n script key (m .sized .script-room) script-exactly e in
+            let f : FirstBroken n script (Satisfies n sheet) (firstBroken n script key) =
+            record { place = g .place; is = g .is; at = key-first hidden n sheet script (g .place) (m .visible) (exact s) (g .at) } in (
               (
                 unbroken-not-loose hidden n sheet (Satisfies n script) key-room (exact s) keys,
-                broken-narrow hidden n sheet script (firstBroken n script sheet) f,
+                broken-narrow hidden n sheet script (firstBroken n script key) f,
               ),
               f,
             )
 
-        equal : hasTerm (firstBroken n script sheet) ≡ false → Means hidden n sheet script Equal
+        equal : hasTerm (firstBroken n script key) ≡ false → Means hidden n sheet script Equal
         equal e =
-            let none = first-none n script sheet (m .sized .script-room) script-exactly e .1 in
-            unbroken-same hidden n sheet script key-room (m .sized .script-room) (m .visible) (exact s) keys none
+            let none = first-none n script key (m .sized .script-room) script-exactly e .1 in
+            unbroken-same hidden n sheet script key-room (m .sized .script-room) (m .visible) (exact s) keys (key-none hidden n sheet script (exact s) none)
 
-    with-some : Satisfiable n sheet → Means hidden n sheet script (orElse Loose (firstBroken n key script) (orElse Tight (firstBroken n script sheet) Equal))
-    with-some s = carried-or-next (Means hidden n sheet script) Loose (firstBroken n key script) (orElse Tight (firstBroken n script sheet) Equal) loose next
+    with-some : Satisfiable n sheet → Means hidden n sheet script (orElse Loose (firstBroken n key script) (orElse Tight (firstBroken n script key) Equal))
+    with-some s = carried-or-next (Means hidden n sheet script) Loose (firstBroken n key script) (orElse Tight (firstBroken n script key) Equal) loose next
       where
         loose : hasTerm (firstBroken n key script) ≡ true → Means hidden n sheet script (Loose (firstBroken n key script))
         loose e =
             let f = first-some n key script key-room key-exactly e in
             (broken-loose hidden n sheet (Satisfies n script) (firstBroken n key script) (exact s) f, inr (s, f))
 
-        next : hasTerm (firstBroken n key script) ≡ false → Means hidden n sheet script (orElse Tight (firstBroken n script sheet) Equal)
+        next : hasTerm (firstBroken n key script) ≡ false → Means hidden n sheet script (orElse Tight (firstBroken n script key) Equal)
         next e = not-loose s (first-none n key script key-room key-exactly e .1)
 
     go : (b : Bool) → refuted n sheet ≡ b → Means hidden n sheet script (cond b (cond (refuted n script) Equal (Loose trivialRule))
-        (orElse Loose (firstBroken n key script) (orElse Tight (firstBroken n script sheet) Equal)))
+        (orElse Loose (firstBroken n key script) (orElse Tight (firstBroken n script key) Equal)))
     go true e = without (refuted-exactly n sheet (sheet-fitting n set sheet script w v m) .0 e) (refuted n script) refl
     go false e = with-some (some-satisfy n sheet (sheet-fitting n set sheet script w v m) e)
 

@@ -27,10 +27,9 @@ use Rattle.tables.proofs.Lists.{AllAccepted, empty-satisfied, tableOf-meaning}
 use Rattle.tables.proofs.Places.{placeOf, ruleAt-place, ruleAt-hasPlace}
 use Rattle.tables.proofs.SheetA.{rules, hidden, sheet, of-one-and-three, of-two, completes, not-allowed, wide, wide-allows}
 use Rattle.keys.specs.Keys.{keyOf, refuted}
-use Rattle.keys.specs.Inner.{pairUpTo}
 use Rattle.keys.proofs.Sheets.{sheetTable, seenLate, steps}
 use Rattle.keys.proofs.FraudMeanings.{seenLate-unsatisfiable}
-use Rattle.tightening.specs.Tightening.{strengthening, strengthened, tightened}
+use Rattle.tightening.specs.Tightening.{pairUpTo, strengthening, strengthened, tightened}
 use Rattle.marking.specs.declared.verdict.Verdict.{Verdict}
 use Rattle.marking.specs.declared.verdict.Verdict.the-variants.{Equal, Loose, Tight}
 use Rattle.marking.specs.Verdicts.{verdictNumber}

@@ -34,12 +34,12 @@ rest-further m k u v h e =
     ap (λ (i : ℕ). drop i v) (sym d) ∙ sym (drop-drop (k - m) m v) ∙ ap (drop (k - m)) e ∙ drop-drop (k - m) m u ∙ ap (λ (i : ℕ). drop i u) d
 
 -- a slice of which the first m words may change is one of which the first k may
-lent-wider : (m k : ℕ) (u v : List ℤ) → m ≤ k → length v ≡ length u → drop m v ≡ drop m u → Lent k true u v
+pub lent-wider : (m k : ℕ) (u v : List ℤ) → m ≤ k → length v ≡ length u → drop m v ≡ drop m u → Lent k true u v
 lent-wider m k u v h s e = record { size = s; rest = rest-further m k u v h e; kept = λ c. clash refl c }
 
 -- a workspace in which a table was decided
-pub decided-lent : (n : ℕ) (t u : List ℤ) (b : Bool) (v : List ℤ) → Decided n t u b v → Lent (workspaceSize n) true u v
-decided-lent n t u b v d = lent-wider (blockStart n) (workspaceSize n) u v (omega arith) (d .lent .size) (d .lent .rest)
+pub decided-lent : (n set : ℕ) (t u : List ℤ) (b : Bool) (v : List ℤ) → Decided n set t u b v → Lent (workspaceSize n) true u v
+decided-lent n set t u b v d = lent-wider (blockStart n) (workspaceSize n) u v (omega arith) (d .lent .size) (d .lent .rest)
 
 -- ---- the front of a workspace
 
@@ -58,27 +58,3 @@ copy-fronted n t u v w l h lent e = rw e (record {
       (change-length (blockStart n) (copying t) v) (change-drop (blockStart n) (copying t) v));
 })
 
--- a table's copy replaced by its key
-pub key-fronted : (hidden : ℕ → Bool) (n : ℕ) (t u v w : List ℤ) → Fronted n t u v → w ≡ keyOf hidden n v → Fronted n (keyOf hidden n t) u w
-unfolding keyOf
-key-fronted hidden n t u v w f e = rw e (record {
-  front = key-front hidden n t v (f .front);
-  lent = lent-again (workspaceSize n) true true u v (hideUpTo hidden n n v) (f .lent)
-      (lent-wider (blockStart n) (workspaceSize n) v (keyOf hidden n v) (omega arith) (hideUpTo-length hidden n n v) (rest-key hidden n v));
-})
-
--- their fronts are the same list
-same-front : (n : ℕ) (t u : List ℤ) → SameTable n t u → take (blockStart n) u ≡ take (blockStart n) t
-same-front n t u s =
-    ext-getD (pos 0) (take (blockStart n) u) (take (blockStart n) t)
-    (length-take-le (blockStart n) u (s .theirs) ∙ sym (length-take-le (blockStart n) t (s .mine))) at-each
-  where
-    at-each : (k : ℕ) → k < length (take (blockStart n) u) → wordAt (take (blockStart n) u) k ≡ wordAt (take (blockStart n) t) k
-    at-each k h =
-        let i : k < blockStart n = omega (arith, length-take-le (blockStart n) u (s .theirs)) in
-        getD-take (blockStart n) u k (pos 0) i ∙ s .words k i ∙ sym (getD-take (blockStart n) t k (pos 0) i)
-
--- the first rule that is broken is the same in both
-pub same-broken : (n : ℕ) (t u paper : List ℤ) → SameTable n t u → firstBroken n u paper ≡ firstBroken n t paper
-unfolding firstBroken
-same-broken n t u paper s = rw (same-front n t u s)

@@ -3,11 +3,8 @@
 -- tables, and calls that are ruled out whatever the verdict.
 pub mod Checking
 pub mod Carried
-pub mod Puts
-pub mod Zeros
 pub mod Breakable
 pub mod Opposed
-pub mod RuleBreaking
 pub mod Finding
 pub mod Demand
 pub mod Lending

@@ -39,7 +39,7 @@ fn unsatisfiable_sheet(
 }
 
 // The verdict on tables that passed the checks.
-fn verdict(
+pub fn verdict(
     n: usize,
     set: Set,
     sheet: &[i64],

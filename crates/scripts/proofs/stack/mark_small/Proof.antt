@@ -1,12 +1,11 @@
--- `own::mark_large` meets its contract: what it lends is room for every sheet. Assumes nothing.
+-- `stack::mark_small` meets its contract: a table of the small room has words enough for its most quantities. Assumes nothing.
 use native.Mathlib.Omega.{arith}
 use borrow.Author.Needs.{needs}
 use Rattle.places.specs.Numbering.{blockStart}
-use Rattle.rules.specs.Limits.{maxQuantities}
-use Rattle.scripts.proofs.Promised.{passed-sized}
+use Rattle.scripts.specs.Inner.{smallCount}
 use Rattle.scripts.proofs.OwnRoom.{own-passed, own-marked}
-use Rattle.scripts.proofs.own.mark_large.Statement.{statement}
-use Rattle.scripts.proofs.own.mark_large.Tie as tie
+use Rattle.scripts.proofs.stack.mark_small.Statement.{statement}
+use Rattle.scripts.proofs.stack.mark_small.Tie as tie
 
 abbrev startOf : tie.After-mark-passed-arg → tie.Start
 startOf c = c .before .before .before .before .before .before
@@ -22,7 +21,7 @@ slice-aggregate-mark-passed-3 c = search needs
 
 mark-passed-requires : tie.Need-mark-passed-requires
 unfolding blockStart
-mark-passed-requires c κs = own-passed maxQuantities (startOf c .pre) (passed-sized (startOf c .pre) .1) (omega arith) (omega arith) (omega arith)
+mark-passed-requires c κs = own-passed smallCount (startOf c .pre .0) (startOf c .pre .1) (omega arith) (omega arith) (omega arith)
 
 same-length : tie.Need-same-length
 same-length c = search needs
@@ -32,10 +31,10 @@ unfolding blockStart
 returns c =
     let m = c .before .before .before .before in
     let s = startOf (m .before) in
-    own-marked (m .mark-passed .ensures) maxQuantities (s .pre) (passed-sized (s .pre) .1) (omega arith) (omega arith) (omega arith)
+    own-marked (m .mark-passed .ensures) smallCount (s .pre .0) (s .pre .1) (omega arith) (omega arith) (omega arith)
 
-pub mark-large-spec : {M : Type 1} → statement M
-mark-large-spec =
+pub mark-small-spec : {M : Type 1} → statement M
+mark-small-spec =
     tie.close
     (tie.spec
     slice-aggregate-mark-passed

@@ -1,7 +1,7 @@
 -- Two fine texts with room and one header: their tables are accepted where the script names no hidden quantity, their reply is then the tables' verdict, and what
 -- it says of the tables it says of the rules as written.
 -- Assumes nothing.
-use mathlib.Core.Path.{_≡_, refl, sym, _∙_, ap}
+use mathlib.Core.Path.{_≡_, refl, sym, _∙_}
 use mathlib.Core.Bool.{Bool, true, false, not}
 use mathlib.Core.List.{List, _++_}
 use Prim.Native.Nat.{ℕ, _≤_}
@@ -36,7 +36,7 @@ use Rattle.scripts.specs.declared.reply.TextMarking.{TextMarking}
 use Rattle.scripts.specs.declared.reply.TextMarking.the-variants.{Marked, Refused}
 use Rattle.scripts.specs.Replies.{isTextShown}
 use Rattle.scripts.specs.Meaning.{lengthsOf, setIn, tableIn, AcceptedPair}
-use Rattle.scripts.specs.Marking.{pairChecks, markedOr, pairReply, textsReply, countIn}
+use Rattle.scripts.specs.Marking.{pairChecks, markedOr, pairReply, textsReply}
 use Rattle.scripts.specs.Inner.{firstChecks, Room}
 use Rattle.scripts.specs.Promises.{PairJudged, TextsJudged, TextsMarked}
 use Rattle.scripts.proofs.Sheets.{FineTable, fine-table}

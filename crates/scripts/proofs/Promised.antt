@@ -25,7 +25,7 @@ use Rattle.lines.specs.Lines.{Judged, accepted, refused}
 use Rattle.reading.specs.declared.check.Checked.{Checked}
 use Rattle.reading.specs.declared.check.Checked.the-variants.{Passed}
 use Rattle.reading.specs.Texts.{Contents, headerText}
-use Rattle.reading.specs.Meaning.{Reads, Passes}
+use Rattle.reading.specs.Meaning.{Reads}
 use Rattle.reading.specs.Reading.{checkText, checkedOf, filled}
 use Rattle.reading.specs.Promises.{TextChecked}
 use Rattle.reading.proofs.Means.{reads-check}

@@ -1,5 +1,4 @@
 -- What the functions inside ask and answer; no promise of marking two texts rests on it.
-use mathlib.Core.Bool.{_&&_}
 use mathlib.Core.List.{List}
 use Prim.Native.Nat.{ℕ, _≤_}
 use Rattle.places.specs.Numbering.{blockStart}
@@ -13,8 +12,8 @@ use Rattle.marking.specs.Meaning.{workspaceSize}
 use Rattle.reading.specs.declared.check.Checked.{Checked}
 use Rattle.reading.specs.declared.check.Checked.the-variants.{Passed}
 use Rattle.reading.specs.declared.check.Checked.the-variants.{Refused as Failed}
-use Rattle.scripts.specs.declared.room.Lengths.{Lengths}
 use Rattle.reading.specs.Meaning.{Passes}
+use Rattle.scripts.specs.declared.room.Lengths.{Lengths}
 use Rattle.scripts.specs.declared.pair.Pair.{Pair}
 use Rattle.scripts.specs.declared.pair.PairChecked.{PairChecked}
 use Rattle.scripts.specs.declared.pair.PairChecked.the-variants.{Passed as BothPassed}

@@ -169,8 +169,8 @@ module _ (sheet script : List ℕ) (sheet-table script-table workspace values : 
           }
 
       -- the verdict on the tables is the texts'
-      pub verdict-marked : TextsMarked sheet script sheet-table script-table workspace values (Marked (c .count) x) sheet-table' script-table' workspace' values'
-      verdict-marked = filled-marked (Marked (c .count) x) (texts-judged sheet script lent (Marked (c .count) x) values' (sym verdict-reply) verdict-judged)
+      pub tables-marked : TextsMarked sheet script sheet-table script-table workspace values (Marked (c .count) x) sheet-table' script-table' workspace' values'
+      tables-marked = filled-marked (Marked (c .count) x) (texts-judged sheet script lent (Marked (c .count) x) values' (sym verdict-reply) verdict-judged)
           (g .lent) (g .written)
 
   -- a script that names a hidden quantity is refused

@@ -47,7 +47,7 @@ use Rattle.scripts.specs.Promises.{TextsMarked}
 use Rattle.scripts.proofs.Sheets.{fine-table}
 use Rattle.scripts.proofs.Rooms.{room-roomy, headers-same, first-tells, first-refused}
 use Rattle.scripts.proofs.Judging.{accepted-reads, refused-accepted, texts-judged}
-use Rattle.scripts.proofs.Pairs.{pair-reply, tables-accepted, verdict-marked, named-marked}
+use Rattle.scripts.proofs.Pairs.{pair-reply, tables-accepted, tables-marked, named-marked}
 
 -- a text that passed has an n in its range
 pub passed-range : (paper : Paper) {s : List ℕ} {r : Checked} {n set m body : ℕ} → TextChecked paper s r → r ≡ Passed n set m body
@@ -203,6 +203,6 @@ module _ {sheet script : List ℕ} {a b w v : List ℤ} {p : Pair} {a' b' : List
           → TextsMarked sheet script a b w v (Marked (p .quantities) r) a' b' w' v'
       filled-marked {w'} {v'} {r} g =
           rw (x .passed .of-sheet .counts)
-          (verdict-marked sheet script a b w v c d (x .passed .of-sheet .reads) (x .passed .of-script .reads) (passed-first (x .passed)) a' b'
+          (tables-marked sheet script a b w v c d (x .passed .of-sheet .reads) (x .passed .of-script .reads) (passed-first (x .passed)) a' b'
           (sheet-front .0) (script-front .0) w' v' (sym names-same ∙ e) r
           (rw (x .passed .of-sheet .counts, x .passed .of-sheet .hides, sheet-front .1, script-front .1) at g))

@@ -276,7 +276,7 @@ equal-given n set sheet script w v y x u r w' v' e p f b h =
 -- ---- marking two tables
 
 -- what a verdict means
-verdict-told : (n set : ℕ) (sheet script : List ℤ) (w v : List ℤ) (r : Verdict) (w' v' : List ℤ)
+pub verdict-told : (n set : ℕ) (sheet script : List ℤ) (w v : List ℤ) (r : Verdict) (w' v' : List ℤ)
     → TablesAccepted n set sheet script (length w) (length v) → VerdictGiven n set sheet script w v r w' v'
     → VerdictMeans n set (Satisfies n sheet) (Satisfies n script) sheet script (verdictReturned r) v'
 verdict-told n set sheet script w v r w' v' m g = record {

@@ -9,7 +9,9 @@ use lib.IntN.{ℤ}
 use lib.Dec.{ltb}
 use lib.ListN.{length}
 use borrow.Author.Tests.{ltb-true, ltb-false, le-leb}
+use Rattle.words.specs.Lent.{Lent}
 use Rattle.places.specs.Numbering.{blockStart}
+use Rattle.places.proofs.Numbering.{blockStart-mono}
 use Rattle.rules.specs.declared.paper.Paper.{Paper}
 use Rattle.rules.specs.declared.paper.Paper.the-variants.{Sheet, Script}
 use Rattle.rules.specs.declared.refusal.Refusal.{Refusal}
@@ -18,24 +20,31 @@ use Rattle.rules.specs.Limits.{maxQuantities}
 use Rattle.rules.specs.Refusal.{refusalNumber, refusalValue}
 use Rattle.rules.specs.Refusing.{RefusedBy}
 use Rattle.tables.proofs.Sizes.{small-start}
+use Rattle.keys.proofs.Promised.{untouched}
 use Rattle.marking.specs.Meaning.{workspaceSize}
 use Rattle.marking.proofs.Carried.{verdict-from}
 use Rattle.lines.specs.Lines.{Judged, accepted, refused}
 use Rattle.reading.specs.Reading.{checkText}
 use Rattle.reading.specs.Texts.{Contents}
 use Rattle.reading.specs.Meaning.{Readable, malformed-at, outside-at, cancels-at, FailsFor}
+use Rattle.scripts.specs.declared.room.Lengths.{Lengths}
+use Rattle.scripts.specs.declared.pair.Pair.{Pair}
+use Rattle.scripts.specs.declared.pair.PairChecked.the-variants.{Refused as NotPassed}
 use Rattle.scripts.specs.declared.reply.Subject.{Subject}
 use Rattle.scripts.specs.declared.reply.Subject.the-variants.{Both}
 use Rattle.scripts.specs.declared.reply.Subject.the-variants.{Sheet as OfSheet}
 use Rattle.scripts.specs.declared.reply.Subject.the-variants.{Script as OfScript}
 use Rattle.scripts.specs.declared.reply.TextMarking.{TextMarking}
 use Rattle.scripts.specs.declared.reply.TextMarking.the-variants.{Marked, Refused}
-use Rattle.scripts.specs.Replies.{textNumber, textValue}
-use Rattle.scripts.specs.Meaning.{ownLengths, pairNeeds, RefusedPair}
+use Rattle.scripts.specs.Replies.{textNumber, textValue, isTextShown}
+use Rattle.scripts.specs.Meaning.{lengthsOf, ownLengths, pairNeeds, AcceptedPair, RefusedPair}
 use Rattle.scripts.specs.Marking.{roomChecks, pairChecks, pairReply, textsReply, countIn}
+use Rattle.scripts.specs.Inner.{Room, PassedPair}
 use Rattle.scripts.specs.Promises.{TextsJudged, TextsMarked, MarkedInOwnRoom}
 use Rattle.scripts.proofs.Sheets.{fine-table}
-use Rattle.scripts.proofs.Judging.{reads-count, accepted-reads, texts-refused}
+use Rattle.scripts.proofs.Rooms.{roomy-next}
+use Rattle.scripts.proofs.Judging.{reads-count, accepted-reads, texts-refused, refused-accepted, texts-judged}
+use Rattle.scripts.proofs.Promised.{PairTells}
 
 -- ---- the sheet's n
 
@@ -132,17 +141,73 @@ same-reply sheet script k m h g = go (checkText Sheet sheet) refl (checkText Scr
         let n : countIn sheet ≡ c .count = reads-count sheet c (accepted-reads Sheet e) in
         rw (le-leb (c .count) k (rw n at (h r)), le-leb (c .count) m (rw n at (g r)))
 
--- marking with so much lent promises this
-pub own-marked : {sheet script : List ℕ} {a b w v : List ℤ} {r : TextMarking} {a' b' w' v' : List ℤ} → TextsMarked sheet script a b w v r a' b' w' v'
-    → length a ≡ blockStart maxQuantities → length b ≡ blockStart maxQuantities → length w ≡ workspaceSize maxQuantities
-    → MarkedInOwnRoom sheet script v r v'
-own-marked {sheet} {script} {v = v} {r = r} {v' = v'} m e f g =
-    let j : TextsJudged sheet script (ownLengths (length v)) r v' = rw (e, f, g) at (m .judged) in
+-- nor does it matter how many words are lent in all where they are enough
+module _ (sheet script : List ℕ) (k m : Lengths) (h : Room (countIn sheet) k) (g : Room (countIn sheet) m) where
+  roomy-reply : textsReply sheet script k ≡ textsReply sheet script m
+  unfolding textsReply pairReply pairChecks
+  roomy-reply = go (checkText Sheet sheet) refl (checkText Script script) refl
+    where
+      go : (x : Judged Contents) → checkText Sheet sheet ≡ x → (y : Judged Contents) → checkText Script script ≡ y → pairReply x y k ≡ pairReply x y m
+      go (refused f) e y d = refl
+      go (accepted c u) e (refused f) d = refl
+      go (accepted c u) e (accepted i w) d =
+          let n : countIn sheet ≡ c .count = reads-count sheet c (accepted-reads Sheet e) in
+          rw (roomy-next (c .count) k (rw n at h) _, roomy-next (c .count) m (rw n at g) _)
+
+  roomy-accepted : AcceptedPair sheet script m → AcceptedPair sheet script k
+  roomy-accepted t =
+      let r : Room (t .of-sheet .count) k = rw (reads-count sheet (t .of-sheet) (t .sheet-reads)) at h in
+      record {
+        of-sheet = t .of-sheet;
+        of-script = t .of-script;
+        sheet-reads = t .sheet-reads;
+        script-reads = t .script-reads;
+        met = (r .sheet-room, (r .script-room, (r .workspace-room, (r .values-room, t .met .1 .1 .1 .1))));
+      }
+
+  roomy-judged : (r : TextMarking) (values : List ℤ) → TextsJudged sheet script k r values → TextsJudged sheet script m r values
+  unfolding roomy-accepted
+  roomy-judged r values j = texts-judged sheet script m r values (j .reply ∙ roomy-reply) (λ t.
+      let x = j .judged (roomy-accepted t) in
+      record { members = x .members; sheet-table = x .sheet-table; script-table = x .script-table; means = x .means })
+
+-- ---- rooms
+
+-- texts that passed may be marked in tables and a workspace for any number of quantities that is not below their n
+pub own-passed : {sheet script : List ℕ} {p : Pair} {lent : Lengths} (most : ℕ) → PassedPair sheet script (ownLengths (lent .values)) p → p .quantities ≤ most
+    → lent .sheet ≡ blockStart most → lent .script ≡ blockStart most → lent .workspace ≡ workspaceSize most → PassedPair sheet script lent p
+own-passed most x l e f g =
+    let m = blockStart-mono l in
+    record {
+      of-sheet = x .of-sheet;
+      of-script = x .of-script;
+      room = record { sheet-room = omega arith; script-room = omega arith; workspace-room = omega arith; values-room = x .room .values-room };
+    }
+
+-- a reply so judged promises this
+own-judged : (sheet script : List ℕ) (v : List ℤ) (r : TextMarking) (v' : List ℤ) → TextsJudged sheet script (ownLengths (length v)) r v'
+    → Lent (countIn sheet) (isTextShown r) v v' → MarkedInOwnRoom sheet script v r v'
+own-judged sheet script v r v' j l =
     let six = six-short sheet script (length v) r (j .reply) in
     record {
       judged = j;
-      written = m .written;
+      written = l;
       short = (λ x. let s = six x in (s .0, s .1), λ s. short-six sheet script (length v) r (j .reply) (s .0) (s .1));
       needed = λ x. six x .2;
       most = count-most sheet;
     }
+
+-- so does marking texts that passed, in such a room
+pub own-marked : {sheet script : List ℕ} {a b w v : List ℤ} {p : Pair} {r : TextMarking} {a' b' w' v' : List ℤ} → TextsMarked sheet script a b w v r a' b' w' v'
+    → (most : ℕ) → PassedPair sheet script (ownLengths (length v)) p → p .quantities ≤ most
+    → length a ≡ blockStart most → length b ≡ blockStart most → length w ≡ workspaceSize most → MarkedInOwnRoom sheet script v r v'
+own-marked {sheet} {script} {a} {b} {w} {v} {p} {r} {v' = v'} m most x l e f g =
+    let n : countIn sheet ≡ p .quantities = reads-count sheet (x .of-sheet .contents) (x .of-sheet .reads) ∙ sym (x .of-sheet .counts) in
+    let y : PassedPair sheet script (lengthsOf a b w v) p = own-passed most x l e f g in
+    own-judged sheet script v r v' (roomy-judged sheet script (lengthsOf a b w v) (ownLengths (length v)) (rw n (y .room)) (rw n (x .room)) r v' (m .judged)) (m .written)
+
+-- and a refusal, which changes no word
+pub own-refused : {sheet script : List ℕ} {v : List ℤ} {p : Subject} {f : Refusal} → PairTells sheet script (ownLengths (length v)) (NotPassed p f)
+    → MarkedInOwnRoom sheet script v (Refused p f) v
+own-refused {sheet} {script} {v} {p} {f} t =
+    own-judged sheet script v (Refused p f) v (texts-judged sheet script _ (Refused p f) v (sym t) (λ x. refused-accepted sheet script _ p f t x)) (untouched _ _ v)

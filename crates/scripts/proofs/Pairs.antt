@@ -1,65 +1,53 @@
--- Two fine texts with room and one header: their reply is that of marking their tables, and what it says of the tables it says of the rules as written.
+-- Two fine texts with room and one header: their tables are accepted where the script names no hidden quantity, their reply is then the tables' verdict, and what
+-- it says of the tables it says of the rules as written.
 -- Assumes nothing.
-use mathlib.Core.Path.{_≡_, refl, sym, _∙_, ap}
-use mathlib.Core.Bool.{Bool, true, not}
+use mathlib.Core.Path.{_≡_, refl, sym, _∙_}
+use mathlib.Core.Bool.{Bool, true, false, not}
 use mathlib.Core.List.{List, _++_}
 use Prim.Native.Nat.{ℕ, _≤_}
 use native.Mathlib.Omega.{arith}
 use lib.IntN.{ℤ}
 use lib.ListN.{length, drop, length-append, length-drop}
 use lib.Seq.{drop-append-seam}
-use borrow.Author.Tests.{le-leb}
 use Rattle.words.specs.Lent.{Lent}
 use Rattle.places.specs.Numbering.{blockStart}
 use Rattle.rules.specs.declared.paper.Paper.the-variants.{Sheet, Script}
 use Rattle.rules.specs.declared.refusal.Refusal.the-variants.{Mismatch}
 use Rattle.rules.specs.Hidden.{hiddenIn}
-use Rattle.tables.specs.declared.reply.Reply.{Reply}
 use Rattle.tables.specs.declared.reply.Reply.the-variants.{Done}
-use Rattle.tables.specs.declared.reply.Reply.the-variants.{Refused as NotDone}
 use Rattle.tables.specs.Replies.{check}
-use Rattle.tables.specs.Tables.{serves, tableNamesHidden}
+use Rattle.tables.specs.Tables.{tableNamesHidden}
 use Rattle.tables.specs.Meaning.{Satisfies}
 use Rattle.tables.proofs.Tests.{clash}
-use Rattle.tables.proofs.Sizes.{long-serves}
-use Rattle.keys.specs.Keys.{boundsInLimit}
-use Rattle.keys.proofs.Checking.{bounds}
+use Rattle.tables.proofs.Naming.{names-visible}
+use Rattle.keys.proofs.Promised.{untouched}
 use Rattle.marking.specs.declared.verdict.Verdict.{Verdict}
-use Rattle.marking.specs.declared.verdict.Marking.{Marking}
-use Rattle.marking.specs.declared.verdict.Marking.the-variants.{Refused as NotMarked}
-use Rattle.marking.specs.declared.verdict.Marking.the-variants.{Marked as TablesMarkedAs}
-use Rattle.marking.specs.Verdicts.{verdictReturned, isMarked}
+use Rattle.marking.specs.Verdicts.{verdictReturned}
 use Rattle.marking.specs.Meaning.{workspaceSize}
-use Rattle.marking.specs.Marking.{verdictOf, numbersWithin, markChecks, markedAs, markReply}
-use Rattle.marking.specs.Promises.{TablesMarked}
+use Rattle.marking.specs.Marking.{verdictOf}
+use Rattle.marking.specs.Inner.{TablesAccepted, VerdictGiven}
+use Rattle.marking.proofs.Promised.{verdict-told}
 use Rattle.reading.specs.Texts.{Contents}
 use Rattle.reading.specs.Meaning.{Reads, rulesOf}
 use Rattle.reading.proofs.Means.{reads-check, reads-same}
 use Rattle.scripts.specs.declared.room.Lengths.{Lengths}
 use Rattle.scripts.specs.declared.reply.Subject.the-variants.{Both}
-use Rattle.scripts.specs.Replies.{textsReturned, isTextShown}
+use Rattle.scripts.specs.declared.reply.TextMarking.{TextMarking}
+use Rattle.scripts.specs.declared.reply.TextMarking.the-variants.{Marked, Refused}
+use Rattle.scripts.specs.Replies.{isTextShown}
 use Rattle.scripts.specs.Meaning.{lengthsOf, setIn, tableIn, AcceptedPair}
-use Rattle.scripts.specs.Marking.{pairChecks, markedOr, pairReply, textsReply, countIn}
-use Rattle.scripts.specs.Inner.{firstChecks, markedTexts}
-use Rattle.scripts.specs.Promises.{PairJudged, TextsMarked}
+use Rattle.scripts.specs.Marking.{pairChecks, markedOr, pairReply, textsReply}
+use Rattle.scripts.specs.Inner.{firstChecks, Room}
+use Rattle.scripts.specs.Promises.{PairJudged, TextsJudged, TextsMarked}
 use Rattle.scripts.proofs.Sheets.{FineTable, fine-table}
-use Rattle.scripts.proofs.Rooms.{Room, first-tells, first-done}
+use Rattle.scripts.proofs.Rooms.{first-tells, first-done}
 use Rattle.scripts.proofs.Judging.{reads-count, refused-accepted, texts-judged}
 use Rattle.scripts.proofs.Alike.{Alike, alike-means}
 
 abbrev verdictIn : Contents → Contents → Verdict
 verdictIn c d = verdictOf (hiddenIn (setIn c)) (c .count) (tableIn c) (tableIn d)
 
--- the texts' reply from that of their tables
-marked-same : (r : Reply) (n : ℕ) (x : Verdict) → markedTexts n (markedAs r x) ≡ markedOr r n x
-marked-same Done n x = refl
-marked-same (NotDone f) n x = refl
-
 -- ---- what is lent
-
--- free words, whatever is promised of them
-freed : (m : ℕ) (free : Bool) (t t' : List ℤ) → Lent m free t t' → Lent m true t t'
-freed m free t t' l = record { size = l .size; rest = l .rest; kept = λ e. clash refl e }
 
 -- a table put in front of what is past it
 fronted : (m : ℕ) (front t t' : List ℤ) → length front ≡ m → m ≤ length t → t' ≡ front ++ drop m t → Lent m true t t'
@@ -103,88 +91,94 @@ module _ (sheet script : List ℕ) (sheet-table script-table workspace values : 
   of-script : FineTable Script d
   of-script = fine-table Script d (q .spelled .fine)
 
-  -- the script's names decide
-  abbrev visible : Reply
-  visible = check (not (tableNamesHidden (hiddenIn (setIn c)) (c .count) (tableIn d))) Mismatch Done
+  -- does the script name a hidden quantity?
+  abbrev named : Bool
+  named = tableNamesHidden (hiddenIn (setIn c)) (c .count) (tableIn d)
 
-  -- the reply, once these are checked
-  texts-reply : textsReply sheet script lent ≡ markedOr visible (c .count) (verdictIn c d)
+  -- that decides, once the rest is checked
+  texts-reply : textsReply sheet script lent ≡ markedOr (check (not named) Mismatch Done) (c .count) (verdictIn c d)
   texts-reply = pair-reply sheet script c d p q lent ∙ rw (first-done c d lent first)
 
-  -- that of the tables, whose other checks are done
-  tables-reply : markReply (c .count) (setIn c) (tableIn c) (tableIn d) (length workspace) (length values) ≡ markedAs visible (verdictIn c d)
-  unfolding markReply markChecks numbersWithin
-  tables-reply =
-      rw (
-        sheet-serves,
-        script-serves,
-        le-leb (workspaceSize (c .count)) (length workspace) (room .workspace-room),
-        le-leb (c .count) (length values) (room .values-room),
-        of-sheet .range,
-        bounds Sheet (c .count) (setIn c) (tableIn c) .1 (of-sheet .bounds),
-        script-bounds,
-      )
+  -- the reply of a script that does
+  named-reply : named ≡ true → textsReply sheet script lent ≡ Refused Both Mismatch
+  named-reply e = texts-reply ∙ rw e refl
+
+  -- tables that are filled from texts need no more checks
+  pub tables-accepted : named ≡ false → TablesAccepted (c .count) (setIn c) (tableIn c) (tableIn d) (length workspace) (length values)
+  tables-accepted e = record {
+    sized = record {
+      some = of-sheet .some;
+      most = of-sheet .most;
+      sheet-room = omega (arith, of-sheet .size);
+      script-room = script-long;
+    };
+    workspace-room = room .workspace-room;
+    values-room = room .values-room;
+    limits = record {
+      set-within = of-sheet .range;
+      sheet-within = of-sheet .bounds;
+      script-within = rw (← counts, ← sets) (of-script .bounds);
+    };
+    visible = names-visible (hiddenIn (setIn c)) (c .count) (tableIn d) script-long .0 e;
+  }
     where
-      sheet-serves : serves (c .count) (length (tableIn c)) ≡ true
-      sheet-serves = rw (of-sheet .size) (long-serves (c .count) (blockStart (c .count)) (of-sheet .some) (of-sheet .most) (omega arith))
+      script-long : blockStart (c .count) ≤ length (tableIn d)
+      script-long = rw (of-script .size, counts) (omega arith)
 
-      script-serves : serves (c .count) (length (tableIn d)) ≡ true
-      script-serves = rw (of-script .size, counts) (long-serves (c .count) (blockStart (c .count)) (of-sheet .some) (of-sheet .most) (omega arith))
+  -- each table is as its rules
+  sheet-alike : Alike (Satisfies (c .count) (tableIn c)) (rulesOf c)
+  sheet-alike = of-sheet .held .meaning
 
-      script-bounds : boundsInLimit Script (c .count) (setIn c) (tableIn d) ≡ true
-      script-bounds = rw (← counts, ← sets) (bounds Script (d .count) (setIn d) (tableIn d) .1 (of-script .bounds))
+  script-alike : Alike (Satisfies (c .count) (tableIn d)) (rulesOf d)
+  script-alike σ = rw (← counts) (of-script .held .meaning σ)
 
-  module _ (workspace' values' : List ℤ) where
-    -- the tables are marked so
-    abbrev pub TablesAre : Marking → Type 0
-    TablesAre r = TablesMarked (c .count) (setIn c) (tableIn c) (tableIn d) workspace values r workspace' values'
+  -- ---- the tables filled
 
-    -- the reply is that of the tables
-    reply-same : (r : Marking) → TablesAre r → textsReply sheet script lent ≡ markedTexts (c .count) r
-    reply-same r t = texts-reply ∙ sym (marked-same visible (c .count) (verdictIn c d)) ∙ ap (markedTexts (c .count)) (sym (t .reply ∙ tables-reply))
-
-    -- each table is as its rules
-    sheet-alike : Alike (Satisfies (c .count) (tableIn c)) (rulesOf c)
-    sheet-alike = of-sheet .held .meaning
-
-    script-alike : Alike (Satisfies (c .count) (tableIn d)) (rulesOf d)
-    script-alike σ = rw (← counts) (of-script .held .meaning σ)
-
-    -- a verdict means what is promised
-    verdict-judged : (x : Verdict) → TablesAre (TablesMarkedAs x) → (t : AcceptedPair sheet script lent) → PairJudged t (verdictReturned x) values'
-    verdict-judged x m t =
-        let e = reads-same Sheet sheet (t .of-sheet) c (t .sheet-reads) p in
-        let f = reads-same Script script (t .of-script) d (t .script-reads) q in
-        record {
-          members = rw e (of-sheet .members);
-          sheet-table = rw e (of-sheet .held);
-          script-table = rw f (of-script .held);
-          means = rw (e, f) (alike-means (c .count) (setIn c) (tableIn c) (tableIn d) (verdictReturned x) values' sheet-alike script-alike
-              (m .means refl));
-        }
-
-    judged : (r : Marking) → TablesAre r → (t : AcceptedPair sheet script lent)
-        → PairJudged t (textsReturned (markedTexts (c .count) r)) values'
-    judged (TablesMarkedAs x) m t = verdict-judged x m t
-    judged (NotMarked f) m t = refused-accepted sheet script lent Both f (reply-same (NotMarked f) m) t
-
-    -- the assignment is written as the tables' marking writes it
-    written : (r : Marking) → TablesAre r → Lent (countIn sheet) (isTextShown (markedTexts (c .count) r)) values values'
-    written (TablesMarkedAs x) m = rw (reads-count sheet c p) (m .written)
-    written (NotMarked f) m = rw (reads-count sheet c p) (m .written)
-
-    -- the texts are marked as their tables are
-    pub tables-marked : (sheet-table' script-table' : List ℤ) (r : Marking) → sheet-table' ≡ tableIn c ++ drop (blockStart (c .count)) sheet-table
-        → script-table' ≡ tableIn d ++ drop (blockStart (d .count)) script-table
-        → TablesAre r
-        → TextsMarked sheet script sheet-table script-table workspace values (markedTexts (c .count) r) sheet-table' script-table' workspace' values'
-    tables-marked sheet-table' script-table' r e f t = record {
-      judged = texts-judged sheet script lent (markedTexts (c .count) r) values' (sym (reply-same r t)) (judged r t);
+  module _ (sheet-table' script-table' : List ℤ) (e : sheet-table' ≡ tableIn c ++ drop (blockStart (c .count)) sheet-table)
+      (f : script-table' ≡ tableIn d ++ drop (blockStart (d .count)) script-table) (workspace' values' : List ℤ) where
+    -- a reply so judged, with what is written
+    filled-marked : (r : TextMarking) → TextsJudged sheet script lent r values' → Lent (workspaceSize (c .count)) true workspace workspace'
+        → Lent (c .count) (isTextShown r) values values'
+        → TextsMarked sheet script sheet-table script-table workspace values r sheet-table' script-table' workspace' values'
+    filled-marked r j l w = record {
+      judged = j;
       sheet-lent =
           rw (reads-count sheet c p) (fronted (blockStart (c .count)) (tableIn c) sheet-table sheet-table' (of-sheet .size) (room .sheet-room) e);
       script-lent =
           rw (reads-count sheet c p, ← counts)
           (fronted (blockStart (d .count)) (tableIn d) script-table script-table' (of-script .size) (rw counts (room .script-room)) f);
-      workspace-lent = rw (reads-count sheet c p) (freed (workspaceSize (c .count)) (isMarked r) workspace workspace' (t .lent));
-      written = written r t;
+      workspace-lent = rw (reads-count sheet c p) l;
+      written = rw (reads-count sheet c p) w;
     }
+
+    module _ (hides-none : named ≡ false) (x : Verdict) (g : VerdictGiven (c .count) (setIn c) (tableIn c) (tableIn d) workspace values x workspace' values') where
+      verdict-reply : textsReply sheet script lent ≡ Marked (c .count) x
+      verdict-reply = texts-reply ∙ rw (hides-none, ← g .reply) refl
+
+      -- a verdict means what is promised
+      verdict-judged : (t : AcceptedPair sheet script lent) → PairJudged t (verdictReturned x) values'
+      verdict-judged t =
+          let s = reads-same Sheet sheet (t .of-sheet) c (t .sheet-reads) p in
+          let i = reads-same Script script (t .of-script) d (t .script-reads) q in
+          record {
+            members = rw s (of-sheet .members);
+            sheet-table = rw s (of-sheet .held);
+            script-table = rw i (of-script .held);
+            means = rw (s, i) (alike-means (c .count) (setIn c) (tableIn c) (tableIn d) (verdictReturned x) values' sheet-alike script-alike
+                (verdict-told (c .count) (setIn c) (tableIn c) (tableIn d) workspace values x workspace' values' (tables-accepted hides-none) g));
+          }
+
+      -- the verdict on the tables is the texts'
+      pub tables-marked : TextsMarked sheet script sheet-table script-table workspace values (Marked (c .count) x) sheet-table' script-table' workspace' values'
+      tables-marked = filled-marked (Marked (c .count) x) (texts-judged sheet script lent (Marked (c .count) x) values' (sym verdict-reply) verdict-judged)
+          (g .lent) (g .written)
+
+  -- a script that names a hidden quantity is refused
+  pub named-marked : (sheet-table' script-table' : List ℤ) → sheet-table' ≡ tableIn c ++ drop (blockStart (c .count)) sheet-table
+      → script-table' ≡ tableIn d ++ drop (blockStart (d .count)) script-table → named ≡ true
+      → TextsMarked sheet script sheet-table script-table workspace values (Refused Both Mismatch) sheet-table' script-table' workspace values
+  named-marked sheet-table' script-table' e f h =
+      filled-marked sheet-table' script-table' e f workspace values (Refused Both Mismatch)
+      (texts-judged sheet script lent (Refused Both Mismatch) values (sym (named-reply h))
+      (λ t. refused-accepted sheet script lent Both Mismatch (named-reply h) t))
+      (untouched (workspaceSize (c .count)) true workspace) (untouched (c .count) false values)

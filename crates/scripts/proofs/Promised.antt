@@ -1,47 +1,53 @@
 -- What marking two texts promises, from what its steps answer. Assumes nothing.
 use mathlib.Core.Path.{_≡_, refl, sym, _∙_, ap, subst}
+use mathlib.Core.Bool.{Bool, true, false}
 use mathlib.Core.List.{List, _++_}
 use Prim.Native.Nat.{ℕ, _≤_}
+use native.Mathlib.Omega.{arith}
 use lib.IntN.{ℤ}
 use lib.ListN.{length, take, drop}
-use lib.Seq.{take-append-seam}
+use lib.Seq.{take-append-seam, length-take-le}
 use Rattle.places.specs.Numbering.{blockStart}
 use Rattle.rules.specs.declared.paper.Paper.{Paper}
 use Rattle.rules.specs.declared.paper.Paper.the-variants.{Sheet, Script}
 use Rattle.rules.specs.declared.refusal.Refusal.{Refusal}
+use Rattle.rules.specs.declared.refusal.Refusal.the-variants.{Mismatch}
+use Rattle.rules.specs.Hidden.{hiddenIn}
 use Rattle.rules.specs.Limits.{maxQuantities}
 use Rattle.tables.specs.declared.reply.Reply.{Reply}
 use Rattle.tables.specs.declared.reply.Reply.the-variants.{Done}
 use Rattle.tables.specs.declared.reply.Reply.the-variants.{Refused as NotDone}
-use Rattle.tables.specs.Tables.{tableSize}
+use Rattle.tables.specs.Tables.{tableSize, tableNamesHidden}
+use Rattle.tables.specs.Meaning.{TableSized}
 use Rattle.tables.proofs.Sizes.{size-known}
 use Rattle.keys.proofs.Promised.{untouched}
 use Rattle.lines.specs.Lines.{Judged, accepted, refused}
 use Rattle.reading.specs.declared.check.Checked.{Checked}
 use Rattle.reading.specs.declared.check.Checked.the-variants.{Passed}
 use Rattle.reading.specs.Texts.{Contents, headerText}
-use Rattle.reading.specs.Meaning.{Reads, Passes}
+use Rattle.reading.specs.Meaning.{Reads}
 use Rattle.reading.specs.Reading.{checkText, checkedOf, filled}
 use Rattle.reading.specs.Promises.{TextChecked}
 use Rattle.reading.proofs.Means.{reads-check}
 use Rattle.reading.proofs.CheckedTexts.{checked-passes}
-use Rattle.marking.specs.declared.verdict.Marking.{Marking}
-use Rattle.marking.specs.Promises.{TablesMarked}
+use Rattle.marking.specs.declared.verdict.Verdict.{Verdict}
+use Rattle.marking.specs.Inner.{TablesAccepted, VerdictGiven}
 use Rattle.scripts.specs.declared.room.Lengths.{Lengths}
+use Rattle.scripts.specs.declared.pair.Pair.{Pair}
 use Rattle.scripts.specs.declared.pair.PairChecked.{PairChecked}
 use Rattle.scripts.specs.declared.pair.PairChecked.the-variants.{Passed as BothPassed}
 use Rattle.scripts.specs.declared.pair.PairChecked.the-variants.{Refused as NotPassed}
 use Rattle.scripts.specs.declared.reply.Subject.{Subject}
-use Rattle.scripts.specs.declared.reply.TextMarking.{TextMarking}
-use Rattle.scripts.specs.declared.reply.TextMarking.the-variants.{Refused}
+use Rattle.scripts.specs.declared.reply.Subject.the-variants.{Both}
+use Rattle.scripts.specs.declared.reply.TextMarking.the-variants.{Marked, Refused}
 use Rattle.scripts.specs.Meaning.{lengthsOf, setIn, tableIn}
 use Rattle.scripts.specs.Marking.{pairReply, textsReply}
-use Rattle.scripts.specs.Inner.{firstChecks, passedOr, checkedPair, markedTexts}
+use Rattle.scripts.specs.Inner.{firstChecks, passedOr, checkedPair, PassedPair}
 use Rattle.scripts.specs.Promises.{TextsMarked}
 use Rattle.scripts.proofs.Sheets.{fine-table}
-use Rattle.scripts.proofs.Rooms.{Room, first-tells, first-refused}
+use Rattle.scripts.proofs.Rooms.{room-roomy, headers-same, first-tells, first-refused}
 use Rattle.scripts.proofs.Judging.{accepted-reads, refused-accepted, texts-judged}
-use Rattle.scripts.proofs.Pairs.{pair-reply, tables-marked}
+use Rattle.scripts.proofs.Pairs.{pair-reply, tables-accepted, tables-marked, named-marked}
 
 -- a text that passed has an n in its range
 pub passed-range : (paper : Paper) {s : List ℕ} {r : Checked} {n set m body : ℕ} → TextChecked paper s r → r ≡ Passed n set m body
@@ -53,36 +59,36 @@ passed-range paper {s} {r} {n} {set} {m} {body} t e =
 
 -- ---- both texts checked, with what is lent
 
--- they passed: of each text the contents, which there is room for and which have the same n and hidden set
-pub record PassedPair (sheet script : List ℕ) (lent : Lengths) (n set m body script-m script-body : ℕ) : Type 0 where
-  pub of-sheet : Passes Sheet sheet n set m body
-  pub of-script : Passes Script script n set script-m script-body
-  pub first : firstChecks (of-sheet .contents .count) (setIn (of-sheet .contents)) (of-script .contents .count) (setIn (of-script .contents)) lent ≡ Done
-  pub room : Room n lent
-
 -- what the answer tells
 abbrev pub PairTells : List ℕ → List ℕ → Lengths → PairChecked → Type 0
-PairTells sheet script lent (BothPassed n set m body script-m script-body) = PassedPair sheet script lent n set m body script-m script-body
+PairTells sheet script lent (BothPassed p) = PassedPair sheet script lent p
 PairTells sheet script lent (NotPassed p f) = textsReply sheet script lent ≡ Refused p f
 
 -- two texts that are fine by themselves
-fine-tell : (sheet script : List ℕ) (lent : Lengths) (c d : Contents) → Reads Sheet sheet c → Reads Script script d
-    → PairTells sheet script lent (passedOr (firstChecks (c .count) (setIn c) (d .count) (setIn d) lent)
-    (BothPassed (c .count) (setIn c) (length (c .written)) (length (headerText c)) (length (d .written)) (length (headerText d))))
-fine-tell sheet script lent c d p q = go (firstChecks (c .count) (setIn c) (d .count) (setIn d) lent) refl
-  where
-    go : (r : Reply) → firstChecks (c .count) (setIn c) (d .count) (setIn d) lent ≡ r
-        → PairTells sheet script lent (passedOr r
-        (BothPassed (c .count) (setIn c) (length (c .written)) (length (headerText c)) (length (d .written)) (length (headerText d))))
-    go Done e =
-        let t = first-tells (c .count) lent (setIn c) (d .count) (setIn d) e in
-        record {
-          of-sheet = record { contents = c; reads = p; counts = refl; hides = refl; rules = refl; begins = refl };
-          of-script = record { contents = d; reads = q; counts = t .1; hides = t .2; rules = refl; begins = refl };
-          first = e;
-          room = t .0;
-        }
-    go (NotDone f) e = pair-reply sheet script c d p q lent ∙ rw (first-refused c d lent f e)
+module _ (sheet script : List ℕ) (lent : Lengths) (c d : Contents) (p : Reads Sheet sheet c) (q : Reads Script script d) where
+  -- the answer where their other checks are done
+  abbrev pairOf : Pair
+  pairOf = record {
+    quantities = c .count;
+    hidden = setIn c;
+    rules = length (c .written);
+    body = length (headerText c);
+    «script_rules» = length (d .written);
+    «script_body» = length (headerText d);
+  }
+
+  fine-tell : PairTells sheet script lent (passedOr (firstChecks (c .count) (setIn c) (d .count) (setIn d) lent) pairOf)
+  fine-tell = go (firstChecks (c .count) (setIn c) (d .count) (setIn d) lent) refl
+    where
+      go : (r : Reply) → firstChecks (c .count) (setIn c) (d .count) (setIn d) lent ≡ r → PairTells sheet script lent (passedOr r pairOf)
+      go Done e =
+          let t = first-tells (c .count) lent (setIn c) (d .count) (setIn d) e in
+          record {
+            of-sheet = record { contents = c; reads = p; counts = refl; hides = refl; rules = refl; begins = refl };
+            of-script = record { contents = d; reads = q; counts = t .1; hides = t .2; rules = refl; begins = refl };
+            room = t .0;
+          }
+      go (NotDone f) e = pair-reply sheet script c d p q lent ∙ rw (first-refused c d lent f e)
 
 pair-tells : (sheet script : List ℕ) (lent : Lengths)
     → PairTells sheet script lent (checkedPair (checkedOf (checkText Sheet sheet)) (checkedOf (checkText Script script)) lent)
@@ -123,25 +129,80 @@ filled-front paper s c t t' k p e f =
     let g : t' ≡ tableIn c ++ drop (blockStart (c .count)) t = e ∙ rw (reads-check paper s c p) in
     (g, rw (g, sym f) (take-append-seam (tableIn c) (drop (blockStart (c .count)) t)))
 
--- the size of a table at the sheet's n
-pub passed-size : {sheet script : List ℕ} {lent : Lengths} {n set m body script-m script-body k : ℕ}
-    → PassedPair sheet script lent n set m body script-m script-body → k ≡ tableSize n → k ≡ blockStart n
-passed-size {n = n} x e =
-    let c = x .of-sheet in
-    size-known n _ (rw (c .counts) (fine-table Sheet (c .contents) (c .reads .spelled .fine) .most)) e
+module _ {sheet script : List ℕ} {lent : Lengths} {p : Pair} (x : PassedPair sheet script lent p) where
+  -- n is in its range
+  pub passed-sized : (1 ≤ p .quantities) × (p .quantities ≤ maxQuantities)
+  passed-sized =
+      let c = x .of-sheet in
+      let t = fine-table Sheet (c .contents) (c .reads .spelled .fine) in
+      rw (c .counts) (t .some, t .most)
 
-pub passed-marked : {sheet script : List ℕ} {a b w v : List ℤ} {n set m body script-m script-body : ℕ}
-    → PassedPair sheet script (lengthsOf a b w v) n set m body script-m script-body
-    → {a' b' w' v' : List ℤ} {r : Marking} {k : ℕ} {reply : TextMarking} → a' ≡ filled (checkText Sheet sheet) a → b' ≡ filled (checkText Script script) b
-    → k ≡ tableSize n → TablesMarked n set (take k a') (take k b') w v r w' v' → reply ≡ markedTexts n r
-    → TextsMarked sheet script a b w v reply a' b' w' v'
-passed-marked {sheet} {script} {a} {b} {w} {v} {n} {set} x {a'} {b'} {w'} {v'} {r} {k} e f s t i =
-    let c = x .of-sheet .contents in
-    let d = x .of-script .contents in
-    let p = x .of-sheet .reads in
-    let q = x .of-script .reads in
-    let size : k ≡ blockStart n = passed-size x s in
-    let front = filled-front Sheet sheet c a a' k p e (fine-table Sheet c (p .spelled .fine) .size ∙ sym (size ∙ ap blockStart (x .of-sheet .counts))) in
-    let front' = filled-front Script script d b b' k q f (fine-table Script d (q .spelled .fine) .size ∙ sym (size ∙ ap blockStart (x .of-script .counts))) in
-    rw (i, x .of-sheet .counts) (tables-marked sheet script a b w v c d p q (x .first) w' v' a' b' r (front .0) (front' .0)
-    (rw (x .of-sheet .counts, x .of-sheet .hides, front .1, front' .1) at t))
+  -- the size of a table at n
+  pub passed-size : {k : ℕ} → k ≡ tableSize (p .quantities) → k ≡ blockStart (p .quantities)
+  passed-size e = size-known (p .quantities) _ (passed-sized .1) e
+
+  -- the front of so many words of a longer list is a table's
+  pub passed-front : (t : List ℤ) {k : ℕ} → k ≤ length t → k ≡ tableSize (p .quantities) → TableSized (p .quantities) (length (take k t))
+  passed-front t {k} l e =
+      record { some = passed-sized .0; most = passed-sized .1; room = omega (arith, length-take-le k t l, passed-size e) }
+
+  -- the checks before the tables are filled are done
+  passed-first : firstChecks (x .of-sheet .contents .count) (setIn (x .of-sheet .contents)) (x .of-script .contents .count) (setIn (x .of-script .contents)) lent ≡ Done
+  passed-first =
+      rw (← x .of-sheet .counts, ← x .of-sheet .hides, ← x .of-script .counts, ← x .of-script .hides)
+      (sym (headers-same (p .quantities) lent (p .hidden) (p .quantities) (p .hidden) Done (room-roomy (p .quantities) lent (x .room)) refl refl refl))
+
+-- texts that passed, with both tables filled, and the size of a table at their n
+pub record FilledPair (sheet script : List ℕ) (a b w v : List ℤ) (p : Pair) (a' b' : List ℤ) (k : ℕ) : Type 0 where
+  pub passed : PassedPair sheet script (lengthsOf a b w v) p
+  pub sheet-filled : a' ≡ filled (checkText Sheet sheet) a
+  pub script-filled : b' ≡ filled (checkText Script script) b
+  pub size : k ≡ tableSize (p .quantities)
+
+module _ {sheet script : List ℕ} {a b w v : List ℤ} {p : Pair} {a' b' : List ℤ} {k : ℕ} (x : FilledPair sheet script a b w v p a' b' k) where
+  -- what the texts write
+  abbrev c : Contents
+  c = x .passed .of-sheet .contents
+
+  abbrev d : Contents
+  d = x .passed .of-script .contents
+
+  -- the front of each table
+  sheet-front : (a' ≡ tableIn c ++ drop (blockStart (c .count)) a) × (take k a' ≡ tableIn c)
+  sheet-front =
+      let t = x .passed .of-sheet in
+      filled-front Sheet sheet c a a' k (t .reads) (x .sheet-filled)
+      (fine-table Sheet c (t .reads .spelled .fine) .size ∙ sym (passed-size (x .passed) (x .size) ∙ ap blockStart (t .counts)))
+
+  script-front : (b' ≡ tableIn d ++ drop (blockStart (d .count)) b) × (take k b' ≡ tableIn d)
+  script-front =
+      let t = x .passed .of-script in
+      filled-front Script script d b b' k (t .reads) (x .script-filled)
+      (fine-table Script d (t .reads .spelled .fine) .size ∙ sym (passed-size (x .passed) (x .size) ∙ ap blockStart (t .counts)))
+
+  module _ {named : Bool} (h : named ≡ tableNamesHidden (hiddenIn (p .hidden)) (p .quantities) (take k b')) where
+    -- whether the script names a hidden quantity, by what the texts write
+    names-same : named ≡ tableNamesHidden (hiddenIn (setIn c)) (c .count) (tableIn d)
+    names-same = rw (x .passed .of-sheet .counts, x .passed .of-sheet .hides, script-front .1) at h
+
+    -- it does
+    pub filled-named : named ≡ true → TextsMarked sheet script a b w v (Refused Both Mismatch) a' b' w v
+    filled-named e =
+        named-marked sheet script a b w v c d (x .passed .of-sheet .reads) (x .passed .of-script .reads) (passed-first (x .passed)) a' b'
+        (sheet-front .0) (script-front .0) (sym names-same ∙ e)
+
+    module _ (e : named ≡ false) where
+      -- it does not: the tables are accepted
+      pub filled-accepted : TablesAccepted (p .quantities) (p .hidden) (take k a') (take k b') (length w) (length v)
+      filled-accepted =
+          rw (x .passed .of-sheet .counts, x .passed .of-sheet .hides, sheet-front .1, script-front .1)
+          (tables-accepted sheet script a b w v c d (x .passed .of-sheet .reads) (x .passed .of-script .reads) (passed-first (x .passed)) (sym names-same ∙ e))
+
+      -- and their verdict is the texts'
+      pub filled-marked : {w' v' : List ℤ} {r : Verdict} → VerdictGiven (p .quantities) (p .hidden) (take k a') (take k b') w v r w' v'
+          → TextsMarked sheet script a b w v (Marked (p .quantities) r) a' b' w' v'
+      filled-marked {w'} {v'} {r} g =
+          rw (x .passed .of-sheet .counts)
+          (tables-marked sheet script a b w v c d (x .passed .of-sheet .reads) (x .passed .of-script .reads) (passed-first (x .passed)) a' b'
+          (sheet-front .0) (script-front .0) w' v' (sym names-same ∙ e) r
+          (rw (x .passed .of-sheet .counts, x .passed .of-sheet .hides, sheet-front .1, script-front .1) at g))

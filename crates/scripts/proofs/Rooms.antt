@@ -24,15 +24,8 @@ use Rattle.reading.specs.Meaning.{FineLines, contentsLimit}
 use Rattle.scripts.specs.declared.room.Lengths.{Lengths}
 use Rattle.scripts.specs.Meaning.{setIn, tableIn, pairNeeds}
 use Rattle.scripts.specs.Marking.{roomChecks, sameHeaders, pairChecks}
-use Rattle.scripts.specs.Inner.{firstChecks}
+use Rattle.scripts.specs.Inner.{firstChecks, Room}
 use Rattle.scripts.proofs.Matching.{fits-matches}
-
--- what is lent has words enough for n quantities
-pub record Room (n : ℕ) (lent : Lengths) : Type 0 where
-  pub sheet-room : blockStart n ≤ lent .sheet
-  pub script-room : blockStart n ≤ lent .script
-  pub workspace-room : workspaceSize n ≤ lent .workspace
-  pub values-room : n ≤ lent .values
 
 module _ (n : ℕ) (lent : Lengths) where
   -- the needs of what is lent, and then others
@@ -106,6 +99,10 @@ module _ (n : ℕ) (lent : Lengths) where
         le-leb (workspaceSize n) (lent .workspace) (r .workspace-room),
         le-leb n (lent .values) (r .values-room),
       )
+
+  -- what is lent and is enough leaves what follows to decide
+  pub roomy-next : Room n lent → (next : Reply) → roomChecks n lent next ≡ next
+  roomy-next r next = room-before .goes-on (sym (room-roomy r)) next
 
   -- ---- the checks before the tables are filled
 

@@ -1,24 +1,26 @@
 -- What the functions inside ask and answer; no promise of marking two texts rests on it.
-use mathlib.Core.Bool.{_&&_}
-use Prim.Native.Nat.{ℕ}
+use mathlib.Core.List.{List}
+use Prim.Native.Nat.{ℕ, _≤_}
+use Rattle.places.specs.Numbering.{blockStart}
+use Rattle.rules.specs.declared.paper.Paper.the-variants.{Sheet, Script}
 use Rattle.rules.specs.declared.refusal.Refusal.the-variants.{Mismatch}
 use Rattle.tables.specs.declared.reply.Reply.{Reply}
 use Rattle.tables.specs.declared.reply.Reply.the-variants.{Done}
 use Rattle.tables.specs.declared.reply.Reply.the-variants.{Refused as NotDone}
 use Rattle.tables.specs.Replies.{check}
-use Rattle.marking.specs.declared.verdict.Marking.{Marking}
-use Rattle.marking.specs.declared.verdict.Marking.the-variants.{Refused as NotMarked}
-use Rattle.marking.specs.declared.verdict.Marking.the-variants.{Marked as TablesMarkedAs}
+use Rattle.marking.specs.Meaning.{workspaceSize}
 use Rattle.reading.specs.declared.check.Checked.{Checked}
 use Rattle.reading.specs.declared.check.Checked.the-variants.{Passed}
 use Rattle.reading.specs.declared.check.Checked.the-variants.{Refused as Failed}
+use Rattle.reading.specs.Meaning.{Passes}
 use Rattle.scripts.specs.declared.room.Lengths.{Lengths}
+use Rattle.scripts.specs.declared.pair.Pair.{Pair}
 use Rattle.scripts.specs.declared.pair.PairChecked.{PairChecked}
 use Rattle.scripts.specs.declared.pair.PairChecked.the-variants.{Passed as BothPassed}
 use Rattle.scripts.specs.declared.pair.PairChecked.the-variants.{Refused as NotPassed}
-use Rattle.scripts.specs.declared.reply.Subject.the-variants.{Sheet, Script, Both}
-use Rattle.scripts.specs.declared.reply.TextMarking.{TextMarking}
-use Rattle.scripts.specs.declared.reply.TextMarking.the-variants.{Marked, Refused}
+use Rattle.scripts.specs.declared.reply.Subject.the-variants.{Both}
+use Rattle.scripts.specs.declared.reply.Subject.the-variants.{Sheet as OfSheet}
+use Rattle.scripts.specs.declared.reply.Subject.the-variants.{Script as OfScript}
 use Rattle.scripts.specs.Marking.{roomChecks, sameHeaders}
 
 -- the checks before the tables are filled: 6, and 7 for a script whose n or hidden set is not the sheet's
@@ -27,17 +29,43 @@ firstChecks n set script-n script-set lent = roomChecks n lent (check (sameHeade
 
 -- ---- what is needed to fill and mark the tables, or the refusal, from the answers to both texts
 
-abbrev pub passedOr : Reply → PairChecked → PairChecked
-passedOr Done passed = passed
-passedOr (NotDone f) passed = NotPassed Both f
+abbrev pub passedOr : Reply → Pair → PairChecked
+passedOr Done p = BothPassed p
+passedOr (NotDone f) p = NotPassed Both f
 
 unfoldable pub checkedPair : Checked → Checked → Lengths → PairChecked
-checkedPair (Failed f) script lent = NotPassed Sheet f
-checkedPair (Passed n set m body) (Failed f) lent = NotPassed Script f
+checkedPair (Failed f) script lent = NotPassed OfSheet f
+checkedPair (Passed n set m body) (Failed f) lent = NotPassed OfScript f
 checkedPair (Passed n set m body) (Passed script-n script-set script-m script-body) lent =
-    passedOr (firstChecks n set script-n script-set lent) (BothPassed n set m body script-m script-body)
+    passedOr (firstChecks n set script-n script-set lent) (record {
+      quantities = n;
+      hidden = set;
+      rules = m;
+      body = body;
+      «script_rules» = script-m;
+      «script_body» = script-body;
+    })
 
--- the reply of texts whose tables over n quantities are marked so
-abbrev pub markedTexts : ℕ → Marking → TextMarking
-markedTexts n (TablesMarkedAs v) = Marked n v
-markedTexts n (NotMarked f) = Refused Both f
+-- ---- what marking asks of texts that passed
+
+-- what is lent has words enough for n quantities
+pub record Room (n : ℕ) (lent : Lengths) : Type 0 where
+  pub sheet-room : blockStart n ≤ lent .sheet
+  pub script-room : blockStart n ≤ lent .script
+  pub workspace-room : workspaceSize n ≤ lent .workspace
+  pub values-room : n ≤ lent .values
+
+-- both texts are fine, with this n and hidden set, so many rules each, and rule lines that begin there; and there is room for them
+pub record PassedPair (sheet script : List ℕ) (lent : Lengths) (p : Pair) : Type 0 where
+  pub of-sheet : Passes Sheet sheet (p .quantities) (p .hidden) (p .rules) (p .body)
+  pub of-script : Passes Script script (p .quantities) (p .hidden) (p .«script_rules») (p .«script_body»)
+  pub room : Room (p .quantities) lent
+
+-- ---- rooms of its own
+
+-- the most quantities of the small room and of the middle one
+abbrev pub smallCount : ℕ
+smallCount = 8
+
+abbrev pub middleCount : ℕ
+middleCount = 16

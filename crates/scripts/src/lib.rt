@@ -3,4 +3,5 @@ pub mod own;
 pub mod pair;
 pub mod reply;
 pub mod room;
+mod stack;
 pub mod texts;

@@ -15,20 +15,19 @@ ghost use Rattle.rules.specs.Limits.{maxQuantities};
 ghost use Rattle.reading.specs.Reading.{checkText, checkedOf};
 ghost use Rattle.scripts.specs.Inner.{firstChecks, checkedPair};
 
+// Two texts that passed: n and the hidden set of both, and of each the number of its rules and the cursor at which their lines begin.
+pub struct Pair {
+    pub quantities: usize,
+    pub hidden: Set,
+    pub rules: usize,
+    pub body: usize,
+    pub script_rules: usize,
+    pub script_body: usize,
+}
+
 pub enum PairChecked {
-    // n and the hidden set of both, and of each the number of its rules and the cursor at which their lines begin
-    Passed {
-        quantities: usize,
-        hidden: Set,
-        rules: usize,
-        body: usize,
-        script_rules: usize,
-        script_body: usize,
-    },
-    Refused {
-        paper: Subject,
-        refusal: Refusal,
-    },
+    Passed(Pair),
+    Refused { paper: Subject, refusal: Refusal },
 }
 
 // The first refusal of two texts that are fine by themselves, or done: what is lent for the sheet's n, then a script whose n or hidden set is not the sheet's.
@@ -78,14 +77,14 @@ pub(crate) fn check_pair(sheet: &[u8], script: &[u8], lent: Lengths) -> PairChec
                     paper: Subject::Both,
                     refusal,
                 },
-                Reply::Done => PairChecked::Passed {
+                Reply::Done => PairChecked::Passed(Pair {
                     quantities,
                     hidden,
                     rules,
                     body,
                     script_rules,
                     script_body,
-                },
+                }),
             },
         },
     }

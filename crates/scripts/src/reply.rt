@@ -1,11 +1,9 @@
 // The reply of marking two texts: a verdict, or a refusal with the paper that it is about. Document 01's numbers and values are in specs/Replies.antt.
-use marking::verdict::Marking;
 use marking::verdict::Verdict;
 use rules::refusal;
 use rules::refusal::Refusal;
 ghost use mathlib.Core.Path.{_≡_};
 ghost use Rattle.scripts.specs.Replies.{textNumber, textValue, paperNumber, textPaper};
-ghost use Rattle.scripts.specs.Inner.{markedTexts};
 
 // Which paper a refusal is about.
 pub enum Subject {
@@ -73,21 +71,5 @@ fn paper_number(paper: Subject) -> u32
         Subject::Sheet => 1,
         Subject::Script => 2,
         Subject::Both => 3,
-    }
-}
-
-// The reply of texts whose tables over `n` quantities are marked so.
-pub(crate) fn marked(n: usize, marking: Marking) -> TextMarking
-    ensures { λ r. ⌜ r ≡ markedTexts n marking ⌝ }
-{
-    match marking {
-        Marking::Marked(verdict) => TextMarking::Marked {
-            quantities: n,
-            verdict,
-        },
-        Marking::Refused(refusal) => TextMarking::Refused {
-            paper: Subject::Both,
-            refusal,
-        },
     }
 }

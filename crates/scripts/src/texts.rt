@@ -1,14 +1,74 @@
 // Marking two texts: both are checked before anything lent is, then their tables are filled and marked.
 use crate::pair;
+use crate::pair::Pair;
 use crate::pair::PairChecked;
-use crate::reply;
+use crate::reply::Subject;
 use crate::reply::TextMarking;
 use crate::room::Lengths;
 use marking::mark;
 use reading::fill;
 use rules::paper::Paper;
+use rules::refusal::Refusal;
+use tables::names;
 use tables::table;
+ghost use Rattle.scripts.specs.Meaning.{lengthsOf};
+ghost use Rattle.scripts.specs.Inner.{PassedPair};
 ghost use Rattle.scripts.specs.Promises.{TextsMarked};
+
+// Marks two texts that passed, with words enough lent: fills both tables, refuses a script that names a hidden quantity, and else gives the verdict.
+pub(crate) fn mark_passed(
+    sheet: &[u8],
+    script: &[u8],
+    pair: Pair,
+    sheet_table: &mut [i64],
+    script_table: &mut [i64],
+    workspace: &mut [i64],
+    values: &mut [i64],
+) -> TextMarking
+    requires { ⌜ PassedPair (now sheet) (now script) (lengthsOf (now «sheet_table») (now «script_table») (now workspace) (now values)) pair ⌝ }
+    ensures { λ r. ⌜ TextsMarked (now (sheet .entry)) (now (script .entry))
+        (now («sheet_table» .entry)) (now («script_table» .entry)) (now (workspace .entry)) (now (values .entry)) r
+        (now («sheet_table» .exit)) (now («script_table» .exit)) (now (workspace .exit)) (now (values .exit)) ⌝ }
+{
+    let n = pair.quantities;
+    let hidden = pair.hidden;
+    fill::fill(
+        sheet,
+        Paper::Sheet,
+        n,
+        hidden,
+        pair.rules,
+        pair.body,
+        sheet_table,
+    );
+    fill::fill(
+        script,
+        Paper::Script,
+        n,
+        hidden,
+        pair.script_rules,
+        pair.script_body,
+        script_table,
+    );
+    let m = table::size(n);
+    if names::any_names_hidden(n, hidden, &script_table[..m]) {
+        return TextMarking::Refused {
+            paper: Subject::Both,
+            refusal: Refusal::Mismatch,
+        };
+    }
+    TextMarking::Marked {
+        quantities: n,
+        verdict: mark::verdict(
+            n,
+            hidden,
+            &sheet_table[..m],
+            &script_table[..m],
+            workspace,
+            values,
+        ),
+    }
+}
 
 // Marks the script's text against the sheet's. What is lent gets its words by the sheet's n: two tables, a workspace, and an assignment that shows a loose or
 // tight verdict.
@@ -32,34 +92,14 @@ pub fn mark_texts(
     };
     match pair::check_pair(sheet, script, lent) {
         PairChecked::Refused { paper, refusal } => TextMarking::Refused { paper, refusal },
-        PairChecked::Passed {
-            quantities: n,
-            hidden,
-            rules,
-            body,
-            script_rules,
-            script_body,
-        } => {
-            fill::fill(sheet, Paper::Sheet, n, hidden, rules, body, sheet_table);
-            fill::fill(
-                script,
-                Paper::Script,
-                n,
-                hidden,
-                script_rules,
-                script_body,
-                script_table,
-            );
-            let m = table::size(n);
-            let marking = mark::mark(
-                n,
-                hidden,
-                &sheet_table[..m],
-                &script_table[..m],
-                workspace,
-                values,
-            );
-            reply::marked(n, marking)
-        }
+        PairChecked::Passed(pair) => mark_passed(
+            sheet,
+            script,
+            pair,
+            sheet_table,
+            script_table,
+            workspace,
+            values,
+        ),
     }
 }

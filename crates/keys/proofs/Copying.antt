@@ -1,5 +1,5 @@
 -- A copy of a table means the same and fits alike, and so do the tables that steps make of both. Assumes nothing.
-use mathlib.Core.Path.{_≡_, sym, _∙_, ap}
+use mathlib.Core.Path.{_≡_, refl, sym, _∙_, ap}
 use mathlib.Core.Bool.{Bool, true, false, cond}
 use mathlib.Core.List.{List}
 use Prim.Native.Nat.{ℕ, zero, suc, _+_, _*_, _≤_, _<_}
@@ -22,7 +22,7 @@ use Rattle.elimination.proofs.Step.{paired-length}
 use Rattle.elimination.proofs.Alike.{alike-word, alike-contradicts}
 use Rattle.keys.specs.declared.live.Part.{Part}
 use Rattle.keys.specs.Keys.{hideUpTo}
-use Rattle.keys.specs.Inner.{memberOf, SetFits, PartFits, turnAt, AtTurns}
+use Rattle.keys.specs.Inner.{memberOf, SetFits, Fits, PartFits, turnAt, AtTurns}
 use Rattle.keys.proofs.Turning.{turn-most}
 
 -- two tables over n quantities hold the same words
@@ -56,8 +56,17 @@ same-unnamed n j t u s v = record { each = λ k p. rw (s .words k (p .inside)) (
 pub same-sums : (members : ℕ → Bool) (n : ℕ) (t u : List ℤ) → SameTable n t u → SetFits members n t → SetFits members n u
 same-sums members n t u s f = record { most = f .most; room = s .theirs; limit = f .limit; within = same-within n (f .limit) t u s (f .within); last = f .last }
 
+pub same-fits : (n : ℕ) (t u : List ℤ) → SameTable n t u → Fits n t → Fits n u
+same-fits n t u s f =
+    record { members = f .members; sums = same-sums (f .members) n t u s (f .sums); rest = λ j h e. same-unnamed n j t u s (f .rest j h e) }
+
 pub same-part : (n set : ℕ) (part : Part) (t u : List ℤ) → SameTable n t u → PartFits n set part t → PartFits n set part u
 same-part n set part t u s f = record { sums = same-sums (memberOf set part) n t u s (f .sums); alone = λ i h e. same-unnamed n i t u s (f .alone i h e) }
+
+-- within the same limit
+pub part-limit : (n set : ℕ) (part : Part) (t u : List ℤ) (s : SameTable n t u) (f : PartFits n set part t) → same-part n set part t u s f .sums .limit ≡ f .sums .limit
+unfolding same-part same-sums
+part-limit n set part t u s f = refl
 
 -- ---- steps on both
 

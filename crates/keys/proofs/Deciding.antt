@@ -34,7 +34,7 @@ use Rattle.keys.proofs.Fitting.{hide-unnamed, set-ample, hide-ample}
 -- ---- members eliminated without a contradiction
 
 -- what satisfies the table with the members hidden is completed step by step
-turns-some : (members : ℕ → Bool) (n m : ℕ) (t u : List ℤ) (σ : Assignment) → m ≤ n → AmpleUpTo members n t → AtTurns members n n t u
+pub turns-some : (members : ℕ → Bool) (n m : ℕ) (t u : List ℤ) (σ : Assignment) → m ≤ n → AmpleUpTo members n t → AtTurns members n n t u
     → Satisfies n (hideUpTo members n m t) σ → Satisfiable n t
 unfolding hideUpTo
 turns-some members n zero t u σ h a e s = record { assignment = σ; satisfies = s }

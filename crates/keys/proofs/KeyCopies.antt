@@ -38,11 +38,12 @@ use Rattle.keys.specs.Inner.{AtTurns}
 use Rattle.keys.specs.Copies.{wordBefore, copiedOn, clearingSet, setCleared, KeyCopied}
 use Rattle.keys.proofs.Several.{hideUpTo-length, hideUpTo-unnamed, hide-all}
 use Rattle.keys.proofs.Turning.{notYet, turn-had, turn-open, had-yet, yet-later}
+use Rattle.keys.proofs.Parts.{PartBack, part-back, drop-twice, front-word, back-word}
 
 -- ---- the places that name no member among the first m
 
 -- two sets that agree on n quantities agree on their places
-live-same : (live other : ℕ → Bool) (n k : ℕ) → k < blockStart n → ((i : ℕ) → i < n → live i ≡ other i) → liveAt live k ≡ liveAt other k
+pub live-same : (live other : ℕ → Bool) (n k : ℕ) → k < blockStart n → ((i : ℕ) → i < n → live i ≡ other i) → liveAt live k ≡ liveAt other k
 unfolding liveAt
 live-same live other n k h same = go (isOne k) refl
   where
@@ -64,7 +65,7 @@ yet-first members k = rw (yet-later members 0 (higherAt k / 2) (omega arith), ye
     go false = refl
 
 -- in the end all members have
-yet-last : (members : ℕ → Bool) (n k : ℕ) → k < blockStart n → liveAt (notYet members n) k ≡ liveAt (λ i. not (members (suc i))) k
+pub yet-last : (members : ℕ → Bool) (n k : ℕ) → k < blockStart n → liveAt (notYet members n) k ≡ liveAt (λ i. not (members (suc i))) k
 yet-last members n k h = live-same (notYet members n) (λ i. not (members (suc i))) n k h (λ i g. rw (lt-ltb i n g, and-true (members (suc i))))
 
 below-next : (i j : ℕ) → (i ≡ j → ⊥) → ltb i (suc j) ≡ ltb i j
@@ -303,46 +304,8 @@ key-word hidden n t u k l a h = go (liveAt (notYet hidden n) k) refl ∙ ap (λ 
     go true e = a .words k h ∙ rw (turn-open hidden n k e)
     go false e = sym (hide-blank hidden n n t k (omega arith) l h e)
 
--- ---- the words of a list from place m on, lent and given back
-
--- the list before and after, with the words lent and those given back; the words before them stay
-record PartBack (m : ℕ) (before part part' after : List ℤ) : Type 0 where
-  pub size : length after ≡ length before
-  pub front : take m after ≡ take m before
-  pub was : part ≡ drop m before
-  pub is : part' ≡ drop m after
-
--- a part given back with its length stands where it stood
-part-back : (m : ℕ) (ws part : List ℤ) → m ≤ length ws → length part ≡ length (midOf m (length ws - m) ws)
-    → PartBack m ws (midOf m (length ws - m) ws) part (putMid m (length ws - m) ws part)
-part-back m ws part h e = record {
-  size = same-len-mid m (length ws - m) ws part e;
-  front = take-put m (length ws - m) ws part h;
-  was = take-all (length ws - m) (drop m ws) (omega (arith, length-drop m ws));
-  is = sym (drop-at (take m ws) (part ++ drop (length ws - m) (drop m ws)) m (length-take-le m ws h) ∙ rw none (append-nil part));
-}
-  where
-    none : drop (length ws - m) (drop m ws) ≡ []
-    none = let h : length (drop m ws) ≤ length ws - m = omega (arith, length-drop m ws) in drop-of-length-le (drop m ws) h
-
--- dropping m words twice drops 2m
-drop-twice : (m : ℕ) (t : List ℤ) → drop m (drop m t) ≡ drop (2 * m) t
-drop-twice m t = let h : m + m ≡ 2 * m = omega arith in drop-drop m m t ∙ ap (λ (k : ℕ). drop k t) h
-
--- lists with the same first m words have the same word at each of the first m places
-front-word : (m : ℕ) (t u : List ℤ) → take m u ≡ take m t → (k : ℕ) → k < m → wordAt u k ≡ wordAt t k
-front-word m t u e k h = sym (getD-take m u k (pos 0) h) ∙ ap (λ (l : List ℤ). wordAt l k) e ∙ getD-take m t k (pos 0) h
-
--- the word k places on from place m is that of the words from there
-back-word : (m : ℕ) (t u : List ℤ) → u ≡ drop m t → (k : ℕ) → wordAt t (m + k) ≡ wordAt u k
-back-word m t u e k = sym (getD-drop m t k (pos 0)) ∙ ap (λ (l : List ℤ). wordAt l k) (sym e)
-
 -- ---- the key copied
 
--- the words from the second table on have room for it
-pub second-room : (n m : ℕ) (ws u : List ℤ) → n ≤ maxQuantities → m ≡ tableSize n → 2 * blockStart n ≤ length ws → length u ≡ length ws
-    → blockStart n ≤ length (midOf m (length u - m) u)
-second-room n m ws u h d l e = omega (arith, mid-len m (length u) u (omega arith), size-known n m h d)
 
 -- the first table copied on, and in the copy the places of the set's quantities cleared
 module _ (n set : ℕ) (ws part ws' : List ℤ) (l : 2 * blockStart n ≤ length ws)

@@ -5,6 +5,7 @@ pub mod Fitting
 pub mod Turning
 pub mod Listing
 pub mod AtTurns
+pub mod Parts
 pub mod KeyCopies
 pub mod ReadBack
 pub mod Copying

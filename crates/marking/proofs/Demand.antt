@@ -36,8 +36,7 @@ use Rattle.marking.specs.Meaning.{AllowSame, IsLoose, IsNarrow, IsTight,
 use Rattle.marking.specs.Marking.{firstBroken, orElse, verdictOf}
 use Rattle.marking.specs.Inner.{TablesAccepted}
 use Rattle.marking.proofs.Breakable.{Exactly, breakable-exactly, first-some, first-none}
-use Rattle.marking.proofs.Opposed.{key-room as Opposed·key-room}
-use Rattle.marking.proofs.Opposed.{sheet-fitting, script-fitting, tight-opposed, loose-opposed, tight-small, loose-small}
+use Rattle.marking.proofs.Opposed.{key-room, sheet-fitting, script-fitting, tight-opposed, loose-opposed, tight-small, loose-small}
 
 -- ---- the three conditions exclude each other, so the one that holds gives the number
 
@@ -233,6 +232,17 @@ carried-or-next P carry (One x c) next some none = some refl
 carried-or-next P carry (Two x y c) next some none = some refl
 carried-or-next P carry (Nothing c) next some none = none refl
 
+-- whether a rule of the key is breakable in the script is decided rightly, and so the other way round
+pub key-exactly : (n set : ℕ) (sheet script : List ℤ) (w v : ℕ) → TablesAccepted n set sheet script w v → Exactly n (keyOf (hiddenIn set) n sheet) script
+key-exactly n set sheet script w v m k p =
+    breakable-exactly n script k (wordAt (keyOf (hiddenIn set) n sheet) k) (m .sized .script-room) (p .inside) (loose-small n set sheet script w v m k p)
+    (loose-opposed n set sheet script w v m k p)
+
+pub script-exactly : (n set : ℕ) (sheet script : List ℤ) (w v : ℕ) → TablesAccepted n set sheet script w v → Exactly n script (keyOf (hiddenIn set) n sheet)
+script-exactly n set sheet script w v m k p =
+    breakable-exactly n (keyOf (hiddenIn set) n sheet) k (wordAt script k) (key-room n set sheet script w v m) (p .inside) (tight-small n set sheet script w v m k p)
+    (tight-opposed n set sheet script w v m k p)
+
 -- the verdict means what it is to mean
 verdict-means : (n set : ℕ) (sheet script : List ℤ) (w v : ℕ) → TablesAccepted n set sheet script w v
     → Means (hiddenIn set) n sheet script (verdictOf (hiddenIn set) n sheet script)
@@ -245,16 +255,8 @@ verdict-means n set sheet script w v m = go (refuted n sheet) refl
     key : List ℤ
     key = keyOf hidden n sheet
 
-    key-room : blockStart n ≤ length key
-    key-room = Opposed·key-room n set sheet script w v m
-
-    key-exactly : Exactly n key script
-    key-exactly k p = breakable-exactly n script k (wordAt key k) (m .sized .script-room) (p .inside) (loose-small n set sheet script w v m k p)
-        (loose-opposed n set sheet script w v m k p)
-
-    script-exactly : Exactly n script key
-    script-exactly k p = breakable-exactly n key k (wordAt script k) key-room (p .inside) (tight-small n set sheet script w v m k p)
-        (tight-opposed n set sheet script w v m k p)
+    room : blockStart n ≤ length key
+    room = key-room n set sheet script w v m
 
     without : Unsatisfiable n sheet → (b : Bool) → refuted n script ≡ b → Means hidden n sheet script (cond b Equal (Loose trivialRule))
     without u true e = nothing-same hidden n sheet script u (refuted-exactly n script (script-fitting n set sheet script w v m) .0 e)
@@ -271,11 +273,11 @@ verdict-means n set sheet script w v m = go (refuted n sheet) refl
       where
         tight : hasTerm (firstBroken n script key) ≡ true → Means hidden n sheet script (Tight (firstBroken n script key))
         tight e =
-            let g = first-some n script key (m .sized .script-room) script-exactly e in
+            let g = first-some n script key (m .sized .script-room) (script-exactly n set sheet script w v m) e in
             let f : FirstBroken n script (Satisfies n sheet) (firstBroken n script key) =
             record { place = g .place; is = g .is; at = key-first hidden n sheet script (g .place) (m .visible) (exact s) (g .at) } in (
               (
-                unbroken-not-loose hidden n sheet (Satisfies n script) key-room (exact s) keys,
+                unbroken-not-loose hidden n sheet (Satisfies n script) room (exact s) keys,
                 broken-narrow hidden n sheet script (firstBroken n script key) f,
               ),
               f,
@@ -283,19 +285,19 @@ verdict-means n set sheet script w v m = go (refuted n sheet) refl
 
         equal : hasTerm (firstBroken n script key) ≡ false → Means hidden n sheet script Equal
         equal e =
-            let none = first-none n script key (m .sized .script-room) script-exactly e .1 in
-            unbroken-same hidden n sheet script key-room (m .sized .script-room) (m .visible) (exact s) keys (key-none hidden n sheet script (exact s) none)
+            let none = first-none n script key (m .sized .script-room) (script-exactly n set sheet script w v m) e .1 in
+            unbroken-same hidden n sheet script room (m .sized .script-room) (m .visible) (exact s) keys (key-none hidden n sheet script (exact s) none)
 
     with-some : Satisfiable n sheet → Means hidden n sheet script (orElse Loose (firstBroken n key script) (orElse Tight (firstBroken n script key) Equal))
     with-some s = carried-or-next (Means hidden n sheet script) Loose (firstBroken n key script) (orElse Tight (firstBroken n script key) Equal) loose next
       where
         loose : hasTerm (firstBroken n key script) ≡ true → Means hidden n sheet script (Loose (firstBroken n key script))
         loose e =
-            let f = first-some n key script key-room key-exactly e in
+            let f = first-some n key script room (key-exactly n set sheet script w v m) e in
             (broken-loose hidden n sheet (Satisfies n script) (firstBroken n key script) (exact s) f, inr (s, f))
 
         next : hasTerm (firstBroken n key script) ≡ false → Means hidden n sheet script (orElse Tight (firstBroken n script key) Equal)
-        next e = not-loose s (first-none n key script key-room key-exactly e .1)
+        next e = not-loose s (first-none n key script room (key-exactly n set sheet script w v m) e .1)
 
     go : (b : Bool) → refuted n sheet ≡ b → Means hidden n sheet script (cond b (cond (refuted n script) Equal (Loose trivialRule))
         (orElse Loose (firstBroken n key script) (orElse Tight (firstBroken n script key) Equal)))

@@ -6,8 +6,10 @@ pub mod Carried
 pub mod Breakable
 pub mod Opposed
 pub mod Finding
-pub mod Demand
 pub mod Lending
+pub mod Reducing
+pub mod Broken
+pub mod Demand
 pub mod Showing
 pub mod Promised
 pub mod Frauds

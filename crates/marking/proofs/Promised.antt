@@ -3,18 +3,19 @@ use mathlib.Core.Path.{_≡_, refl, sym, _∙_, ap}
 use mathlib.Core.Bool.{Bool, true, false}
 use mathlib.Core.List.{List}
 use mathlib.Core.Logic.{_↔_}
-use Prim.Native.Nat.{ℕ, suc, _≤_}
+use Prim.Native.Nat.{ℕ, suc, _≤_, _<_}
 use native.Mathlib.Omega.{arith}
 use lib.IntN.{ℤ, pos}
-use lib.ListN.{length}
-use Rattle.words.specs.Change.{wordAt, change, copying}
+use lib.ListN.{length, drop}
+use Rattle.words.specs.Change.{wordAt}
 use Rattle.words.specs.Lent.{Lent}
+use Rattle.places.specs.declared.Place.{Place}
+use Rattle.places.specs.declared.Place.the-variants.{At, Nowhere}
 use Rattle.places.specs.Numbering.{blockStart}
 use Rattle.rules.specs.declared.refusal.Refusal.{Refusal}
 use Rattle.rules.specs.declared.rule.Rule.{Rule}
 use Rattle.rules.specs.declared.rule.Rule.the-variants.{One, Two, Nothing}
 use Rattle.rules.specs.Hidden.{hiddenIn}
-use Rattle.rules.specs.Limits.{maxQuantities}
 use Rattle.rules.specs.Refusal.{Returned, refusedAs}
 use Rattle.rules.specs.Refusing.{DecidedBy}
 use Rattle.rules.proofs.Refusals.{same-refusal}
@@ -23,32 +24,39 @@ use Rattle.rules.specs.Meaning.{hasTerm}
 use Rattle.tables.specs.declared.reply.Reply.{Reply}
 use Rattle.tables.specs.declared.reply.Reply.the-variants.{Done}
 use Rattle.tables.specs.declared.reply.Reply.the-variants.{Refused as NotDone}
-use Rattle.tables.specs.Tables.{tableSize}
-use Rattle.tables.specs.Meaning.{Satisfies}
-use Rattle.tables.proofs.Sizes.{size-whole}
+use Rattle.tables.specs.Places.{ruleAt}
+use Rattle.tables.specs.Meaning.{ruleIn, Satisfies, Satisfiable, NamesVisible}
 use Rattle.tables.proofs.Refusing.{refusal-in, decided-as}
 use Rattle.tables.proofs.Meanings.{table-allows-visible, script-visible}
 use Rattle.tables.proofs.Tests.{refused-done, clash}
+use Rattle.elimination.specs.Inner.{among}
 use Rattle.keys.specs.Keys.{keyOf, refuted}
-use Rattle.keys.specs.Inner.{pairUpTo, fillDown, Decided}
-use Rattle.keys.proofs.Copying.{copied, holds-same, same-unnamed}
+use Rattle.elimination.specs.Hiding.{liveAt}
+use Rattle.keys.specs.Inner.{outside, AtTurns, Decided, Fillable, Filled}
+use Rattle.keys.proofs.Several.{key-visible}
 use Rattle.keys.proofs.Deciding.{refuted-exactly}
-use Rattle.keys.proofs.Promised.{untouched, key-made, values-found}
+use Rattle.keys.proofs.KeyCopies.{live-same, yet-last, key-word}
+use Rattle.keys.proofs.Turning.{notYet}
+use Rattle.keys.proofs.Promised.{untouched, key-made, decided-reduced, values-found}
+use Rattle.tightening.specs.Below.{FirstBelow, LivePlace}
 use Rattle.marking.specs.declared.verdict.Verdict.{Verdict}
 use Rattle.marking.specs.declared.verdict.Verdict.the-variants.{Equal, Loose, Tight}
 use Rattle.marking.specs.declared.verdict.Marking.the-variants.{Marked, Refused}
 use Rattle.marking.specs.declared.verdict.Marking.{Marking}
 use Rattle.marking.specs.Verdicts.{verdictNumber, carriedRule, verdictReturned, markingReturned, isMarked}
 use Rattle.marking.specs.Marking.{firstBroken, orElse, verdictOf, markChecks, markedAs, markReply}
-use Rattle.marking.specs.Meaning.{LooseShown, TightShown, VerdictMeans, workspaceSize, markNeeds}
+use Rattle.marking.specs.Meaning.{FirstAt, NoneBroken, LooseShown, TightShown, VerdictMeans, workspaceSize, markNeeds}
 use Rattle.marking.specs.Promises.{TablesMarked}
-use Rattle.marking.specs.Inner.{TablesAccepted, VerdictGiven, FrontBreakable, FrontBroken}
+use Rattle.marking.specs.Inner.{TablesAccepted, VerdictGiven, VisibleListed, SheetReducible, SheetReduced, ScriptComparable, FrontFound}
+use Rattle.marking.specs.Inner.{ScriptBreakable, ScriptBroken, SheetBreakable, NarrowReady, NarrowGiven}
 use Rattle.marking.proofs.Checking.{mark-tied, met-accepted}
-use Rattle.marking.proofs.Carried.{verdict-refusal, first-alike, loose-alike, loose-shown-alike, tight-shown-alike}
-use Rattle.marking.proofs.Zeros.{unnamed-zero}
-use Rattle.marking.proofs.Opposed.{visible-unnamed, sheet-fitting, script-fitting, tight-opposed, loose-opposed, tight-small, loose-small}
-use Rattle.marking.proofs.Demand.{verdict-demand, verdict-loose, verdict-tight}
-use Rattle.marking.proofs.Lending.{lent-again, decided-lent, Fronted, copy-fronted, same-broken}
+use Rattle.marking.proofs.Carried.{verdict-refusal, ruleAt-term, first-alike, loose-alike, loose-shown-alike, tight-shown-alike}
+use Rattle.marking.proofs.Breakable.{Exactly, first-at, first-nowhere}
+use Rattle.marking.proofs.Opposed.{key-room, sheet-fitting, sheet-hides, key-fitting, script-rest, script-fitting, loose-breakable, tight-breakable, tight-values}
+use Rattle.marking.proofs.Finding.{below-seen, Found, seen-found}
+use Rattle.marking.proofs.Lending.{lent-again, decided-lent}
+use Rattle.marking.proofs.Reducing.{visible-alone, same-front}
+use Rattle.marking.proofs.Demand.{KeyExact, key-allows, some-satisfy, key-exactly, script-exactly, verdict-demand, verdict-loose, verdict-tight}
 use Rattle.marking.proofs.Showing.{zero-words, loose-shows, tight-shows}
 
 -- ---- which verdict it is
@@ -119,55 +127,52 @@ given-tight n set sheet script w v r w' v' e l k s = record {
   tight-shown = λ rule d. rw (← tight-inj r rule d) s;
 }
 
--- ---- what the checks leave
+-- ---- a sheet that no integers satisfy
 
 -- the workspace is long enough for one table
 pub one-table : (n set : ℕ) (sheet script : List ℤ) (w v : ℕ) → TablesAccepted n set sheet script w v → blockStart n ≤ w
 one-table n set sheet script w v m = omega (arith, m .workspace-room)
 
--- ---- a sheet that no integers satisfy
-
 -- equal where none satisfy the script either
-pub without-equal : (n set : ℕ) (sheet script w v w' : List ℤ) → refuted n sheet ≡ true → Decided n script w true w'
+pub without-equal : (n set : ℕ) (sheet script w v w' : List ℤ) → refuted n sheet ≡ true → Decided n set script w true w'
     → VerdictGiven n set sheet script w v Equal w' v
 unfolding verdictOf
 without-equal n set sheet script w v w' e d =
     given-equal n set sheet script w v w' v (rw (e, ← d .reply))
-    (decided-lent n script w true w' d) refl
+    (decided-lent n set script w true w' d) refl
 
--- loose with no rule where the values read back satisfy the script
+-- else the values may be read back
+pub without-fillable : (n set : ℕ) (sheet script w v w' : List ℤ) → TablesAccepted n set sheet script (length w) (length v) → Decided n set script w false w'
+    → Fillable n set w' v
+without-fillable n set sheet script w v w' m d = record {
+  from = script;
+  reduced = decided-reduced n set script w w' (script-rest n set sheet script (length w) (length v) m) (one-table n set sheet script (length w) (length v) m) d;
+  values-room = m .values-room;
+}
+
+-- and it is loose with no rule
 pub without-loose : (n set : ℕ) (sheet script w v : List ℤ) (r : Rule) (w' v' : List ℤ) → TablesAccepted n set sheet script (length w) (length v)
-    → refuted n sheet ≡ true → Decided n script w false w' → v' ≡ fillDown n w' n v → r ≡ trivialRule → VerdictGiven n set sheet script w v (Loose r) w' v'
+    → refuted n sheet ≡ true → Decided n set script w false w' → Filled n set w' v v' → r ≡ trivialRule → VerdictGiven n set sheet script w v (Loose r) w' v'
 unfolding verdictOf
 without-loose n set sheet script w v r w' v' m e d k t =
-    let a = values-found n script w v w' v' (script-fitting n set sheet script (length w) (length v) m) (m .sized .script-room)
-    (one-table n set sheet script (length w) (length v) m) (m .values-room) d k in
+    let a = values-found n set script w v w' v' (script-rest n set sheet script (length w) (length v) m) (one-table n set sheet script (length w) (length v) m) d k in
     let none = refuted-exactly n sheet (sheet-fitting n set sheet script (length w) (length v) m) .0 e in
     rw t (given-loose n set sheet script w v trivialRule w' v' (rw (e, ← d .reply))
-    (decided-lent n script w false w' d) (a .written) (record {
+    (decided-lent n set script w false w' d) (a .written) (record {
       allowed = a .found .meaning;
       incomplete = λ s. none _ (s .complete);
       breaks = tt;
-      zero = zero-words n (hiddenIn set) v' (λ j h g. rw (k, d .words refl) (zeros j h g));
+      zero = zero-words n (hiddenIn set) v' (λ j h g. k .zero j h g);
       there = rw (a .written .size) (m .values-room);
       range = a .found .range;
     }))
-  where
-    u : List ℤ
-    u = change (blockStart n) (copying script) w
-
-    zeros : (j : ℕ) → suc j ≤ n → hiddenIn set (suc j) ≡ true → wordAt (fillDown n (pairUpTo true n n u) n v) j ≡ pos 0
-    zeros j h g =
-        let same = copied n script w (m .sized .script-room) (one-table n set sheet script (length w) (length v) m) in
-        unnamed-zero n u v j (same .theirs) h (m .values-room)
-        (same-unnamed n j script u same (visible-unnamed (hiddenIn set) n j script (m .visible) g))
 
 -- the verdict then is that of the whole, the workspace having been lent once more before
-pub verdict-without : (n set : ℕ) (sheet script w v u : List ℤ) (b : Bool) (r : Verdict) (w' v' : List ℤ) → Decided n sheet w b u
+pub verdict-without : (n set : ℕ) (sheet script w v u : List ℤ) (b : Bool) (r : Verdict) (w' v' : List ℤ) → SheetReduced n set sheet w b u
     → VerdictGiven n set sheet script u v r w' v' → VerdictGiven n set sheet script w v r w' v'
 verdict-without n set sheet script w v u b r w' v' d g = record {
   reply = g .reply;
-  lent = lent-again (workspaceSize n) true true w u w' (decided-lent n sheet w b u d) (g .lent);
+  lent = lent-again (workspaceSize n) true true w u w' (d .lent) (g .lent);
   written = g .written;
   loose-shown = g .loose-shown;
   tight-shown = g .tight-shown;
@@ -175,33 +180,23 @@ verdict-without n set sheet script w v u b r w' v' d g = record {
 
 -- ---- a sheet that some integers satisfy
 
--- a workspace that was lent, with a table copied to its front
-pub table-there : (n : ℕ) (w t : List ℤ) (a : ℕ) (u w' : List ℤ) → n ≤ maxQuantities → workspaceSize n ≤ length w → blockStart n ≤ length t
-    → Lent (workspaceSize n) true w u → a ≡ tableSize n → w' ≡ change a (copying t) u → Fronted n t w w'
-table-there n w t a u w' h g l lent d e = copy-fronted n t w u w' l g lent (let p : a ≡ blockStart n = d ∙ size-whole n h in rw p at e)
-
--- the key at the front of the workspace: its rules may be broken by the script's assignments
-pub loose-breakable : (n set : ℕ) (sheet script w v w' : List ℤ) → TablesAccepted n set sheet script (length w) (length v)
-    → Fronted n (keyOf (hiddenIn set) n sheet) w w' → FrontBreakable n script w' v
-loose-breakable n set sheet script w v w' m f = record {
-  fits = script-fitting n set sheet script (length w) (length v) m;
-  some = m .sized .some;
-  opposed = λ k p. rw (f .front .words k (p .inside)) (loose-opposed n set sheet script (length w) (length v) m k (holds-same n _ w' k (f .front) p));
-  small = λ k p. rw (f .front .words k (p .inside)) (loose-small n set sheet script (length w) (length v) m k (holds-same n _ w' k (f .front) p));
-  room = rw (f .lent .size) (m .workspace-room);
-  values-room = m .values-room;
+-- what reducing the sheet asks, and comparing the script
+pub sheet-reducible : (n set : ℕ) (visible : List ℕ) (sheet script w v : List ℤ) → TablesAccepted n set sheet script (length w) (length v) → VisibleListed n set visible
+    → SheetReducible n set visible sheet w
+sheet-reducible n set visible sheet script w v m l = record {
+  listed = l;
+  hides = sheet-hides n set sheet script (length w) (length v) m;
+  fits = sheet-fitting n set sheet script (length w) (length v) m;
+  key-fits = key-fitting n set sheet script (length w) (length v) m;
+  room = m .workspace-room;
 }
 
--- the script at the front of the workspace: its rules may be broken by the sheet's assignments
-pub tight-breakable : (n set : ℕ) (sheet script w v w' v' : List ℤ) → TablesAccepted n set sheet script (length w) (length v) → Fronted n script w w' → v' ≡ v
-    → FrontBreakable n sheet w' v'
-tight-breakable n set sheet script w v w' v' m f e = record {
-  fits = sheet-fitting n set sheet script (length w) (length v) m;
-  some = m .sized .some;
-  opposed = λ k p. rw (f .front .words k (p .inside)) (tight-opposed n set sheet script (length w) (length v) m k (holds-same n script w' k (f .front) p));
-  small = λ k p. rw (f .front .words k (p .inside)) (tight-small n set sheet script (length w) (length v) m k (holds-same n script w' k (f .front) p));
-  room = rw (f .lent .size) (m .workspace-room);
-  values-room = rw e (m .values-room);
+pub script-comparable : (n set : ℕ) (visible : List ℕ) (sheet script w v u : List ℤ) → TablesAccepted n set sheet script (length w) (length v) → VisibleListed n set visible
+    → length u ≡ length w → ScriptComparable n visible script u
+script-comparable n set visible sheet script w v u m l e = record {
+  fits = script-fitting n set sheet script (length w) (length v) m;
+  alone = visible-alone n set visible script l (m .visible);
+  room = rw e (m .workspace-room);
 }
 
 -- a rule of one or two quantities is carried
@@ -210,68 +205,136 @@ carry-term carry (One x c) next e = refl
 carry-term carry (Two x y c) next e = refl
 carry-term carry (Nothing c) next e = clash e refl
 
--- any other is passed over
-pass-bare : (carry : Rule → Verdict) (r : Rule) (next : Verdict) → hasTerm r ≡ false → orElse carry r next ≡ next
-pass-bare carry (One x c) next e = clash refl e
-pass-bare carry (Two x y c) next e = clash refl e
-pass-bare carry (Nothing c) next e = refl
+-- the front with the hidden quantities eliminated has, at visible places, the words of the key
+front-key : (n set : ℕ) (visible : List ℕ) (sheet u : List ℤ) → blockStart n ≤ length sheet → VisibleListed n set visible → AtTurns (hiddenIn set) n n sheet u
+    → (k : ℕ) → LivePlace n visible k → wordAt u k ≡ wordAt (keyOf (hiddenIn set) n sheet) k
+front-key n set visible sheet u l v a k p =
+    let e = key-word (hiddenIn set) n sheet u k l a (p .0) in
+    let seen : liveAt (notYet (hiddenIn set) n) k ≡ true =
+    yet-last (hiddenIn set) n k (p .0) ∙ sym (live-same (among visible) (λ i. outside set (suc i)) n k (p .0) (v .each)) ∙ p .1 in
+    rw seen at e
 
--- loose where a rule of the key is broken
-pub loose-given : (n set : ℕ) (sheet script w v u : List ℤ) (r : Rule) (w' v' : List ℤ) → TablesAccepted n set sheet script (length w) (length v)
-    → refuted n sheet ≡ false → Fronted n (keyOf (hiddenIn set) n sheet) w u → FrontBroken n script u v r w' v' → hasTerm r ≡ true
-    → VerdictGiven n set sheet script w v (Loose r) w' v'
-unfolding verdictOf
-loose-given n set sheet script w v u r w' v' m e f b h =
-    given-loose n set sheet script w v r w' v' (rw (e, ← same-broken n _ u script (f .front), ← b .reply) (carry-term Loose r _ h))
-    (lent-again (workspaceSize n) true true w u w' (f .lent) (b .lent))
-    (rw h at (b .written))
-    (loose-shows n (hiddenIn set) sheet script u r v' (sheet-fitting n set sheet script (length w) (length v) m) e (m .visible) (f .front) (b .some h) (b .shown h)
-    (rw (b .written .size) (m .values-room)))
+module _ (n set : ℕ) (visible : List ℕ) (sheet script w v u : List ℤ) (m : TablesAccepted n set sheet script (length w) (length v)) (l : VisibleListed n set visible)
+    (d : SheetReduced n set sheet w false u) where
+  abbrev key : List ℤ
+  key = keyOf (hiddenIn set) n sheet
 
--- no rule of the key is broken: the workspace is lent on, and the values stay
-pub record NoneLoose (n set : ℕ) (sheet script w v w' v' : List ℤ) : Type 0 where
-  pub none : hasTerm (firstBroken n (keyOf (hiddenIn set) n sheet) script) ≡ false
-  pub lent : Lent (workspaceSize n) true w w'
-  pub kept : v' ≡ v
+  e : refuted n sheet ≡ false
+  e = sym (d .reply)
 
--- so where the first one found is none
-pub none-loose : (n set : ℕ) (sheet script w v u : List ℤ) (r : Rule) (w' v' : List ℤ) → Fronted n (keyOf (hiddenIn set) n sheet) w u
-    → FrontBroken n script u v r w' v' → hasTerm r ≡ false → NoneLoose n set sheet script w v w' v'
-none-loose n set sheet script w v u r w' v' f b h = record {
-  none = rw (← same-broken n _ u script (f .front), ← b .reply) h;
-  lent = lent-again (workspaceSize n) true true w u w' (f .lent) (b .lent);
-  kept = b .written .kept h;
-}
+  some : Satisfiable n sheet
+  some = some-satisfy n sheet (sheet-fitting n set sheet script (length w) (length v) m) e
 
--- then tight where a rule of the script is broken
-pub tight-given : (n set : ℕ) (sheet script w v y x u : List ℤ) (r : Rule) (w' v' : List ℤ) → n ≤ length v → refuted n sheet ≡ false
-    → NoneLoose n set sheet script w v y x → Fronted n script w u → FrontBroken n sheet u x r w' v' → hasTerm r ≡ true
-    → VerdictGiven n set sheet script w v (Tight r) w' v'
-unfolding verdictOf
-tight-given n set sheet script w v y x u r w' v' l e p f b h =
-    given-tight n set sheet script w v r w' v'
-    (rw (e, pass-bare Loose _ (orElse Tight (firstBroken n script sheet) Equal) (p .none), ← same-broken n script u sheet (f .front), ← b .reply)
-    (carry-term Tight r _ h))
-    (lent-again (workspaceSize n) true true w u w' (f .lent) (b .lent))
-    (rw (p .kept, h) at (b .written))
-    (tight-shows n (hiddenIn set) sheet script u r v' (f .front) (b .some h) (b .shown h) (rw (b .written .size, p .kept) l))
+  exact : KeyExact (hiddenIn set) n sheet
+  exact = key-allows n set sheet script (length w) (length v) m some
 
--- and else equal
-pub equal-given : (n set : ℕ) (sheet script w v y x u : List ℤ) (r : Rule) (w' v' : List ℤ) → refuted n sheet ≡ false
-    → NoneLoose n set sheet script w v y x → Fronted n script w u → FrontBroken n sheet u x r w' v' → hasTerm r ≡ false
-    → VerdictGiven n set sheet script w v Equal w' v'
-unfolding verdictOf
-equal-given n set sheet script w v y x u r w' v' e p f b h =
-    given-equal n set sheet script w v w' v'
-    (rw (
-      e,
-      pass-bare Loose _ (orElse Tight (firstBroken n script sheet) Equal) (p .none),
-      ← same-broken n script u sheet (f .front),
-      ← b .reply,
-      pass-bare Tight r Equal h,
-    ))
-    (lent-again (workspaceSize n) true true w u w' (f .lent) (b .lent))
-    (b .written .kept h ∙ p .kept)
+  room : blockStart n ≤ length key
+  room = key-room n set sheet script (length w) (length v) m
+
+  key-names : NamesVisible n (hiddenIn set) key
+  key-names = key-visible (hiddenIn set) n sheet (m .sized .sheet-room)
+
+  -- the first rule of the script that the key breaks
+  tight-found : (p : Place) → FirstBelow (LivePlace n visible) script (drop (blockStart n) u) p → Found n (Satisfies n key) script p
+  tight-found p f =
+      seen-found n set visible script script (Satisfies n key) p l (m .visible) (m .sized .script-room) (λ k h. refl)
+      (below-seen n visible script (drop (blockStart n) u) (Satisfies n key) p (d .least refl) f)
+
+  -- and of the key that the script breaks
+  loose-found : (x : List ℤ) (p : Place) → FrontFound n visible script u p x → Found n (Satisfies n script) key p
+  loose-found x p f = seen-found n set visible u key (Satisfies n script) p l key-names room (front-key n set visible sheet u (m .sized .sheet-room) l (d .front refl)) (f .found)
+
+  module _ (x : List ℤ) (k : ℕ) (f : FrontFound n visible script u (At k) x) where
+    at-key : FirstAt n key (Satisfies n script) k
+    at-key = loose-found x (At k) f
+
+    pub loose-inside : k < blockStart n
+    loose-inside = at-key .holds .inside
+
+    pub loose-there : k < length x
+    loose-there = omega (arith, loose-inside, f .lent .size, d .lent .size, m .workspace-room)
+
+    -- the rule at the front is the key's
+    loose-word : wordAt x k ≡ wordAt key k
+    loose-word = f .front k loose-inside ∙ front-key n set visible sheet u (m .sized .sheet-room) l (d .front refl) k (f .found .seen .at)
+
+    module _ (r : Rule) (q : r ≡ ruleAt k (wordAt x k)) where
+      loose-rule : r ≡ ruleIn key k
+      loose-rule = q ∙ ap (ruleAt k) loose-word
+
+      pub loose-ready : ScriptBreakable n set script r x v
+      loose-ready = rw loose-rule (record {
+        breakable = loose-breakable n set sheet script (length w) (length v) m k v (at-key .holds) (m .values-room) (at-key .breaks);
+        room = omega (arith, f .lent .size, d .lent .size, m .workspace-room);
+      })
+
+      pub loose-given : (w' v' : List ℤ) → ScriptBroken n set script r x v w' v' → VerdictGiven n set sheet script w v (Loose r) w' v'
+      unfolding verdictOf
+      loose-given w' v' b = rw loose-rule (given-loose n set sheet script w v (ruleIn key k) w' v'
+          (rw (e, first-at n key script k room (key-exactly n set sheet script (length w) (length v) m) at-key) (carry-term Loose (ruleIn key k) _ (ruleAt-term k (wordAt key k))))
+          (lent-again (workspaceSize n) true true w x w' (lent-again (workspaceSize n) true true w u x (d .lent) (f .lent)) (b .lent))
+          (b .written)
+          (loose-shows n set sheet script k x v w' v' exact (at-key .holds) (rw loose-rule at b) (rw (b .written .size) (m .values-room))))
+
+  module _ (x : List ℤ) (tight : Place) (t : FirstBelow (LivePlace n visible) script (drop (blockStart n) u) tight) (f : FrontFound n visible script u Nowhere x) where
+    none : NoneBroken n key (Satisfies n script)
+    none = loose-found x Nowhere f
+
+    front : AtTurns (hiddenIn set) n n sheet x
+    front = same-front (hiddenIn set) n sheet u x (f .front) (d .front refl)
+
+    x-room : workspaceSize n ≤ length x
+    x-room = omega (arith, f .lent .size, d .lent .size, m .workspace-room)
+
+    tight-at : (k : ℕ) → tight ≡ At k → FirstAt n script (Satisfies n key) k
+    tight-at k q = let g = tight-found tight t in rw q at g
+
+    tight-ready : (k : ℕ) → tight ≡ At k → SheetBreakable n set sheet (ruleIn script k) x v
+    tight-ready k q = let g = tight-at k q in record {
+      front = front;
+      hides = sheet-hides n set sheet script (length w) (length v) m;
+      breakable = tight-breakable n set sheet script (length w) (length v) m k v (g .holds) (m .values-room) (g .breaks);
+      visible = m .visible .each k (g .holds);
+      small = tight-values n set sheet script (length w) (length v) m k v (g .holds) (m .values-room) (g .breaks);
+      room = x-room;
+    }
+
+    pub narrow-ready : NarrowReady n set script tight x v
+    narrow-ready = record {
+      most = m .sized .most;
+      room = m .sized .script-room;
+      inside = λ k q. tight-at k q .holds .inside;
+      breakable = λ k q. record { sheet = sheet; is = tight-ready k q };
+    }
+
+    lent : Lent (workspaceSize n) true w x
+    lent = lent-again (workspaceSize n) true true w u x (d .lent) (f .lent)
+
+    no-loose : firstBroken n key script ≡ trivialRule
+    no-loose = first-nowhere n key script room (key-exactly n set sheet script (length w) (length v) m) none
+
+    exactly : Exactly n script key
+    exactly = script-exactly n set sheet script (length w) (length v) m
+
+    pub narrow-given : (r : Verdict) (w' v' : List ℤ) → NarrowGiven n set script tight x v r w' v' → VerdictGiven n set sheet script w v r w' v'
+    unfolding verdictOf
+    narrow-given r w' v' g = go tight refl
+      where
+        go : (p : Place) → tight ≡ p → VerdictGiven n set sheet script w v r w' v'
+        go Nowhere q =
+            let y = g .equal q in
+            let unbroken : NoneBroken n script (Satisfies n key) = let h = tight-found tight t in rw q at h in
+            rw (y .0) (given-equal n set sheet script w v w' v'
+            (rw (e, no-loose, first-nowhere n script key (m .sized .script-room) exactly unbroken))
+            (rw (y .1) lent) (y .2))
+        go (At k) q =
+            let y = g .tight-broken k q in
+            let h = tight-at k q in
+            rw (y .0) (given-tight n set sheet script w v (ruleIn script k) w' v'
+            (rw (e, no-loose, first-at n script key k (m .sized .script-room) exactly h) (carry-term Tight (ruleIn script k) Equal (ruleAt-term k (wordAt script k))))
+            (lent-again (workspaceSize n) true true w x w' lent (y .1 .lent))
+            (y .1 .written)
+            (tight-shows n (hiddenIn set) sheet script k v' (h .holds) (y .1 .shown sheet (tight-ready k q)) (rw (y .1 .written .size) (m .values-room))))
 
 -- ---- marking two tables
 

@@ -17,10 +17,10 @@ use Rattle.rules.specs.declared.rule.Rule.{Rule}
 use Rattle.rules.specs.declared.paper.Paper.the-variants.{Sheet, Script}
 use Rattle.rules.specs.Limits.{maxQuantities}
 use Rattle.rules.specs.Hidden.{hiddenIn, hiddenCount, setWithin}
-use Rattle.rules.specs.Meaning.{Meets}
+use Rattle.rules.specs.Meaning.{Meets, names}
 use Rattle.tables.specs.Places.{ruleAt}
 use Rattle.tables.specs.Tables.{hasRule}
-use Rattle.tables.specs.Meaning.{ruleIn, Satisfies, Solutions, Breaks, NamesVisible, assignmentOf}
+use Rattle.tables.specs.Meaning.{ruleIn, Satisfies, Unsatisfiable, Solutions, Breaks, NamesVisible, assignmentOf}
 use Rattle.elimination.specs.Magnitude.{ValuesWithin}
 use Rattle.elimination.specs.Inner.{among, Listed}
 use Rattle.keys.specs.Keys.{keyOf, refuted}
@@ -102,6 +102,12 @@ abbrev pub FirstSeen : ℕ → List ℕ → List ℤ → Solutions → Place →
 FirstSeen n live rules paper (At k) = FirstSeenAt n live rules paper k
 FirstSeen n live rules paper Nowhere = (i : ℕ) → Seen n live rules i → Breaks paper (ruleIn rules i) → ⊥
 
+-- the least bounds of a table's terms, and whether no integers satisfy it
+pub record LeastBounds (n : ℕ) (table before : List ℤ) (r : Bool) (after : List ℤ) : Type 0 where
+  pub none : (r ≡ true) ↔ Unsatisfiable n table
+  pub lent : Lent (blockStart n) true before after
+  pub least : r ≡ false → (k : ℕ) → k < blockStart n → (c : ℤ) → hasRule c ≡ true → (c <ℤ wordAt after k) ↔ Breaks (Satisfies n table) (ruleAt k c)
+
 -- a script whose rules name live quantities alone, and a workspace with rules at its front
 pub record ScriptComparable (n : ℕ) (live : List ℕ) (script workspace : List ℤ) : Type 0 where
   pub fits : Fits n script
@@ -134,6 +140,7 @@ pub record SheetBreakable (n set : ℕ) (sheet : List ℤ) (r : Rule) (workspace
   pub front : AtTurns (hiddenIn set) n n sheet workspace
   pub hides : SetFits (hiddenIn set) n sheet
   pub breakable : RuleBreakable n set (keyOf (hiddenIn set) n sheet) r values
+  pub visible : (q : ℕ) → names q r ≡ true → hiddenIn set q ≡ false
   pub small : (breakable .fits .sums .limit * 2 ^ hiddenCount (outside set) n - breakable .fits .sums .limit)
       + (hides .limit * 2 ^ hiddenCount (hiddenIn set) n - hides .limit) < 2 ^ 62
   pub room : workspaceSize n ≤ length workspace

@@ -11,7 +11,11 @@ use rules::rule::Rule;
 use tables::table;
 use tightening::below;
 use tightening::tighten;
-ghost use Rattle.marking.specs.Inner.{SheetReducible, SheetReduced, ScriptComparable, FrontFound, ScriptBreakable, ScriptBroken, SomeSheetBreakable, SheetBroken};
+ghost use Prim.Native.Nat.{_≤_};
+ghost use lib.ListN.{length};
+ghost use Rattle.places.specs.Numbering.{blockStart};
+ghost use Rattle.keys.specs.Inner.{LiveAlone, Fits};
+ghost use Rattle.marking.specs.Inner.{SheetReducible, SheetReduced, LeastBounds, ScriptComparable, FrontFound, ScriptBreakable, ScriptBroken, SomeSheetBreakable, SheetBroken};
 
 // Eliminates the sheet's hidden quantities at the front of the workspace, writes the least bounds of its key to the back, and answers whether no integers satisfy the sheet.
 pub(crate) fn reduce_sheet(
@@ -33,6 +37,15 @@ pub(crate) fn reduce_sheet(
     tighten::tighten(n, &mut workspace[m..], visible)
 }
 
+// Writes the least bound of each term of the table to the front of `least`, and answers whether no integers satisfy the table.
+fn least_bounds(n: usize, visible: &[usize], table: &[i64], least: &mut [i64]) -> bool
+    requires { ⌜ Fits n (now table) × LiveAlone n (now visible) (now table) × (blockStart n ≤ length (now least)) ⌝ }
+    ensures { λ r. ⌜ LeastBounds n (now (table .entry)) (now (least .entry)) r (now (least .exit)) ⌝ }
+{
+    words::copy(least, table, table::size(n));
+    tighten::tighten(n, least, visible)
+}
+
 // The first place of visible quantities at the front of the workspace whose rule some assignment of the script breaks. The back is free.
 pub(crate) fn first_broken(
     n: usize,
@@ -44,8 +57,7 @@ pub(crate) fn first_broken(
     ensures { λ r. ⌜ FrontFound n (now (visible .entry)) (now (script .entry)) (now (workspace .entry)) r (now (workspace .exit)) ⌝ }
 {
     let m = table::size(n);
-    words::copy(&mut workspace[m..], script, m);
-    if tighten::tighten(n, &mut workspace[m..], visible) {
+    if least_bounds(n, visible, script, &mut workspace[m..]) {
         return Place::Nowhere;
     }
     let words = &workspace[..];

@@ -3,7 +3,8 @@ use native.Mathlib.Omega.{arith}
 use denote.Ref.{now}
 use borrow.Author.Needs.{needs}
 use Rattle.tables.proofs.Sizes.{size-known}
-use Rattle.keys.proofs.KeyCopies.{second-room, copied-key}
+use Rattle.keys.proofs.Parts.{second-room}
+use Rattle.keys.proofs.KeyCopies.{copied-key}
 use Rattle.keys.proofs.copies.copy_key.Statement.{statement}
 use Rattle.keys.proofs.copies.copy_key.Tie as tie
 

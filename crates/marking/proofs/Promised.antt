@@ -27,6 +27,7 @@ use Rattle.tables.specs.declared.reply.Reply.the-variants.{Refused as NotDone}
 use Rattle.tables.specs.Places.{ruleAt}
 use Rattle.tables.specs.Meaning.{ruleIn, Satisfies, Satisfiable, NamesVisible}
 use Rattle.tables.proofs.Refusing.{refusal-in, decided-as}
+use Rattle.tables.proofs.Places.{at-nowhere}
 use Rattle.tables.proofs.Meanings.{table-allows-visible, script-visible}
 use Rattle.tables.proofs.Tests.{refused-done, clash}
 use Rattle.elimination.specs.Inner.{among}
@@ -48,7 +49,7 @@ use Rattle.marking.specs.Marking.{firstBroken, orElse, verdictOf, markCh
 use Rattle.marking.specs.Meaning.{FirstAt, NoneBroken, LooseShown, TightShown, VerdictMeans, workspaceSize, markNeeds}
 use Rattle.marking.specs.Promises.{TablesMarked}
 use Rattle.marking.specs.Inner.{TablesAccepted, VerdictGiven, VisibleListed, SheetReducible, SheetReduced, ScriptComparable, FrontFound}
-use Rattle.marking.specs.Inner.{ScriptBreakable, ScriptBroken, SheetBreakable, NarrowReady, NarrowGiven}
+use Rattle.marking.specs.Inner.{ScriptBreakable, ScriptBroken, SheetBreakable, SheetBroken, NarrowReady, NarrowGiven}
 use Rattle.marking.proofs.Checking.{mark-tied, met-accepted}
 use Rattle.marking.proofs.Carried.{verdict-refusal, ruleAt-term, first-alike, loose-alike, loose-shown-alike, tight-shown-alike}
 use Rattle.marking.proofs.Breakable.{Exactly, first-at, first-nowhere}
@@ -215,12 +216,12 @@ front-key n set visible sheet u l v a k p =
     rw seen at e
 
 module _ (n set : ℕ) (visible : List ℕ) (sheet script w v u : List ℤ) (m : TablesAccepted n set sheet script (length w) (length v)) (l : VisibleListed n set visible)
-    (d : SheetReduced n set sheet w false u) where
+    (b : Bool) (satisfiable : b ≡ false) (d : SheetReduced n set sheet w b u) where
   abbrev key : List ℤ
   key = keyOf (hiddenIn set) n sheet
 
   e : refuted n sheet ≡ false
-  e = sym (d .reply)
+  e = sym (d .reply) ∙ satisfiable
 
   some : Satisfiable n sheet
   some = some-satisfy n sheet (sheet-fitting n set sheet script (length w) (length v) m) e
@@ -238,13 +239,16 @@ module _ (n set : ℕ) (visible : List ℕ) (sheet script w v u : List ℤ) (m :
   tight-found : (p : Place) → FirstBelow (LivePlace n visible) script (drop (blockStart n) u) p → Found n (Satisfies n key) script p
   tight-found p f =
       seen-found n set visible script script (Satisfies n key) p l (m .visible) (m .sized .script-room) (λ k h. refl)
-      (below-seen n visible script (drop (blockStart n) u) (Satisfies n key) p (d .least refl) f)
+      (below-seen n visible script (drop (blockStart n) u) (Satisfies n key) p (d .least satisfiable) f)
 
   -- and of the key that the script breaks
   loose-found : (x : List ℤ) (p : Place) → FrontFound n visible script u p x → Found n (Satisfies n script) key p
-  loose-found x p f = seen-found n set visible u key (Satisfies n script) p l key-names room (front-key n set visible sheet u (m .sized .sheet-room) l (d .front refl)) (f .found)
+  loose-found x p f = seen-found n set visible u key (Satisfies n script) p l key-names room (front-key n set visible sheet u (m .sized .sheet-room) l (d .front satisfiable)) (f .found)
 
-  module _ (x : List ℤ) (k : ℕ) (f : FrontFound n visible script u (At k) x) where
+  module _ (x : List ℤ) (p : Place) (found : FrontFound n visible script u p x) (k : ℕ) (is : p ≡ At k) where
+    f : FrontFound n visible script u (At k) x
+    f = rw is at found
+
     at-key : FirstAt n key (Satisfies n script) k
     at-key = loose-found x (At k) f
 
@@ -256,7 +260,7 @@ module _ (n set : ℕ) (visible : List ℕ) (sheet script w v u : List ℤ) (m :
 
     -- the rule at the front is the key's
     loose-word : wordAt x k ≡ wordAt key k
-    loose-word = f .front k loose-inside ∙ front-key n set visible sheet u (m .sized .sheet-room) l (d .front refl) k (f .found .seen .at)
+    loose-word = f .front k loose-inside ∙ front-key n set visible sheet u (m .sized .sheet-room) l (d .front satisfiable) k (f .found .seen .at)
 
     module _ (r : Rule) (q : r ≡ ruleAt k (wordAt x k)) where
       loose-rule : r ≡ ruleIn key k
@@ -270,21 +274,28 @@ module _ (n set : ℕ) (visible : List ℕ) (sheet script w v u : List ℤ) (m :
 
       pub loose-given : (w' v' : List ℤ) → ScriptBroken n set script r x v w' v' → VerdictGiven n set sheet script w v (Loose r) w' v'
       unfolding verdictOf
-      loose-given w' v' b = rw loose-rule (given-loose n set sheet script w v (ruleIn key k) w' v'
+      loose-given w' v' broken = rw loose-rule (given-loose n set sheet script w v (ruleIn key k) w' v'
           (rw (e, first-at n key script k room (key-exactly n set sheet script (length w) (length v) m) at-key) (carry-term Loose (ruleIn key k) _ (ruleAt-term k (wordAt key k))))
-          (lent-again (workspaceSize n) true true w x w' (lent-again (workspaceSize n) true true w u x (d .lent) (f .lent)) (b .lent))
-          (b .written)
-          (loose-shows n set sheet script k x v w' v' exact (at-key .holds) (rw loose-rule at b) (rw (b .written .size) (m .values-room))))
+          (lent-again (workspaceSize n) true true w x w' (lent-again (workspaceSize n) true true w u x (d .lent) (f .lent)) (broken .lent))
+          (broken .written)
+          (loose-shows n set sheet script k x v w' v' exact (at-key .holds) (rw loose-rule at broken) (rw (broken .written .size) (m .values-room))))
 
-  module _ (x : List ℤ) (tight : Place) (t : FirstBelow (LivePlace n visible) script (drop (blockStart n) u) tight) (f : FrontFound n visible script u Nowhere x) where
+  module _ (least : List ℤ) (tight : Place) (below : FirstBelow (LivePlace n visible) script least tight) (back : least ≡ drop (blockStart n) u)
+      (x : List ℤ) (p : Place) (found : FrontFound n visible script u p x) (is : p ≡ Nowhere) where
+    t : FirstBelow (LivePlace n visible) script (drop (blockStart n) u) tight
+    t = rw back at below
+
+    kept : FrontFound n visible script u Nowhere x
+    kept = rw is at found
+
     none : NoneBroken n key (Satisfies n script)
-    none = loose-found x Nowhere f
+    none = loose-found x Nowhere kept
 
     front : AtTurns (hiddenIn set) n n sheet x
-    front = same-front (hiddenIn set) n sheet u x (f .front) (d .front refl)
+    front = same-front (hiddenIn set) n sheet u x (kept .front) (d .front satisfiable)
 
     x-room : workspaceSize n ≤ length x
-    x-room = omega (arith, f .lent .size, d .lent .size, m .workspace-room)
+    x-room = omega (arith, kept .lent .size, d .lent .size, m .workspace-room)
 
     tight-at : (k : ℕ) → tight ≡ At k → FirstAt n script (Satisfies n key) k
     tight-at k q = let g = tight-found tight t in rw q at g
@@ -308,7 +319,7 @@ module _ (n set : ℕ) (visible : List ℕ) (sheet script w v u : List ℤ) (m :
     }
 
     lent : Lent (workspaceSize n) true w x
-    lent = lent-again (workspaceSize n) true true w u x (d .lent) (f .lent)
+    lent = lent-again (workspaceSize n) true true w u x (d .lent) (kept .lent)
 
     no-loose : firstBroken n key script ≡ trivialRule
     no-loose = first-nowhere n key script room (key-exactly n set sheet script (length w) (length v) m) none
@@ -335,6 +346,26 @@ module _ (n set : ℕ) (visible : List ℕ) (sheet script w v u : List ℤ) (m :
             (lent-again (workspaceSize n) true true w x w' lent (y .1 .lent))
             (y .1 .written)
             (tight-shows n (hiddenIn set) sheet script k v' (h .holds) (y .1 .shown sheet (tight-ready k q)) (rw (y .1 .written .size) (m .values-room))))
+
+-- ---- the verdict on a script that is not loose
+
+-- no place: equal, and no word is changed
+pub narrow-equal : (n set : ℕ) (script : List ℤ) (tight : Place) (w v : List ℤ) → tight ≡ Nowhere → NarrowGiven n set script tight w v Equal w v
+narrow-equal n set script tight w v e = record {
+  equal = λ q. (refl, refl, refl);
+  tight-broken = λ k q. absurd (at-nowhere (sym q ∙ e));
+}
+
+-- a place: tight with the rule there, broken
+pub narrow-tight : (n set : ℕ) (script : List ℤ) (tight : Place) (w v : List ℤ) (k : ℕ) (r : Rule) (w' v' : List ℤ) → tight ≡ At k → r ≡ ruleIn script k
+    → SheetBroken n set r w v w' v' → NarrowGiven n set script tight w v (Tight r) w' v'
+narrow-tight n set script tight w v k r w' v' e f b = record {
+  equal = λ q. absurd (at-nowhere (sym e ∙ q));
+  tight-broken = λ i q. go i (sym e ∙ q);
+}
+  where
+    go : (i : ℕ) → At k ≡ At i → (Tight r ≡ Tight (ruleIn script i)) × SheetBroken n set (ruleIn script i) w v w' v'
+    go i q = let same : k ≡ i = cc in rw (← same, ← f) (refl, b)
 
 -- ---- marking two tables
 

@@ -91,7 +91,7 @@ ruleAt-found k c =
 
 -- ---- what it tells where a rule is found
 
-at-nowhere : {k : ℕ} → At k ≡ Nowhere → ⊥
+pub at-nowhere : {k : ℕ} → At k ≡ Nowhere → ⊥
 at-nowhere e = let z : _≡_ {A = ℕ} 0 1 = cc in omega arith
 
 -- as many quantities as a rule's literals need

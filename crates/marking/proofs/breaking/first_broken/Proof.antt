@@ -47,7 +47,8 @@ least-bounds-requires : tie.Need-least-bounds-requires
 least-bounds-requires c κs =
     let z = c .before in
     let s = z .before .before in
-    (s .pre .fits, s .pre .alone, second-room _ _ (now (s .args .workspace)) _ (mostOf z) (z .size .ensures) (s .pre .room) refl)
+    let w = now (s .args .workspace) in
+    (s .pre .fits, s .pre .alone, second-room _ _ w w (mostOf z) (z .size .ensures) (s .pre .room) refl)
 
 same-length : tie.Need-same-length
 same-length c = search needs
@@ -70,13 +71,29 @@ part-first-below-end : tie.Need-part-first-below-end
 part-first-below-end c = search needs
 
 first-below-requires : tie.Need-first-below-requires
-first-below-requires c κs = ?
+first-below-requires c κs =
+    let y = c .before .before .before .before in
+    let z = y .before .before in
+    let s = z .before .before in
+    let w = now (s .args .workspace) in
+    let m = z .size .result in
+    let u = putMid m (length w - m) w (y .least-bounds .last .1 .1 .1 .0) in
+    record {
+      most = mostOf z;
+      listed = s .pre .alone .listed;
+      rules-room = omega (arith, given-back y .size, s .pre .room);
+      least-room = second-room _ _ w u (mostOf z) (z .size .ensures) (s .pre .room) (given-back y .size);
+    }
 
 same-length-2 : tie.Need-same-length-2
 same-length-2 c = search needs
 
 returns-2 : tie.Need-returns-2
-returns-2 c = ?
+returns-2 c =
+    let g = c .before .before .before in
+    let y = g .before .before in
+    let z = y .before .before in
+    front-found _ _ _ _ _ _ _ _ (given-back y) (y .least-bounds .ensures) (g .if1 .left) _ (second-part _ _ _ (mostOf z) (z .size .ensures)) _ (c .first-below .ensures)
 
 pub first-broken-spec : {M : Type 1} → statement M
 first-broken-spec =

@@ -26,7 +26,7 @@ use Rattle.reading.specs.Meaning.{Fine, AllFine, FineLines, contentsLimit}
 use Rattle.reading.specs.Promises.{TableHolds}
 use Rattle.reading.proofs.FineRules.{contents-accepted}
 use Rattle.scripts.specs.Meaning.{tableIn}
-use Rattle.marking.proofs.Puts.{put-within}
+use Rattle.keys.proofs.Puts.{put-within}
 
 -- the table of fine rules holds the smallest bounds and means what they say
 pub rules-held : (paper : Paper) (c : Contents) → FineLines (contentsLimit paper c) c → TableHolds c (tableIn c)

@@ -17,7 +17,7 @@ use Rattle.rules.specs.Meaning.{names}
 use Rattle.rules.specs.Steps.{ruleOf, oppositeOf, halvedOf}
 use Rattle.tables.specs.Places.{ruleAt, findPlace}
 use Rattle.tables.specs.Tables.{putAt, putHalved, putRule, putAll, cleared, namesHidden, anyNamesHidden}
-use Rattle.elimination.specs.Hiding.{withSum, withHalf, bareBelow, pairWord, onOne, onTwo, lowestAt, pairing, anyBare, paired, contradicts, eliminated}
+use Rattle.elimination.specs.Hiding.{withSum, withHalf, bareBelow, pairWord, onOne, onTwo, liveAt, pairing, anyBare, paired, contradicts, eliminated}
 use Rattle.keys.specs.Keys.{hideUpTo, keyOf, refutedUpTo, refuted}
 use Rattle.marking.specs.declared.verdict.Verdict.the-variants.{Loose, Tight}
 use Rattle.marking.specs.Verdicts.{verdictReturned, isShown}
@@ -188,7 +188,7 @@ unfolding
     half oppositeBound smaller changeFrom change lowered
     blockStart placeOfOne placeOfPair placeOfTwo findTwo blockUpTo blockOf offsetOf isOne higherAt lowerAt
     names ruleOf oppositeOf halvedOf ruleAt findPlace putAt putHalved putRule putAll cleared
-    withSum withHalf bareBelow pairWord onOne onTwo lowestAt pairing anyBare paired contradicts eliminated
+    withSum withHalf bareBelow pairWord onOne onTwo liveAt pairing anyBare paired contradicts eliminated
     boundLimit hideUpTo keyOf refutedUpTo refuted
     breakable firstRule firstBroken verdictOf namesHidden anyNamesHidden
     andThen expect digitsFrom numeralOf cancelling writtenRule

@@ -306,7 +306,6 @@ key-word hidden n t u k l a h = go (liveAt (notYet hidden n) k) refl ∙ ap (λ 
 
 -- ---- the key copied
 
-
 -- the first table copied on, and in the copy the places of the set's quantities cleared
 module _ (n set : ℕ) (ws part ws' : List ℤ) (l : 2 * blockStart n ≤ length ws)
     (p : PartBack (blockStart n) (copiedOn (blockStart n) ws) part (setCleared n set part) ws') where

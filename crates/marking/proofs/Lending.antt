@@ -14,7 +14,6 @@ use Rattle.keys.specs.Inner.{Decided}
 use Rattle.keys.proofs.Parts.{PartBack, drop-twice}
 use Rattle.marking.specs.Meaning.{workspaceSize}
 
-
 -- of two writings, one after the other
 pub lent-again : (m : ℕ) (a b : Bool) (u v w : List ℤ) → Lent m a u v → Lent m b v w → Lent m true u w
 lent-again m a b u v w l k = record { size = k .size ∙ l .size; rest = k .rest ∙ l .rest; kept = λ e. clash refl e }

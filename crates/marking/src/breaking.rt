@@ -82,13 +82,7 @@ pub(crate) fn break_script(
 }
 
 // Writes an assignment of the sheet that breaks the rule: visible values of the key that break it, and hidden ones that complete them.
-pub(crate) fn break_sheet(
-    n: usize,
-    set: Set,
-    rule: Rule,
-    workspace: &mut [i64],
-    values: &mut [i64],
-)
+pub(crate) fn break_sheet(n: usize, set: Set, rule: Rule, workspace: &mut [i64], values: &mut [i64])
     requires { ⌜ SomeSheetBreakable n set rule (now workspace) (now values) ⌝ }
     ensures { λ _. ⌜ SheetBroken n set rule
         (now (workspace .entry)) (now (values .entry)) (now (workspace .exit)) (now (values .exit)) ⌝ }

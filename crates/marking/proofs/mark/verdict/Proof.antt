@@ -47,7 +47,7 @@ inside g =
     let r = reduceOf b in
     let s = startOf r in
     loose-inside _ _ _ _ _ _ (now (s .args .values)) _ (s .pre) (listed-visible _ _ _ _ (listOf r .list2 .ensures)) _ (b .before .before .before .before .before .if1 .left)
-        (r .reduce-sheet .ensures) _ _ (f .first-broken .ensures) _ (g .before .loose .given .1)
+    (r .reduce-sheet .ensures) _ _ (f .first-broken .ensures) _ (g .before .loose .given .1)
 
 -- the rule is that of its place and its word at the front
 ruled : (a : tie.After-rule-at) → let g = a .before .before in let k = g .before .loose .given .0 .0 in
@@ -140,7 +140,7 @@ first-broken-requires c κs =
     let r = reduceOf (c .before .before) in
     let s = startOf r in
     script-comparable _ _ _ (now (s .args .sheet)) _ (now (s .args .workspace)) (now (s .args .values)) _ (s .pre) (listed-visible _ _ _ _ (listOf r .list2 .ensures))
-        (r .reduce-sheet .ensures .lent .size)
+    (r .reduce-sheet .ensures .lent .size)
 
 enum-known-loose : tie.Need-enum-known-loose
 enum-known-loose c = search needs
@@ -157,7 +157,7 @@ narrow-verdict-requires c κs =
     let r = reduceOf b in
     let s = startOf r in
     narrow-ready _ _ _ _ _ _ _ _ (s .pre) (listed-visible _ _ _ _ (listOf r .list2 .ensures)) _ (z .before .before .if1 .left) (r .reduce-sheet .ensures)
-        _ _ (b .first-below .ensures) (second-part _ _ _ (mostOf z) (z .size .ensures)) _ _ (f .first-broken .ensures) (e .enum-told .given .1)
+    _ _ (b .first-below .ensures) (second-part _ _ _ (mostOf z) (z .size .ensures)) _ _ (f .first-broken .ensures) (e .enum-told .given .1)
 
 same-length-3 : tie.Need-same-length-3
 same-length-3 c = search needs
@@ -175,7 +175,7 @@ returns-2 c =
     let r = reduceOf b in
     let s = startOf r in
     narrow-given _ _ _ _ _ _ _ _ (s .pre) (listed-visible _ _ _ _ (listOf r .list2 .ensures)) _ (z .before .before .if1 .left) (r .reduce-sheet .ensures)
-        _ _ (b .first-below .ensures) (second-part _ _ _ (mostOf z) (z .size .ensures)) _ _ (f .first-broken .ensures) (e .enum-told .given .1) _ _ _ (v .narrow-verdict .ensures)
+    _ _ (b .first-below .ensures) (second-part _ _ _ (mostOf z) (z .size .ensures)) _ _ (f .first-broken .ensures) (e .enum-told .given .1) _ _ _ (v .narrow-verdict .ensures)
 
 cast-rule-at : tie.Need-cast-rule-at
 cast-rule-at c = omega (arith, inside c, small-start _ (mostOf (sizeOf c)))
@@ -191,7 +191,7 @@ slice-copy-out-rule-at c =
     let r = reduceOf b in
     let s = startOf r in
     loose-there _ _ _ _ _ _ (now (s .args .values)) _ (s .pre) (listed-visible _ _ _ _ (listOf r .list2 .ensures)) _ (b .before .before .before .before .before .if1 .left)
-        (r .reduce-sheet .ensures) _ _ (f .first-broken .ensures) _ (g .before .loose .given .1)
+    (r .reduce-sheet .ensures) _ _ (f .first-broken .ensures) _ (g .before .loose .given .1)
 
 rule-at-requires : tie.Need-rule-at-requires
 rule-at-requires c κs = search needs
@@ -205,7 +205,7 @@ break-script-requires c κs =
     let r = reduceOf b in
     let s = startOf r in
     loose-ready _ _ _ _ _ _ (now (s .args .values)) _ (s .pre) (listed-visible _ _ _ _ (listOf r .list2 .ensures)) _ (b .before .before .before .before .before .if1 .left)
-        (r .reduce-sheet .ensures) _ _ (f .first-broken .ensures) _ (g .before .loose .given .1) _ (ruled a)
+    (r .reduce-sheet .ensures) _ _ (f .first-broken .ensures) _ (g .before .loose .given .1) _ (ruled a)
 
 same-length-5 : tie.Need-same-length-5
 same-length-5 c = search needs
@@ -223,7 +223,7 @@ returns-3 c =
     let r = reduceOf b in
     let s = startOf r in
     loose-given _ _ _ _ _ _ (now (s .args .values)) _ (s .pre) (listed-visible _ _ _ _ (listOf r .list2 .ensures)) _ (b .before .before .before .before .before .if1 .left)
-        (r .reduce-sheet .ensures) _ _ (f .first-broken .ensures) _ (g .before .loose .given .1) _ (ruled a) _ _ (v .break-script .ensures)
+    (r .reduce-sheet .ensures) _ _ (f .first-broken .ensures) _ (g .before .loose .given .1) _ (ruled a) _ _ (v .break-script .ensures)
 
 pub verdict-spec : {M : Type 1} → statement M
 verdict-spec =

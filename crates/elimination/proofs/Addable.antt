@@ -1,6 +1,6 @@
 -- Words of rules: the sum of two addable ones fits, and what it tells that some hold none. Assumes nothing.
 use mathlib.Core.Path.{_≡_, refl}
-use mathlib.Core.Bool.{Bool, true, false, not, _||_}
+use mathlib.Core.Bool.{Bool, true, false, not, _&&_, _||_}
 use native.Mathlib.Omega.{arith}
 use lib.IntN.{ℤ, _+ℤ_}
 use mir.Syntax.{w64}
@@ -8,8 +8,8 @@ use mir.Val.{SFits, toZ, ofZ}
 use Rattle.integers.proofs.Parts.{word-value}
 use Rattle.integers.proofs.Within.{sum-word}
 use Rattle.tables.specs.Tables.{hasRule}
-use Rattle.tables.proofs.Tests.{clash}
-use Rattle.elimination.specs.Inner.{Addable, noneHeld}
+use Rattle.tables.proofs.Tests.{clash, both-true}
+use Rattle.elimination.specs.Inner.{Addable, noneHeld, allHeld}
 
 -- the sum of two addable words that hold rules is a word
 pub sum-fits : (a b : ℤ) → Addable a → Addable b → hasRule a ≡ true → hasRule b ≡ true → SFits w64 (a +ℤ b)
@@ -34,3 +34,22 @@ none-tells a b c d = go (hasRule a) (hasRule b) (hasRule c) (hasRule d)
     go false false true s e = clash e refl
     go false false false true e = clash e refl
     go false false false false e = (refl, refl, refl, refl)
+
+-- four words that are all rules
+pub record AllRules (a b c d : ℤ) : Type 0 where
+  pub first : hasRule a ≡ true
+  pub second : hasRule b ≡ true
+  pub third : hasRule c ≡ true
+  pub fourth : hasRule d ≡ true
+
+pub all-held : (a b c d : ℤ) → allHeld a b c d ≡ true → AllRules a b c d
+unfolding allHeld
+all-held a b c d e =
+    let f = both-true (hasRule a) _ e in
+    let g = both-true (hasRule b) _ (f .1) in
+    let h = both-true (hasRule c) _ (g .1) in
+    record { first = f .0; second = g .0; third = h .0; fourth = h .1 }
+
+pub held-all : (a b c d : ℤ) → hasRule a ≡ true → hasRule b ≡ true → hasRule c ≡ true → hasRule d ≡ true → allHeld a b c d ≡ true
+unfolding allHeld
+held-all a b c d e f g h = rw (e, f, g, h)

@@ -15,7 +15,7 @@ use Rattle.places.specs.Numbering.{blockStart, placeOfOne, placeOfPair, blockOf
 use Rattle.places.proofs.Numbering.{blockStart-suc, blockStart-mono, block-order, block-ends, block-below, block-unique, offset-place, higher-half, at-lower, at-below}
 use Rattle.tables.specs.Tables.{hasRule}
 use Rattle.elimination.specs.Hiding.{pairWord, loneWord, onOne, onTwo, liveAt, pairing, paired}
-use Rattle.elimination.specs.Inner.{among, Rising, Gathered}
+use Rattle.elimination.specs.Inner.{among, Rising, Gathered, fourPaired}
 use Rattle.elimination.proofs.Lists.{StandsAt, listed-place, rising-above}
 use Rattle.elimination.proofs.PairedWords.{pairing-one, pairing-two, pairing-dead}
 use Rattle.elimination.proofs.Fewer.{one-silent, high-silent}
@@ -297,3 +297,8 @@ paired-rows n j live t plus minus p m g e d = rw (e, d)
     t
     (λ k l. pairing-same (among live) n (wordAt plus) (wordAt minus) (pairWord t (2 * j)) (pairWord t (2 * j + 1)) (loneWord t (2 * j)) (loneWord t (2 * j + 1)) k
     (wordAt t k) (g .plus-bounds) (g .minus-bounds) l))
+
+-- the sums at four places are those of equal bounds
+pub four-same : (t : List ℤ) (at : ℕ) {a b c d e f g h a' b' c' d' e' f' g' h' : ℤ} → a ≡ a' → b ≡ b' → c ≡ c' → d ≡ d' → e ≡ e' → f ≡ f' → g ≡ g' → h ≡ h'
+    → fourPaired t at a b c d e f g h ≡ fourPaired t at a' b' c' d' e' f' g' h'
+four-same t at p q r s u v w z = rw (p, q, r, s, u, v, w, z)

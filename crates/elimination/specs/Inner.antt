@@ -1,7 +1,7 @@
 -- What the functions of the step ask, and what its loops gather and put in: for those who read the code. What a caller has to believe is in Promises, but
 -- for `pair_blocks`, by which the tightest table is made too. Sums fit, so sums are asked of words that add. The live quantities are listed in increasing number, each by its
 -- number less one; a row has the bounds of one literal with each literal of theirs, by literal, and what else stands in it does not matter.
-use mathlib.Core.Bool.{Bool, true, false, not, _||_}
+use mathlib.Core.Bool.{Bool, true, false, not, _&&_, _||_}
 use mathlib.Core.Path.{_≡_}
 use mathlib.Core.List.{List}
 use Prim.Native.Nat.{ℕ, suc, _+_, _*_, _/_, _≤_, _<_}
@@ -14,7 +14,7 @@ use Rattle.rules.specs.Limits.{maxQuantities}
 use Rattle.rules.specs.Hidden.{isListed}
 use Rattle.tables.specs.Tables.{hasRule}
 use Rattle.tables.specs.Meaning.{WordsWithin}
-use Rattle.elimination.specs.Hiding.{pairWord, pairing}
+use Rattle.elimination.specs.Hiding.{withSum, pairWord, pairing}
 use Rattle.elimination.specs.Magnitude.{addLimit, valueLimit, Unnamed}
 
 -- a word is no rule, or a bound small enough to be added to another
@@ -126,6 +126,27 @@ pub record BlocksReady (n : ℕ) (live : List ℕ) (table plus minus : List ℤ)
 
 pub record BlocksPaired (n : ℕ) (live : List ℕ) (plus minus : List ℤ) (p m : ℤ) (before after : List ℤ) : Type 0 where
   pub table : after ≡ change (blockStart n) (pairing (among live) (wordAt plus) (wordAt minus) p m) before
+
+-- the sums put in at the place of two literals x and y, given the bounds of each with + and - of the paired quantity
+abbrev pub twoPaired : List ℤ → ℕ → ℤ → ℤ → ℤ → ℤ → List ℤ
+twoPaired t at plus-x minus-x plus-y minus-y = set t at (withSum plus-x minus-y (withSum minus-x plus-y (wordAt t at)))
+
+-- and at the four places of two quantities, those of x with y, x with -y, -x with y and -x with -y
+abbrev pub fourPaired : List ℤ → ℕ → ℤ → ℤ → ℤ → ℤ → ℤ → ℤ → ℤ → ℤ → List ℤ
+fourPaired t at plus-x minus-x plus-not-x minus-not-x plus-y minus-y plus-not-y minus-not-y =
+    twoPaired (twoPaired (twoPaired (twoPaired t at plus-x minus-x plus-y minus-y) (at + 1) plus-x minus-x plus-not-y minus-not-y) (at + 2) plus-not-x minus-not-x plus-y minus-y)
+    (at + 3) plus-not-x minus-not-x plus-not-y minus-not-y
+
+-- each of four bounds can be added
+pub record FourAddable (a b c d : ℤ) : Type 0 where
+  pub first : Addable a
+  pub second : Addable b
+  pub third : Addable c
+  pub fourth : Addable d
+
+-- each of four words is a rule: the test by which the code adds without further tests
+unfoldable pub allHeld : ℤ → ℤ → ℤ → ℤ → Bool
+allHeld a b c d = hasRule a && (hasRule b && (hasRule c && hasRule d))
 
 -- none of four words is a rule: the test by which the code passes over a block to which no sum goes
 unfoldable pub noneHeld : ℤ → ℤ → ℤ → ℤ → Bool

@@ -4,13 +4,14 @@
 use crate::bare;
 use crate::row;
 use crate::word;
+ghost use mathlib.Core.Bool.{true};
 ghost use mathlib.Core.Path.{_≡_};
-ghost use Prim.Native.Nat.{_<_};
+ghost use Prim.Native.Nat.{_+_, _<_};
 ghost use lib.ListN.{length, set, getD};
 ghost use Rattle.words.specs.Change.{wordAt};
 ghost use Rattle.elimination.specs.Hiding.{withSum, withHalf};
 ghost use Rattle.elimination.specs.Promises.{Paired};
-ghost use Rattle.elimination.specs.Inner.{Addable, among, StepReady, BlockReady, BlockPaired, BlocksReady, BlocksPaired, TwosReady, TwosPaired};
+ghost use Rattle.elimination.specs.Inner.{Addable, FourAddable, allHeld, twoPaired, fourPaired, among, StepReady, BlockReady, BlockPaired, BlocksReady, BlocksPaired, TwosReady, TwosPaired};
 
 // Puts the sums in at the place `at` of two literals, given the bounds of each with the quantity and + and with it and -.
 fn pair_two(table: &mut [i64], at: usize, plus_x: i64, minus_x: i64, plus_y: i64, minus_y: i64)
@@ -19,6 +20,125 @@ fn pair_two(table: &mut [i64], at: usize, plus_x: i64, minus_x: i64, plus_y: i64
 {
     let w = table[at];
     table[at] = word::with_sum(plus_x, minus_y, word::with_sum(minus_x, plus_y, w));
+}
+
+// The same where each of the bounds is a rule: nothing is tested.
+fn add_two(table: &mut [i64], at: usize, plus_x: i64, minus_x: i64, plus_y: i64, minus_y: i64)
+    requires { ⌜ (at < length (now table)) × FourAddable «plus_x» «minus_x» «plus_y» «minus_y» ⌝ }
+    requires { ⌜ allHeld «plus_x» «minus_x» «plus_y» «minus_y» ≡ true ⌝ }
+    ensures { λ _. ⌜ now (table .exit) ≡ twoPaired (now (table .entry)) at «plus_x» «minus_x» «plus_y» «minus_y» ⌝ }
+{
+    let w = integers::minimum(table[at], minus_x + plus_y);
+    table[at] = integers::minimum(w, plus_x + minus_y);
+}
+
+// Puts the sums in at the four places of two quantities, `at` being the first, given the bounds of the literals of each.
+fn pair_four(
+    table: &mut [i64],
+    at: usize,
+    plus_x: i64,
+    minus_x: i64,
+    plus_not_x: i64,
+    minus_not_x: i64,
+    plus_y: i64,
+    minus_y: i64,
+    plus_not_y: i64,
+    minus_not_y: i64,
+)
+    requires { ⌜ (at + 3 < length (now table)) × FourAddable «plus_x» «minus_x» «plus_not_x» «minus_not_x» × FourAddable «plus_y» «minus_y» «plus_not_y» «minus_not_y» ⌝ }
+    ensures { λ _. ⌜ now (table .exit) ≡ fourPaired (now (table .entry)) at «plus_x» «minus_x» «plus_not_x» «minus_not_x» «plus_y» «minus_y» «plus_not_y» «minus_not_y» ⌝ }
+{
+    pair_two(table, at, plus_x, minus_x, plus_y, minus_y);
+    pair_two(table, at + 1, plus_x, minus_x, plus_not_y, minus_not_y);
+    pair_two(table, at + 2, plus_not_x, minus_not_x, plus_y, minus_y);
+    pair_two(
+        table,
+        at + 3,
+        plus_not_x,
+        minus_not_x,
+        plus_not_y,
+        minus_not_y,
+    );
+}
+
+// The same where each of the bounds is a rule.
+fn add_four(
+    table: &mut [i64],
+    at: usize,
+    plus_x: i64,
+    minus_x: i64,
+    plus_not_x: i64,
+    minus_not_x: i64,
+    plus_y: i64,
+    minus_y: i64,
+    plus_not_y: i64,
+    minus_not_y: i64,
+)
+    requires { ⌜ (at + 3 < length (now table)) × FourAddable «plus_x» «minus_x» «plus_not_x» «minus_not_x» × FourAddable «plus_y» «minus_y» «plus_not_y» «minus_not_y» ⌝ }
+    requires { ⌜ (allHeld «plus_x» «minus_x» «plus_not_x» «minus_not_x» ≡ true) × (allHeld «plus_y» «minus_y» «plus_not_y» «minus_not_y» ≡ true) ⌝ }
+    ensures { λ _. ⌜ now (table .exit) ≡ fourPaired (now (table .entry)) at «plus_x» «minus_x» «plus_not_x» «minus_not_x» «plus_y» «minus_y» «plus_not_y» «minus_not_y» ⌝ }
+{
+    add_two(table, at, plus_x, minus_x, plus_y, minus_y);
+    add_two(table, at + 1, plus_x, minus_x, plus_not_y, minus_not_y);
+    add_two(table, at + 2, plus_not_x, minus_not_x, plus_y, minus_y);
+    add_two(
+        table,
+        at + 3,
+        plus_not_x,
+        minus_not_x,
+        plus_not_y,
+        minus_not_y,
+    );
+}
+
+// Puts the sums in at these four places; `full` tells whether each bound of the second quantity is a rule. In a table with many rules most are, and then only the bounds of the first one
+// are tested.
+fn put_four(
+    table: &mut [i64],
+    at: usize,
+    plus_x: i64,
+    minus_x: i64,
+    plus_not_x: i64,
+    minus_not_x: i64,
+    plus_y: i64,
+    minus_y: i64,
+    plus_not_y: i64,
+    minus_not_y: i64,
+    full: bool,
+)
+    requires { ⌜ (at + 3 < length (now table)) × FourAddable «plus_x» «minus_x» «plus_not_x» «minus_not_x» × FourAddable «plus_y» «minus_y» «plus_not_y» «minus_not_y» ⌝ }
+    requires { ⌜ full ≡ allHeld «plus_y» «minus_y» «plus_not_y» «minus_not_y» ⌝ }
+    ensures { λ _. ⌜ now (table .exit) ≡ fourPaired (now (table .entry)) at «plus_x» «minus_x» «plus_not_x» «minus_not_x» «plus_y» «minus_y» «plus_not_y» «minus_not_y» ⌝ }
+{
+    if full {
+        if word::are_all(plus_x, minus_x, plus_not_x, minus_not_x) {
+            add_four(
+                table,
+                at,
+                plus_x,
+                minus_x,
+                plus_not_x,
+                minus_not_x,
+                plus_y,
+                minus_y,
+                plus_not_y,
+                minus_not_y,
+            );
+            return;
+        }
+    }
+    pair_four(
+        table,
+        at,
+        plus_x,
+        minus_x,
+        plus_not_x,
+        minus_not_x,
+        plus_y,
+        minus_y,
+        plus_not_y,
+        minus_not_y,
+    );
 }
 
 // Puts the sums in at the terms of the live quantity of place `i` in the list with each lower one.
@@ -33,25 +153,24 @@ fn pair_twos(table: &mut [i64], i: usize, live: &[usize], plus: &[i64], minus: &
     let minus_y = minus[y];
     let plus_not_y = plus[y + 1];
     let minus_not_y = minus[y + 1];
+    let full = word::are_all(plus_y, minus_y, plus_not_y, minus_not_y);
     let mut h = 0;
     while h < i {
         let a = live[h];
         let x = 2 * a;
         let at = start + 4 * a;
-        let plus_x = plus[x];
-        let minus_x = minus[x];
-        pair_two(table, at, plus_x, minus_x, plus_y, minus_y);
-        pair_two(table, at + 1, plus_x, minus_x, plus_not_y, minus_not_y);
-        let plus_not_x = plus[x + 1];
-        let minus_not_x = minus[x + 1];
-        pair_two(table, at + 2, plus_not_x, minus_not_x, plus_y, minus_y);
-        pair_two(
+        put_four(
             table,
-            at + 3,
-            plus_not_x,
-            minus_not_x,
+            at,
+            plus[x],
+            minus[x],
+            plus[x + 1],
+            minus[x + 1],
+            plus_y,
+            minus_y,
             plus_not_y,
             minus_not_y,
+            full,
         );
         h = h + 1;
     }

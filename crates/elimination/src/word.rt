@@ -1,8 +1,8 @@
-// The operations on the words of a step: a sum put in by minimum, the same halved, the test of a bare sum, and the test that four words are no rules.
+// The operations on the words of a step: a sum put in by minimum, the same halved, the test of a bare sum, and the tests that none or all of four words are rules.
 use rules::sheet::Sheet;
 ghost use mathlib.Core.Path.{_≡_};
 ghost use Rattle.elimination.specs.Hiding.{withSum, withHalf, bareBelow};
-ghost use Rattle.elimination.specs.Inner.{Addable, noneHeld};
+ghost use Rattle.elimination.specs.Inner.{Addable, noneHeld, allHeld};
 
 // `w` with the sum of two bounds put in by minimum; `w` where either is no rule.
 pub(crate) fn with_sum(a: i64, b: i64, w: i64) -> i64
@@ -60,4 +60,18 @@ pub(crate) fn are_none(a: i64, b: i64, c: i64, d: i64) -> bool
         return false;
     }
     true
+}
+
+// Whether each of four words is a rule.
+pub(crate) fn are_all(a: i64, b: i64, c: i64, d: i64) -> bool
+    ensures { λ r. ⌜ r ≡ allHeld a b c d ⌝ }
+{
+    if a < Sheet::NO_RULE {
+        if b < Sheet::NO_RULE {
+            if c < Sheet::NO_RULE {
+                return d < Sheet::NO_RULE;
+            }
+        }
+    }
+    false
 }

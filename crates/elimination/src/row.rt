@@ -30,7 +30,7 @@ fn gather_pair(table: &[i64], j: usize, a: usize, plus: &mut [i64], minus: &mut 
     minus[x + 1] = Sheet::NO_RULE;
 }
 
-// Gathers the bounds of quantity `j + 1` with each live quantity.
+// Gathers the bounds of quantity `j + 1` with each live quantity. The other words of the rows are free.
 pub(crate) fn gather(
     n: usize,
     table: &[i64],

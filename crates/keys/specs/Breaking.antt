@@ -31,7 +31,7 @@ pub record RuleBreakable (n set : ℕ) (table : List ℤ) (r : Rule) (values : L
   pub breaks : Breaks (Satisfies n table) r
   pub values-room : n ≤ length values
 
--- the values found: they satisfy the table and break the rule, are 0 in the set, and add up the limits of the quantities outside it at most
+-- the values found: they satisfy the table and break the rule, are 0 in the set, and are at most limit · (2 ^ v - 1) in magnitude, with v quantities outside it
 pub record RuleBroken (n set : ℕ) (table : List ℤ) (r : Rule) (values table' values' : List ℤ) : Type 0 where
   pub lent : Lent (blockStart n) true table table'
   pub written : Lent n true values values'

@@ -42,7 +42,8 @@ abbrev pub memberOf : ℕ → Part → ℕ → Bool
 memberOf set Inside q = hiddenIn set q
 memberOf set Outside q = outside set q
 
--- is quantity i + 1 live when those of the part among the first `from` have had their turn? All others are, but where the part is outside the set none of those in it
+-- is quantity i + 1 live when those of the part among the first `from` quantities have had their turn? All others are where the part is inside the set; where it is outside, of the others
+-- none in the set is
 abbrev pub stillLive : ℕ → Part → ℕ → ℕ → Bool
 stillLive set Inside from i = leb from i || outside set (suc i)
 stillLive set Outside from i = leb from i && outside set (suc i)
@@ -123,13 +124,6 @@ pub record Readable (members : ℕ → Bool) (n wide : ℕ) (t table values : Li
   pub values-room : n ≤ length values
   pub others : (i : ℕ) → i < n → members (suc i) ≡ false → Within (pos wide) (wordAt values i)
   pub last : wide + (fits .limit * 2 ^ hiddenCount members n - fits .limit) < 2 ^ 62
-
--- the values of the members: where the values of the others satisfy the table with the members hidden, all of them satisfy it
-pub record ValuesRead (members : ℕ → Bool) (n wide : ℕ) (t table values values' : List ℤ) (r : Readable members n wide t table values) : Type 0 where
-  pub meaning : Satisfies n (keyOf members n t) (assignmentOf values) → Satisfies n t (assignmentOf values')
-  pub others : (i : ℕ) → i < n → members (suc i) ≡ false → wordAt values' i ≡ wordAt values i
-  pub within : (i : ℕ) → i < n → Within (pos (wide + (r .fits .limit * 2 ^ hiddenCount members n - r .fits .limit))) (wordAt values' i)
-  pub lent : Lent n true values values'
 
 -- a part of a table in which it was eliminated
 pub record PartReadable (n set : ℕ) (part : Part) (table values : List ℤ) : Type 0 where

@@ -41,7 +41,7 @@ fn hide_member(
 }
 
 // Hides each quantity of the set in increasing number.
-pub fn hide_set(n: usize, set: Set, table: &mut [i64])
+fn hide_set(n: usize, set: Set, table: &mut [i64])
     requires { ⌜ Fits n (now table) ⌝ }
     ensures { λ _. ⌜ now (table .exit) ≡ keyOf (hiddenIn set) n (now (table .entry)) ⌝ }
 {

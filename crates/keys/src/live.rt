@@ -33,8 +33,8 @@ pub(crate) fn is_member(set: Set, part: Part, j: usize) -> bool
     }
 }
 
-// Whether quantity `i + 1` is live when the first `from` of the part have had their turn: of those in the set the later ones, and none where the part is outside it; of those outside it
-// all, and only the later ones where they are the part.
+// Whether quantity `i + 1` is live when those of the part among the first `from` quantities have had their turn: of those in the set the later ones, and none where the part is outside it; of
+// those outside it all, and only the later ones where they are the part.
 fn is_live(set: Set, part: Part, from: usize, i: usize) -> bool
     requires { ⌜ i < maxQuantities ⌝ }
     ensures { λ r. ⌜ r ≡ stillLive set part from i ⌝ }
@@ -55,7 +55,7 @@ fn is_live(set: Set, part: Part, from: usize, i: usize) -> bool
     }
 }
 
-// Lists the live quantities of `n`, and answers how many they are.
+// Lists the live quantities of `n`, and answers how many they are. The other words of `out` are free.
 pub fn list(n: usize, set: Set, part: Part, from: usize, out: &mut [usize]) -> usize
     requires { ⌜ (n ≤ maxQuantities) × (n ≤ length (now out)) ⌝ }
     ensures { λ r. ⌜ LiveListed n set part from r (now (out .exit)) ⌝ }

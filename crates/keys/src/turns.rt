@@ -30,7 +30,7 @@ fn take_turn(
     pair::pair(n, table, j, &list[..count], plus, minus)
 }
 
-// Pairs each quantity of the part in increasing number with all but those of it before, and answers whether a contradiction is met, at which it stops. Where the part is outside the set,
+// Pairs each quantity of the part in increasing number with all but those of it before, and answers whether a contradiction is met, at which it stops: then no integers satisfy the table. Where the part is outside the set,
 // those in it take no part: no rule names them.
 pub fn eliminate(n: usize, set: Set, part: Part, table: &mut [i64]) -> bool
     requires { ⌜ PartFits n set part (now table) ⌝ }

@@ -18,7 +18,7 @@ use Rattle.rules.specs.Steps.{trivialRule, oppositeOf}
 use Rattle.rules.proofs.Meanings.{opposite-bound, opposite-meaning}
 use Rattle.tables.specs.Places.{ruleAt}
 use Rattle.tables.specs.Tables.{hasRule, putRule}
-use Rattle.tables.specs.Meaning.{HoldsRule, ruleIn, Satisfies, Breaks}
+use Rattle.tables.specs.Meaning.{HoldsRule, ruleIn, Satisfies, Solutions, Breaks}
 use Rattle.tables.proofs.Places.{ruleAt-bound, ruleAt-hasPlace}
 use Rattle.tables.proofs.Putting.{hasPlace-put}
 use Rattle.tables.proofs.Tests.{clash, both-true}
@@ -27,10 +27,14 @@ use Rattle.keys.specs.Keys.{refuted}
 use Rattle.keys.specs.Inner.{Fits}
 use Rattle.keys.proofs.Several.{refuted-true, refuted-false}
 use Rattle.keys.proofs.Fitting.{hide-ample}
-use Rattle.marking.specs.Meaning.{FirstAt, FirstBroken, NoneBroken}
+use Rattle.marking.specs.Meaning.{FirstAt, FirstBroken}
 use Rattle.marking.specs.Marking.{breakable, firstRule, firstBroken}
 use Rattle.marking.proofs.Carried.{ruleAt-term}
 use Rattle.keys.proofs.Opposites.{opposed-satisfies}
+
+-- none of a table's rules is broken by a paper
+abbrev pub NoneBroken : ℕ → List ℤ → Solutions → Type 0
+NoneBroken n rules paper = (k : ℕ) → HoldsRule n rules k → Breaks paper (ruleIn rules k) → ⊥
 
 -- a rule is breakable exactly when some assignment of the table breaks it
 pub breakable-exactly : (n : ℕ) (t : List ℤ) (k : ℕ) (c : ℤ) → blockStart n ≤ length t → k < blockStart n → hasRule (oppositeBound c) ≡ true

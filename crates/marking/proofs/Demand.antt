@@ -32,10 +32,10 @@ use Rattle.keys.proofs.Deciding.{refuted-exactly}
 use Rattle.marking.specs.declared.verdict.Verdict.{Verdict}
 use Rattle.marking.specs.declared.verdict.Verdict.the-variants.{Equal, Loose, Tight}
 use Rattle.marking.specs.Verdicts.{verdictNumber}
-use Rattle.marking.specs.Meaning.{AllowSame, IsLoose, IsNarrow, IsTight, ByDemand, FirstAt, FirstBroken, NoneBroken, LooseRule, TightRule}
+use Rattle.marking.specs.Meaning.{AllowSame, IsLoose, IsNarrow, IsTight, ByDemand, FirstAt, FirstBroken, LooseRule, TightRule}
 use Rattle.marking.specs.Marking.{firstBroken, orElse, verdictOf}
 use Rattle.marking.specs.Inner.{TablesAccepted}
-use Rattle.marking.proofs.Breakable.{Exactly, breakable-exactly, first-some, first-none}
+use Rattle.marking.proofs.Breakable.{NoneBroken, Exactly, breakable-exactly, first-some, first-none}
 use Rattle.marking.proofs.Opposed.{key-room, sheet-fitting, script-fitting, tight-opposed, loose-opposed, tight-small, loose-small}
 
 -- ---- the three conditions exclude each other, so the one that holds gives the number

@@ -25,8 +25,9 @@ use Rattle.elimination.specs.Inner.{among}
 use Rattle.elimination.proofs.Terms.{higher-named, lower-named}
 use Rattle.keys.specs.Inner.{outside}
 use Rattle.tightening.specs.Below.{BelowAt, FirstBelow, LivePlace}
-use Rattle.marking.specs.Meaning.{FirstAt, NoneBroken}
+use Rattle.marking.specs.Meaning.{FirstAt}
 use Rattle.marking.specs.Inner.{VisibleListed, Seen, FirstSeen}
+use Rattle.marking.proofs.Breakable.{NoneBroken}
 
 -- ---- from least bounds to what is broken
 

@@ -46,13 +46,13 @@ use Rattle.marking.specs.declared.verdict.Marking.the-variants.{Marked, 
 use Rattle.marking.specs.declared.verdict.Marking.{Marking}
 use Rattle.marking.specs.Verdicts.{verdictNumber, carriedRule, verdictReturned, markingReturned, isMarked}
 use Rattle.marking.specs.Marking.{firstBroken, orElse, verdictOf, markChecks, markedAs, markReply}
-use Rattle.marking.specs.Meaning.{FirstAt, NoneBroken, LooseShown, TightShown, VerdictMeans, workspaceSize, markNeeds}
+use Rattle.marking.specs.Meaning.{FirstAt, LooseShown, TightShown, VerdictMeans, workspaceSize, markNeeds}
 use Rattle.marking.specs.Promises.{TablesMarked}
 use Rattle.marking.specs.Inner.{TablesAccepted, VerdictGiven, VisibleListed, SheetReducible, SheetReduced, ScriptComparable, FrontFound}
 use Rattle.marking.specs.Inner.{ScriptBreakable, ScriptBroken, SheetBreakable, SheetBroken, NarrowReady, NarrowGiven}
 use Rattle.marking.proofs.Checking.{mark-tied, met-accepted}
 use Rattle.marking.proofs.Carried.{verdict-refusal, ruleAt-term, first-alike, loose-alike, loose-shown-alike, tight-shown-alike}
-use Rattle.marking.proofs.Breakable.{Exactly, first-at, first-nowhere}
+use Rattle.marking.proofs.Breakable.{NoneBroken, Exactly, first-at, first-nowhere}
 use Rattle.marking.proofs.Opposed.{key-room, sheet-fitting, sheet-hides, key-fitting, script-rest, script-fitting, loose-breakable, tight-breakable, tight-values}
 use Rattle.marking.proofs.Finding.{below-seen, Found, seen-found}
 use Rattle.marking.proofs.Lending.{lent-again, decided-lent}

@@ -1,4 +1,4 @@
--- What the functions inside ask and answer; no promise of marking rests on it. Verdicts go through the key: a rule of the script that some assignment of the sheet breaks is one that some assignment of the key
+-- What the functions inside ask and answer; no promise of marking rests on it, but `mark::verdict`, for tables that were checked before, promises `VerdictGiven`. Verdicts go through the key: a rule of the script that some assignment of the sheet breaks is one that some assignment of the key
 -- breaks, and hidden values complete that one.
 use mathlib.Core.Bool.{Bool, true, false}
 use mathlib.Core.Path.{_≡_}

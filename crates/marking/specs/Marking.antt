@@ -47,7 +47,8 @@ orElse carry (Two x y c) next = carry (Two x y c)
 orElse carry (Nothing c) next = next
 
 -- of a sheet that no integers satisfy: equal where none satisfy the script, and else loose with no rule. Of others: loose where some assignment of the script
--- breaks a rule of the key, tight where some assignment of the key breaks a rule of the script, and else equal. What the key allows hidden values complete to an assignment of the sheet
+-- breaks a rule of the key, tight where some assignment of the key breaks a rule of the script, and else equal. Document 01 says the last of the sheet: it is the same of a script that names
+-- visible quantities alone, as the checks ask, for by demand 2 hidden values complete what the key allows (`TightRule` says it of the sheet)
 unfoldable pub verdictOf : (ℕ → Bool) → ℕ → List ℤ → List ℤ → Verdict
 verdictOf hidden n sheet script =
     cond (refuted n sheet)

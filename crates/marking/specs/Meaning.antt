@@ -72,10 +72,6 @@ pub record FirstBroken (n : ℕ) (rules : List ℤ) (solutions : Solutions) (r :
   pub is : r ≡ ruleIn rules place
   pub at : FirstAt n rules solutions place
 
--- none of the table's rules is broken
-abbrev pub NoneBroken : ℕ → List ℤ → Solutions → Type 0
-NoneBroken n rules solutions = (k : ℕ) → HoldsRule n rules k → Breaks solutions (ruleIn rules k) → ⊥
-
 -- a loose verdict carries the first key rule by place that some assignment allowed by the script breaks, and none where the sheet itself allows nothing
 abbrev pub LooseRule : (ℕ → Bool) → ℕ → List ℤ → Solutions → Rule → Type 0
 LooseRule hidden n sheet script r =
@@ -116,7 +112,7 @@ pub record TightShown (n : ℕ) (hidden : ℕ → Bool) (sheet script : Solution
 pub record VerdictMeans (n set : ℕ) (sheet script : Solutions) (sheet-table script-table : List ℤ) (returned : Returned) (values : List ℤ) : Type 0 where
   pub demand : ByDemand (hiddenIn set) sheet script (returned .number)
   pub visibles : ByVisible n (hiddenIn set) sheet script
-  -- the key of which a loose verdict carries a rule is one by demand 2
+  -- the key of which a loose verdict carries a rule, and by which a tight one is found, is one by demand 2
   pub key : Satisfiable n sheet-table → KeyMade n set sheet-table (keyOf (hiddenIn set) n sheet-table)
   -- the rule is the one whose values are returned
   pub loose : (rule : Rule) → returned ≡ verdictReturned (Loose rule)

@@ -1,6 +1,7 @@
 // The first rule by place that some assignment of a table breaks, and an assignment that breaks a rule. Whether a rule is broken is one comparison with the least bound of its
 // term, so all of a table's rules are decided in O(n³) steps. The workspace has room for two tables: the sheet's at its front, with the hidden quantities eliminated, so that the places of
-// visible ones have the key; at its back the one that is made the tightest or broken.
+// visible ones have the key; at its back the one that is made the tightest or broken. For a loose verdict the script takes the front, for
+// the key's rule is known then.
 use keys::breaking;
 use keys::copies;
 use keys::live::Part;

@@ -7,7 +7,7 @@ ghost use lib.IntN.{_+ℤ_};
 ghost use Rattle.rules.specs.declared.rule.Rule.the-variants.{One};
 ghost use Rattle.rules.specs.declared.rule.Partner.the-variants.{With};
 ghost use Rattle.rules.specs.Literal.{literalOf};
-ghost use Rattle.rules.specs.Meaning.{boundOf, hasTerm};
+ghost use Rattle.rules.specs.Meaning.{boundOf};
 ghost use Rattle.rules.specs.Steps.{trivialRule, partnerOf, restRule, fitted};
 ghost use Rattle.rules.specs.Promises.{Made, Opposite, Halved, Added};
 
@@ -73,24 +73,6 @@ impl Rule {
                 bound,
             } => bound,
             Rule::Nothing { bound } => bound,
-        }
-    }
-
-    // Whether it is a rule of one or two quantities, and not a bare one.
-    pub fn has_term(self) -> bool
-        ensures { λ r. ⌜ r ≡ hasTerm self ⌝ }
-    {
-        match self {
-            Rule::One {
-                literal: _,
-                bound: _,
-            } => true,
-            Rule::Two {
-                first: _,
-                second: _,
-                bound: _,
-            } => true,
-            Rule::Nothing { bound: _ } => false,
         }
     }
 

@@ -47,19 +47,19 @@ RunPlace start count k = (start ≤ k) × (k < start + count)
 
 -- ---- what the functions ask: two tables that have the words of these places
 
-pub record Readable (n : ℕ) (live : List ℕ) (rules least : List ℤ) : Type 0 where
+pub record Comparable (n : ℕ) (live : List ℕ) (rules least : List ℤ) : Type 0 where
   pub most : n ≤ maxQuantities
   pub listed : Listed n live
   pub rules-room : blockStart n ≤ length rules
   pub least-room : blockStart n ≤ length least
 
-pub record BlockReadable (i : ℕ) (live : List ℕ) (rules least : List ℤ) : Type 0 where
+pub record BlockComparable (i : ℕ) (live : List ℕ) (rules least : List ℤ) : Type 0 where
   pub some : i < length live
   pub rising : Rising live
   pub most : getD live i 0 < maxQuantities
   pub rules-room : blockStart (suc (getD live i 0)) ≤ length rules
   pub least-room : blockStart (suc (getD live i 0)) ≤ length least
 
-pub record RunReadable (start count : ℕ) (rules least : List ℤ) : Type 0 where
+pub record RunComparable (start count : ℕ) (rules least : List ℤ) : Type 0 where
   pub rules-room : start + count ≤ length rules
   pub least-room : start + count ≤ length least

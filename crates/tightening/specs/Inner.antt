@@ -1,4 +1,4 @@
--- What the functions inside ask and answer: for those who read the code. What a caller has to believe is in Promises.
+-- What the functions inside ask and answer: for those who read the code. What a caller has to believe is in Promises and Below.
 use mathlib.Core.Bool.{Bool, true, false}
 use mathlib.Core.Path.{_≡_}
 use mathlib.Core.List.{List}

@@ -1,4 +1,4 @@
--- What tightening promises. What the functions inside ask is in Inner.
+-- What tightening promises. What it asks is in `Inner` of keys, what the functions inside ask in Inner.
 use mathlib.Core.Bool.{Bool, true, false}
 use mathlib.Core.Path.{_≡_}
 use mathlib.Core.Logic.{_↔_}

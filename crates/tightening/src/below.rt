@@ -2,11 +2,11 @@
 use places::Place;
 use rules::sheet::Sheet;
 ghost use lib.ListN.{getD};
-ghost use Rattle.tightening.specs.Below.{FirstBelow, LivePlace, BlockPlace, RunPlace, Readable, BlockReadable, RunReadable};
+ghost use Rattle.tightening.specs.Below.{FirstBelow, LivePlace, BlockPlace, RunPlace, Comparable, BlockComparable, RunComparable};
 
 // The first of `count` places from `at` on whose word is a rule, and smaller than that of `least`.
 fn first_of(rules: &[i64], least: &[i64], at: usize, count: usize) -> Place
-    requires { ⌜ RunReadable at count (now rules) (now least) ⌝ }
+    requires { ⌜ RunComparable at count (now rules) (now least) ⌝ }
     ensures { λ r. ⌜ FirstBelow (RunPlace at count) (now (rules .entry)) (now (least .entry)) r ⌝ }
 {
     let mut i = 0;
@@ -24,7 +24,7 @@ fn first_of(rules: &[i64], least: &[i64], at: usize, count: usize) -> Place
 
 // The first such place in the block of the live quantity of place `i` in the list.
 fn first_in_block(live: &[usize], i: usize, rules: &[i64], least: &[i64]) -> Place
-    requires { ⌜ BlockReadable i (now live) (now rules) (now least) ⌝ }
+    requires { ⌜ BlockComparable i (now live) (now rules) (now least) ⌝ }
     ensures { λ r. ⌜ FirstBelow (BlockPlace (getD (now (live .entry)) i 0) (now (live .entry))) (now (rules .entry)) (now (least .entry)) r ⌝ }
 {
     let b = live[i];
@@ -46,7 +46,7 @@ fn first_in_block(live: &[usize], i: usize, rules: &[i64], least: &[i64]) -> Pla
 
 // The first such place of live quantities of `n`.
 pub fn first_below(n: usize, live: &[usize], rules: &[i64], least: &[i64]) -> Place
-    requires { ⌜ Readable n (now live) (now rules) (now least) ⌝ }
+    requires { ⌜ Comparable n (now live) (now rules) (now least) ⌝ }
     ensures { λ r. ⌜ FirstBelow (LivePlace n (now (live .entry))) (now (rules .entry)) (now (least .entry)) r ⌝ }
 {
     let mut i = 0;

@@ -1,3 +1,3 @@
-// The tightest table: the least bound of every term, in one table and O(n³) steps.
+// The tightest table: the least bound of every term, in one table and O(n³) steps; and the first rule of a table that is below the word of another one.
 pub mod below;
 pub mod tighten;

@@ -1,4 +1,4 @@
-// The tightest table of a table that some integers satisfy: every quantity is paired with all others and nothing is cleared; then each term of two literals
+// The tightest table of a table that some integers satisfy: every quantity is paired with all others that rules name, the live ones, and nothing is cleared; then each term of two literals
 // gets the sum of their bounds alone.
 use elimination::pair;
 use keys::live;

@@ -6,4 +6,5 @@ pub mod copies;
 pub mod decide;
 pub mod key;
 pub mod live;
+pub mod room;
 pub mod turns;

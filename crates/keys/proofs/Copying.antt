@@ -21,7 +21,7 @@ use Rattle.elimination.proofs.TermWords.{quantity-cases, pair-same, pair-first,
 use Rattle.elimination.proofs.Step.{paired-length}
 use Rattle.elimination.proofs.Alike.{alike-word, alike-contradicts}
 use Rattle.keys.specs.declared.live.Part.{Part}
-use Rattle.keys.specs.Keys.{hideUpTo}
+use Rattle.keys.specs.Keys.{hideUpTo, keyOf}
 use Rattle.keys.specs.Inner.{memberOf, SetFits, Fits, PartFits, turnAt, AtTurns}
 use Rattle.keys.proofs.Turning.{turn-most}
 
@@ -47,7 +47,7 @@ holds-same n t u k s p = record { inside = p .inside; there = omega (arith, p .i
 pub same-satisfies : (n : ℕ) (t u : List ℤ) (σ : Assignment) → SameTable n t u → Satisfies n t σ → Satisfies n u σ
 same-satisfies n t u σ s m = record { each = λ k p. rw (s .words k (p .inside)) (m .each k (holds-same n t u k s p)) }
 
-same-within : (n B : ℕ) (t u : List ℤ) → SameTable n t u → WordsWithin (blockStart n) (pos B) t → WordsWithin (blockStart n) (pos B) u
+pub same-within : (n B : ℕ) (t u : List ℤ) → SameTable n t u → WordsWithin (blockStart n) (pos B) t → WordsWithin (blockStart n) (pos B) u
 same-within n B t u s w = record { each = λ k a b r. rw (s .words k a) (w .each k a (omega (arith, s .mine)) (rw (s .words k a) at r)) }
 
 pub same-unnamed : (n j : ℕ) (t u : List ℤ) → SameTable n t u → Unnamed n j t → Unnamed n j u
@@ -125,6 +125,10 @@ same-hidden hidden n (suc j) t u h s = go (hidden (suc j)) (same-hidden hidden n
         → SameTable n (cond c (cleared n (suc j) (paired every n j a)) a) (cond c (cleared n (suc j) (paired every n j b)) b)
     go true r = same-cleared n (paired every n j a) (paired every n j b) (same-paired n a b r every j (omega arith)) (suc j)
     go false r = r
+
+pub same-key : (hidden : ℕ → Bool) (n : ℕ) (t u : List ℤ) → SameTable n t u → SameTable n (keyOf hidden n t) (keyOf hidden n u)
+unfolding keyOf
+same-key hidden n t u s = same-hidden hidden n n t u (omega arith) s
 
 -- so members eliminated in one are eliminated in the other
 pub same-turns : (members : ℕ → Bool) (n : ℕ) (t u v : List ℤ) → SameTable n t u → AtTurns members n n u v → AtTurns members n n t v

@@ -21,7 +21,7 @@ use Rattle.tables.specs.Meaning.{HoldsRule, ruleIn, Satisfies, Satisfiable, Uns
 use Rattle.tables.proofs.Tests.{clash}
 use Rattle.tables.proofs.Places.{own-named}
 use Rattle.tables.proofs.Sizes.{size-whole}
-use Rattle.elimination.specs.Hiding.{every, eliminated}
+use Rattle.elimination.specs.Hiding.{every, contradicts, eliminated}
 use Rattle.elimination.specs.Magnitude.{Unnamed}
 use Rattle.elimination.proofs.Exact.{eliminate-exact}
 use Rattle.keys.specs.declared.live.Part.the-variants.{Outside}
@@ -33,12 +33,16 @@ use Rattle.keys.proofs.Fitting.{hide-unnamed, set-ample, hide-ample}
 
 -- ---- members eliminated without a contradiction
 
+-- none is met at the turns of the members among the first m
+abbrev pub NoneMet : (ℕ → Bool) → ℕ → ℕ → List ℤ → Type 0
+NoneMet members n m t = (j : ℕ) → j < m → members (suc j) ≡ true → contradicts every n j (hideUpTo members n j t) ≡ false
+
 -- what satisfies the table with the members hidden is completed step by step
-pub turns-some : (members : ℕ → Bool) (n m : ℕ) (t u : List ℤ) (σ : Assignment) → m ≤ n → AmpleUpTo members n t → AtTurns members n n t u
+pub turns-some : (members : ℕ → Bool) (n m : ℕ) (t : List ℤ) (σ : Assignment) → m ≤ n → AmpleUpTo members n t → NoneMet members n n t
     → Satisfies n (hideUpTo members n m t) σ → Satisfiable n t
 unfolding hideUpTo
-turns-some members n zero t u σ h a e s = record { assignment = σ; satisfies = s }
-turns-some members n (suc j) t u σ h a e s = go (λ τ. turns-some members n j t u τ (omega arith) a e) (members (suc j)) refl s
+turns-some members n zero t σ h a e s = record { assignment = σ; satisfies = s }
+turns-some members n (suc j) t σ h a e s = go (λ τ. turns-some members n j t τ (omega arith) a e) (members (suc j)) refl s
   where
     before : List ℤ
     before = hideUpTo members n j t
@@ -46,7 +50,7 @@ turns-some members n (suc j) t u σ h a e s = go (λ τ. turns-some members n j 
     go : ((τ : Assignment) → Satisfies n before τ → Satisfiable n t) → (b : Bool) → members (suc j) ≡ b
         → Satisfies n (cond b (eliminated n j before) before) σ → Satisfiable n t
     go ih true d w =
-        let c = eliminate-exact n j 4611686018427387903 before σ (a j (omega arith)) (omega arith) (e .clear j (omega arith) d) .0 w in
+        let c = eliminate-exact n j 4611686018427387903 before σ (a j (omega arith)) (omega arith) (e j (omega arith) d) .0 w in
         ih (joined (eqb (suc j)) σ (c .hiddens)) (c .complete)
     go ih false d w = ih σ w
 
@@ -71,7 +75,7 @@ rest-left n set t f σ = record { each = λ k p. clash (named k p) (unnamed k p)
 -- so some integers satisfy the table
 pub reduced-satisfiable : (n set : ℕ) (t u : List ℤ) → RestFits n set t → AtTurns (outside set) n n t u → Satisfiable n t
 unfolding keyOf
-reduced-satisfiable n set t u f a = turns-some (outside set) n n t u (λ q. pos 0) (omega arith) (set-ample (outside set) n t (f .sums)) a (rest-left n set t f (λ q. pos 0))
+reduced-satisfiable n set t u f a = turns-some (outside set) n n t (λ q. pos 0) (omega arith) (set-ample (outside set) n t (f .sums)) (a .clear) (rest-left n set t f (λ q. pos 0))
 
 -- ---- document 01's decision
 
@@ -100,7 +104,7 @@ refuted-exactly n t f = (refuted-true n t (hide-ample every n t f), λ u. go u (
 
 -- ---- in the workspace
 
-copy-whole : (n m : ℕ) (t w u : List ℤ) → n ≤ maxQuantities → m ≡ tableSize n → u ≡ change m (copying t) w → u ≡ change (blockStart n) (copying t) w
+pub copy-whole : (n m : ℕ) (t w u : List ℤ) → n ≤ maxQuantities → m ≡ tableSize n → u ≡ change m (copying t) w → u ≡ change (blockStart n) (copying t) w
 copy-whole n m t w u h d e = let p : m ≡ blockStart n = d ∙ size-whole n h in rw p at e
 
 module _ (n m set : ℕ) (t w u : List ℤ) (f : RestFits n set t) (l : blockStart n ≤ length w) (d : m ≡ tableSize n) (e : u ≡ change m (copying t) w) where

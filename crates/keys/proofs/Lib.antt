@@ -15,6 +15,8 @@ pub mod Puts
 pub mod Opposites
 pub mod Taking
 pub mod Hiding
+pub mod Visible
+pub mod Making
 pub mod Checking
 pub mod InTurn
 pub mod Promised

@@ -9,15 +9,15 @@ use lib.IntN.{ℤ}
 use lib.ListN.{length, getD, take, length-append, List·getD-append, length-set}
 use lib.ListN.{set as put}
 use lib.Seq.{take-suc-set, getD-append-seam}
-use borrow.Author.Tests.{eq-eqb, ne-eqb, ltb-true, ltb-false, le-leb}
+use borrow.Author.Tests.{eq-eqb, ne-eqb, ltb-true, ltb-false, le-leb, lt-leb}
 use Rattle.rules.specs.Hidden.{isListed, hiddenIn}
 use Rattle.tables.proofs.Tests.{clash}
 use Rattle.elimination.specs.Magnitude.{Unnamed}
 use Rattle.elimination.specs.Inner.{among, Listed}
 use Rattle.elimination.proofs.Lists.{listed-below}
 use Rattle.keys.specs.declared.live.Part.{Part}
-use Rattle.keys.specs.declared.live.Part.the-variants.{Outside}
-use Rattle.keys.specs.Inner.{stillLive, LiveListed, LiveAlone}
+use Rattle.keys.specs.declared.live.Part.the-variants.{Inside, Outside}
+use Rattle.keys.specs.Inner.{stillLive, firstLive, LiveListed, LiveAlone}
 
 -- ---- a list with one more at its end
 
@@ -74,16 +74,35 @@ listed-wider n m list h l = record { rising = l .rising; below = λ i g. omega (
 -- ---- the live ones of the first i quantities
 
 module _ (set : ℕ) (part : Part) (from : ℕ) where
-  -- of none,
-  pub live-none : (out : List ℕ) → LiveListed 0 set part from 0 out
+  -- before the first there is none,
+  none-live : (i : ℕ) → i < firstLive part from → stillLive set part from i ≡ false
+  none-live i h = go part h
+    where
+      go : (p : Part) → i < firstLive p from → stillLive set p from i ≡ false
+      go Inside g = let z : ⊥ = omega arith in absurd z
+      go Outside g = rw (lt-leb from i g)
+
+  among-none : (i : ℕ) → among [] i ≡ false
+  unfolding isListed
+  among-none i = refl
+
+  pub live-none : (out : List ℕ) → LiveListed (firstLive part from) set part from 0 out
   live-none out = record {
     room = omega arith;
     listed = record {
       rising = record { rises = λ i h. let z : ⊥ = omega arith in absurd z };
       below = λ i h. let z : ⊥ = omega arith in absurd z;
     };
-    each = λ i h. let z : ⊥ = omega arith in absurd z;
+    each = λ i h. rw (none-live i h) (among-none i);
   }
+
+  -- and it is no later than where the turn is
+  pub first-most : firstLive part from ≤ from
+  first-most = go part
+    where
+      go : (p : Part) → firstLive p from ≤ from
+      go Inside = omega arith
+      go Outside = omega arith
 
   -- of one more that is not live,
   pub live-passed : (i count : ℕ) (out : List ℕ) → stillLive set part from i ≡ false → LiveListed i set part from count out

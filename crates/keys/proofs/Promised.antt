@@ -1,13 +1,12 @@
 -- The records of the two calls' contracts, from plain facts. Assumes nothing.
 use mathlib.Core.Path.{_≡_, refl, sym, _∙_}
-use mathlib.Core.Bool.{Bool, true, false, cond, not}
+use mathlib.Core.Bool.{Bool, true, false, not}
 use mathlib.Core.Logic.{_↔_}
 use mathlib.Core.List.{List}
-use Prim.Native.Nat.{ℕ, zero, suc, _≤_}
+use Prim.Native.Nat.{ℕ, _≤_}
 use native.Mathlib.Omega.{arith}
 use lib.IntN.{ℤ}
-use lib.ListN.{length, drop}
-use Rattle.words.proofs.Change.{change-drop}
+use lib.ListN.{length}
 use Rattle.words.specs.Lent.{Lent}
 use Rattle.places.specs.Numbering.{blockStart}
 use borrow.Author.Tests.{le-leb}
@@ -20,43 +19,22 @@ use Rattle.rules.proofs.Refusals.{refusal-number}
 use Rattle.rules.specs.Hidden.{hiddenIn}
 use Rattle.tables.specs.declared.reply.Reply.{Reply}
 use Rattle.tables.specs.declared.reply.Reply.the-variants.{Done, Refused}
-use Rattle.tables.specs.Tables.{cleared}
 use Rattle.tables.proofs.Tests.{clash}
 use Rattle.tables.specs.Meaning.{Satisfiable, Unsatisfiable}
 use Rattle.tables.proofs.Sizes.{serves-sized}
 use Rattle.tables.proofs.Refusing.{tied-decided}
 use Rattle.keys.specs.Meaning.{BoundsWithin, keyNeedsThen, assignmentNeedsThen}
 use Rattle.tables.specs.Replies.{replyNumber, check}
-use Rattle.elimination.specs.Hiding.{every, paired, eliminated}
-use Rattle.keys.specs.Keys.{hideUpTo, keyOf, refuted, lentChecks, keyReply, assignmentReply, freesWorkspace}
-use Rattle.keys.specs.Inner.{Fits, RestFits, Decided, Reduced, Filled}
+use Rattle.elimination.specs.Hiding.{every}
+use Rattle.keys.specs.Keys.{keyOf, refuted, lentChecks, keyReply, assignmentReply, freesWorkspace}
+use Rattle.keys.specs.Inner.{Fits, RestFits, Decided, Reduced, Filled, KeyTried}
 use Rattle.keys.specs.Promises.{KeyMade, Keyed, AssignmentFound, Assigned}
-use Rattle.keys.proofs.Several.{key-exact, key-visible, refuted-false}
+use Rattle.keys.proofs.Several.{rest-key, key-exact, key-visible, refuted-false}
 use Rattle.keys.proofs.Fitting.{hide-ample, key-within, whole-fits}
 use Rattle.keys.proofs.Filling.{filled-range}
 use Rattle.keys.proofs.Deciding.{refuted-exactly}
 use Rattle.keys.proofs.Checking.{bounds, checked-fits, key-tied, assignment-tied}
 use Rattle.keys.proofs.InTurn.{key-turns}
-
--- ---- words past the table's
-
-rest-eliminated : (n j : ℕ) (t : List ℤ) → drop (blockStart n) (eliminated n j t) ≡ drop (blockStart n) t
-unfolding eliminated cleared paired
-rest-eliminated n j t = change-drop (blockStart n) _ _ ∙ change-drop (blockStart n) _ t
-
-rest-hidden : (hidden : ℕ → Bool) (n m : ℕ) (t : List ℤ) → drop (blockStart n) (hideUpTo hidden n m t) ≡ drop (blockStart n) t
-unfolding hideUpTo
-rest-hidden hidden n zero t = refl
-rest-hidden hidden n (suc j) t = go (rest-hidden hidden n j t) (hidden (suc j))
-  where
-    go : drop (blockStart n) (hideUpTo hidden n j t) ≡ drop (blockStart n) t → (b : Bool)
-        → drop (blockStart n) (cond b (eliminated n j (hideUpTo hidden n j t)) (hideUpTo hidden n j t)) ≡ drop (blockStart n) t
-    go ih true = rest-eliminated n j (hideUpTo hidden n j t) ∙ ih
-    go ih false = ih
-
-pub rest-key : (hidden : ℕ → Bool) (n : ℕ) (t : List ℤ) → drop (blockStart n) (keyOf hidden n t) ≡ drop (blockStart n) t
-unfolding keyOf
-rest-key hidden n t = rest-hidden hidden n n t
 
 -- a slice that no one touched
 pub untouched : (m : ℕ) (free : Bool) (w : List ℤ) → Lent m free w w
@@ -85,9 +63,6 @@ key-late n set t w (s, (l, (m, u))) = rw (serves-sized n (length t) .1 s, le-leb
 pub key-fits : (n set : ℕ) (t : List ℤ) (w : ℕ) → AllMet (keyNeedsThen n set t w passed) → Fits n t
 key-fits n set t w (s, (l, (m, u))) = checked-fits n set t s (m .1)
 
-pub key-rest : (n set : ℕ) (t : List ℤ) (w : ℕ) → AllMet (keyNeedsThen n set t w passed) → RestFits n 0 t
-key-rest n set t w (s, (l, (m, u))) = whole-fits Sheet n set t (s .most) (s .room) (m .1)
-
 key-none : (n set : ℕ) (t : List ℤ) (w : ℕ) (r : Reply) → r ≡ keyReply n set t w → AllMet (keyNeedsThen n set t w passed)
     → (replyNumber r ≡ 5) ↔ Unsatisfiable n t
 key-none n set t w r e p = five-none n t r (e ∙ key-late n set t w p) (refuted-exactly n t (key-fits n set t w p))
@@ -106,13 +81,12 @@ key-refused n set t w w' r f e d l = record {
 }
 
 -- the reply by the decision
-key-decided : (n set : ℕ) (t w w' : List ℤ) (b : Bool) → AllMet (keyNeedsThen n set t (length w) passed) → Decided n 0 t w b w'
-    → check (not b) NoAssignment Done ≡ keyReply n set t (length w)
-key-decided n set t w w' b p d = sym (key-late n set t (length w) p ∙ rw (← d .reply))
+key-decided : (n set : ℕ) (t : List ℤ) (w : ℕ) (b : Bool) → AllMet (keyNeedsThen n set t w passed) → b ≡ refuted n t → check (not b) NoAssignment Done ≡ keyReply n set t w
+key-decided n set t w b p d = sym (key-late n set t w p ∙ rw (← d))
 
-pub key-five : (n set : ℕ) (t w w' : List ℤ) → AllMet (keyNeedsThen n set t (length w) passed) → Decided n 0 t w true w'
-    → Keyed n set t w (Refused NoAssignment) t w'
-key-five n set t w w' p d = key-refused n set t w w' (Refused NoAssignment) NoAssignment (key-decided n set t w w' true p d) refl (d .lent)
+pub key-five : (n set : ℕ) (t w t' w' : List ℤ) → AllMet (keyNeedsThen n set t (length w) passed) → KeyTried n set t w true t' w' → Keyed n set t w (Refused NoAssignment) t' w'
+key-five n set t w t' w' p d =
+    rw (d .words) (key-refused n set t w w' (Refused NoAssignment) NoAssignment (key-decided n set t (length w) true p (d .reply)) refl (d .lent))
 
 -- what the key of a table that some integers satisfy is
 pub key-made : (n set : ℕ) (t : List ℤ) → Fits n t → BoundsWithin Sheet n set t → Satisfiable n t → KeyMade n set t (keyOf (hiddenIn set) n t)
@@ -126,20 +100,19 @@ key-made n set t f b s = record {
   };
 }
 
-pub key-done : (n set : ℕ) (t w t' w' : List ℤ) → AllMet (keyNeedsThen n set t (length w) passed) → Decided n 0 t w false w'
-    → t' ≡ keyOf (hiddenIn set) n t → Keyed n set t w Done t' w'
-key-done n set t w t' w' p d k =
+pub key-done : (n set : ℕ) (t w t' w' : List ℤ) → AllMet (keyNeedsThen n set t (length w) passed) → KeyTried n set t w false t' w' → Keyed n set t w Done t' w'
+key-done n set t w t' w' p d =
     let f = key-fits n set t (length w) p in
     let s = refuted-false n t (f .sums .room) (hide-ample every n t f) (sym (d .reply)) in
-    let e = key-decided n set t w w' false p d in
+    let e = key-decided n set t (length w) false p (d .reply) in
     record {
       reply = e;
       decided = tied-decided _ Done _ e (key-tied n set t (length w));
       none = key-none n set t (length w) Done e;
-      words = k;
-      rest = rw k (rest-key (hiddenIn set) n t);
+      words = d .words;
+      rest = rw (d .words) (rest-key (hiddenIn set) n t);
       lent = d .lent;
-      made = λ c. rw k (key-made n set t f (p .1 .1 .0 .1) s);
+      made = λ c. rw (d .words) (key-made n set t f (p .1 .1 .0 .1) s);
     }
 
 -- ---- the assignment call

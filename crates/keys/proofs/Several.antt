@@ -5,12 +5,12 @@ use mathlib.Core.Bool.{Bool, true, false, cond, _&&_, _||_, and-false, or-false}
 use mathlib.Core.List.{List}
 use mathlib.Core.Logic.{_↔_, _⊎_, inl, inr}
 use Prim.Native.Nat.{ℕ, zero, suc, _+_, _≤_, _<_}
-use native.Mathlib.Numerals.{add-one}
 use native.Mathlib.Omega.{arith}
 use lib.Dec.{leb, eqb}
 use lib.IntN.{ℤ, pos}
-use lib.ListN.{length}
+use lib.ListN.{length, drop}
 use borrow.Author.Tests.{leb-true, leb-false, le-leb, lt-leb, eqb-true, eqb-false, eq-eqb, ne-eqb}
+use Rattle.words.proofs.Change.{change-drop}
 use Rattle.places.specs.Numbering.{blockStart, blockOf}
 use Rattle.places.proofs.Numbering.{block-below}
 use Rattle.rules.specs.Meaning.{Assignment, names}
@@ -18,7 +18,8 @@ use Rattle.tables.specs.Meaning.{HoldsRule, ruleIn, Satisfies, Satisfiable, Uns
 use Rattle.tables.proofs.Tests.{clash, neither}
 use Rattle.tables.proofs.Meanings.{in-range, satisfies-agree}
 use Rattle.tables.proofs.Places.{own-named}
-use Rattle.elimination.specs.Hiding.{every, contradicts, eliminated}
+use Rattle.tables.specs.Tables.{cleared}
+use Rattle.elimination.specs.Hiding.{every, paired, contradicts, eliminated}
 use Rattle.elimination.specs.Magnitude.{Unnamed}
 use Rattle.elimination.proofs.Step.{Adds}
 use Rattle.elimination.proofs.Exact.{eliminate-exact, eliminate-none, eliminate-length}
@@ -35,6 +36,29 @@ hideUpTo-length hidden n (suc j) t = go (hideUpTo-length hidden n j t) (hidden (
     go ih true = eliminate-length n j (hideUpTo hidden n j t) ∙ ih
     go ih false = ih
 
+-- words past the table's stay
+rest-eliminated : (n j : ℕ) (t : List ℤ) → drop (blockStart n) (eliminated n j t) ≡ drop (blockStart n) t
+unfolding eliminated cleared paired
+rest-eliminated n j t = change-drop (blockStart n) _ _ ∙ change-drop (blockStart n) _ t
+
+pub rest-hidden : (hidden : ℕ → Bool) (n m : ℕ) (t : List ℤ) → drop (blockStart n) (hideUpTo hidden n m t) ≡ drop (blockStart n) t
+unfolding hideUpTo
+rest-hidden hidden n zero t = refl
+rest-hidden hidden n (suc j) t = go (rest-hidden hidden n j t) (hidden (suc j))
+  where
+    go : drop (blockStart n) (hideUpTo hidden n j t) ≡ drop (blockStart n) t → (b : Bool)
+        → drop (blockStart n) (cond b (eliminated n j (hideUpTo hidden n j t)) (hideUpTo hidden n j t)) ≡ drop (blockStart n) t
+    go ih true = rest-eliminated n j (hideUpTo hidden n j t) ∙ ih
+    go ih false = ih
+
+pub rest-key : (hidden : ℕ → Bool) (n : ℕ) (t : List ℤ) → drop (blockStart n) (keyOf hidden n t) ≡ drop (blockStart n) t
+unfolding keyOf
+rest-key hidden n t = rest-hidden hidden n n t
+
+pub key-length : (hidden : ℕ → Bool) (n : ℕ) (t : List ℤ) → length (keyOf hidden n t) ≡ length t
+unfolding keyOf
+key-length hidden n t = hideUpTo-length hidden n n t
+
 -- no quantity, one more, and all
 pub hide-none : (hidden : ℕ → Bool) (n : ℕ) (t : List ℤ) → t ≡ hideUpTo hidden n 0 t
 unfolding hideUpTo
@@ -48,14 +72,6 @@ hide-more hidden n j t = refl
 pub hide-all : (hidden : ℕ → Bool) (n : ℕ) (t : List ℤ) → hideUpTo hidden n n t ≡ keyOf hidden n t
 unfolding keyOf
 hide-all hidden n t = refl
-
--- a quantity that is hidden or not
-pub hide-member : (hidden : ℕ → Bool) (n j : ℕ) (t u : List ℤ) → hidden (j + 1) ≡ true → u ≡ eliminated n j t
-    → u ≡ cond (hidden (suc j)) (eliminated n j t) t
-hide-member hidden n j t u e d = let f : hidden (suc j) ≡ true = rw (add-one j) at e in rw f d
-
-pub keep-other : (hidden : ℕ → Bool) (n j : ℕ) (t : List ℤ) → hidden (j + 1) ≡ false → t ≡ cond (hidden (suc j)) (eliminated n j t) t
-keep-other hidden n j t e = let f : hidden (suc j) ≡ false = rw (add-one j) at e in rw f
 
 -- ---- the hidden ones among the first m quantities
 

@@ -64,7 +64,7 @@ agree-choice live other n j t values same =
 pub turn-step : (n set : ℕ) (part : Part) (j count from : ℕ) (t : List ℤ) (list out : List ℕ) (plus minus : List ℤ) → TurnReady n j t list plus minus
     → LiveListed n set part from count out → StepReady n j (take count out) t plus minus
 turn-step n set part j count from t list out plus minus r l =
-    record { ready = r .ready; listed = l .listed; plus-room = r .plus-room; minus-room = r .minus-room }
+    record { ready = r .ready; listed = l .listed; plus-room = r .rows .plus-room; minus-room = r .rows .minus-room }
 
 -- of no member
 pub turn-passed : (n set : ℕ) (part : Part) (j : ℕ) (t : List ℤ) → memberOf set part (suc j) ≡ false → TurnTaken n set part j t false t

@@ -21,8 +21,8 @@ use Rattle.rules.specs.Hidden.{hiddenIn, hiddenCount}
 use Rattle.rules.specs.Limits.{maxQuantities}
 use Rattle.tables.specs.declared.reply.Reply.{Reply}
 use Rattle.tables.specs.declared.reply.Reply.the-variants.{Done, Refused}
-use Rattle.tables.specs.Meaning.{Satisfies, Unsatisfiable, WordsWithin, assignmentOf}
-use Rattle.elimination.specs.Hiding.{every, paired, contradicts}
+use Rattle.tables.specs.Meaning.{Satisfies, Satisfiable, Unsatisfiable, WordsWithin, assignmentOf}
+use Rattle.elimination.specs.Hiding.{every, paired, contradicts, eliminated}
 use Rattle.elimination.specs.Choosing.{choice}
 use Rattle.elimination.specs.Magnitude.{valueLimit, Unnamed}
 use Rattle.elimination.specs.Inner.{among, Listed, Ready}
@@ -47,6 +47,11 @@ memberOf set Outside q = outside set q
 abbrev pub stillLive : ℕ → Part → ℕ → ℕ → Bool
 stillLive set Inside from i = leb from i || outside set (suc i)
 stillLive set Outside from i = leb from i && outside set (suc i)
+
+-- none before this is
+abbrev pub firstLive : Part → ℕ → ℕ
+firstLive Inside from = 0
+firstLive Outside from = from
 
 -- the first `count` of a list are these of n quantities, in increasing number
 pub record LiveListed (n set : ℕ) (part : Part) (from count : ℕ) (out : List ℕ) : Type 0 where
@@ -162,12 +167,16 @@ pub record Filled (n set : ℕ) (table values values' : List ℤ) : Type 0 where
 
 -- ---- one turn
 
--- quantity j + 1 of a table whose words add, with room for a list of live quantities and for rows
-pub record TurnReady (n j : ℕ) (table : List ℤ) (list : List ℕ) (plus minus : List ℤ) : Type 0 where
-  pub ready : Ready n j table
+-- room for a list of live quantities of n, and for rows
+pub record RowsLent (n : ℕ) (list : List ℕ) (plus minus : List ℤ) : Type 0 where
   pub list-room : n ≤ length list
   pub plus-room : 2 * n ≤ length plus
   pub minus-room : 2 * n ≤ length minus
+
+-- quantity j + 1 of a table whose words add, with list and rows
+pub record TurnReady (n j : ℕ) (table : List ℤ) (list : List ℕ) (plus minus : List ℤ) : Type 0 where
+  pub ready : Ready n j table
+  pub rows : RowsLent n list plus minus
 
 -- it is paired with the live ones where it is of the part
 pub record TurnTaken (n set : ℕ) (part : Part) (j : ℕ) (before : List ℤ) (r : Bool) (after : List ℤ) : Type 0 where
@@ -179,10 +188,30 @@ pub record ChoiceReady (n set : ℕ) (part : Part) (j : ℕ) (values : List ℤ)
   pub room : n ≤ length values
   pub each : (i : ℕ) → i < n → stillLive set part (suc j) i ≡ true → Within valueLimit (wordAt values i)
 
--- to be hidden: where rules name no quantity of the set before it
+-- ---- the members of a set hidden
+
+-- quantity j + 1 is ready for it: rules name no quantity of the set before it
 pub record HideReady (n set j : ℕ) (table : List ℤ) (list : List ℕ) (plus minus : List ℤ) : Type 0 where
   pub turn : TurnReady n j table list plus minus
   pub gone : (i : ℕ) → i < j → hiddenIn set (suc i) ≡ true → Unnamed n i table
+
+-- it is hidden where the set has it
+pub record MemberHidden (n set j : ℕ) (before : List ℤ) (r : Bool) (after : List ℤ) : Type 0 where
+  pub reply : r ≡ (hiddenIn set (suc j) && contradicts every n j before)
+  pub table : after ≡ cond (hiddenIn set (suc j)) (eliminated n j before) before
+
+-- all of the set hidden, and whether a contradiction is met: then no integers satisfy the table, and its words are free. With none, the key has an assignment only where the table has
+pub record SetHidden (n set : ℕ) (before : List ℤ) (r : Bool) (after : List ℤ) : Type 0 where
+  pub none : r ≡ true → Unsatisfiable n before
+  pub key : r ≡ false → after ≡ keyOf (hiddenIn set) n before
+  pub some : r ≡ false → Satisfiable n after → Satisfiable n before
+  pub lent : Lent (blockStart n) true before after
+
+-- whether no integers satisfy the sheet; where some do, its table is the key
+pub record KeyTried (n set : ℕ) (table workspace : List ℤ) (r : Bool) (table' workspace' : List ℤ) : Type 0 where
+  pub reply : r ≡ refuted n table
+  pub words : table' ≡ cond r table (keyOf (hiddenIn set) n table)
+  pub lent : Lent (blockStart n) true workspace workspace'
 
 -- ---- the calls' checks before 5: a refusal is the call's reply, and where they are done the needs are met
 

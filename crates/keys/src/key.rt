@@ -3,6 +3,7 @@ use crate::checks;
 use crate::decide;
 use crate::live;
 use crate::live::Part;
+use crate::room;
 use rules::hidden;
 use rules::hidden::Set;
 use rules::paper;
@@ -11,16 +12,15 @@ use rules::refusal::Refusal;
 use tables::limit;
 use tables::reply::Reply;
 use tables::table;
-ghost use mathlib.Core.Path.{_≡_};
-ghost use mathlib.Core.Bool.{cond};
-ghost use Prim.Native.Nat.{suc};
-ghost use Rattle.rules.specs.Hidden.{hiddenIn};
-ghost use Rattle.elimination.specs.Hiding.{eliminated};
-ghost use Rattle.keys.specs.Keys.{keyOf};
-ghost use Rattle.keys.specs.Inner.{Fits, HideReady, KeyChecked};
+ghost use Prim.Native.Nat.{_≤_};
+ghost use lib.ListN.{length};
+ghost use Rattle.places.specs.Numbering.{blockStart};
+ghost use Rattle.rules.specs.Refusing.{passed, AllMet};
+ghost use Rattle.keys.specs.Meaning.{keyNeedsThen};
+ghost use Rattle.keys.specs.Inner.{Fits, RowsLent, HideReady, MemberHidden, SetHidden, KeyTried, KeyChecked};
 ghost use Rattle.keys.specs.Promises.{Keyed};
 
-// Hides quantity `j + 1` where the set has it; of the set none before it is named by a rule any more. List and rows are free.
+// Hides quantity `j + 1` where the set has it, and answers whether a contradiction is met; of the set none before it is named by a rule any more. List and rows are free.
 fn hide_member(
     n: usize,
     set: Set,
@@ -29,30 +29,94 @@ fn hide_member(
     list: &mut [usize],
     plus: &mut [i64],
     minus: &mut [i64],
-)
+) -> bool
     requires { ⌜ HideReady n set j (now table) (now list) (now plus) (now minus) ⌝ }
-    ensures { λ _. ⌜ now (table .exit) ≡ cond (hiddenIn set (suc j)) (eliminated n j (now (table .entry))) (now (table .entry)) ⌝ }
+    ensures { λ r. ⌜ MemberHidden n set j (now (table .entry)) r (now (table .exit)) ⌝ }
 {
     if !hidden::is_hidden(set, j + 1) {
-        return;
+        return false;
     }
     let count = live::list(n, set, Part::Inside, j + 1, list);
-    elimination::hide::hide(n, table, j, &list[..count], plus, minus);
+    elimination::hide::hide(n, table, j, &list[..count], plus, minus)
 }
 
-// Hides each quantity of the set in increasing number.
-fn hide_set(n: usize, set: Set, table: &mut [i64])
-    requires { ⌜ Fits n (now table) ⌝ }
-    ensures { λ _. ⌜ now (table .exit) ≡ keyOf (hiddenIn set) n (now (table .entry)) ⌝ }
+// Does what `hide_set` does with list and rows lent, whose words are free.
+fn hide_members(
+    n: usize,
+    set: Set,
+    table: &mut [i64],
+    list: &mut [usize],
+    plus: &mut [i64],
+    minus: &mut [i64],
+) -> bool
+    requires { ⌜ Fits n (now table) × RowsLent n (now list) (now plus) (now minus) ⌝ }
+    ensures { λ r. ⌜ SetHidden n set (now (table .entry)) r (now (table .exit)) ⌝ }
 {
-    let mut list = [0; live::MOST];
-    let mut plus = [0; live::ROW];
-    let mut minus = [0; live::ROW];
     let mut j = 0;
     while j < n {
-        hide_member(n, set, table, j, &mut list, &mut plus, &mut minus);
+        if hide_member(n, set, table, j, list, plus, minus) {
+            return true;
+        }
         j = j + 1;
     }
+    false
+}
+
+// Hides each quantity of the set in increasing number, and answers whether a contradiction is met, at which it stops.
+fn hide_set(n: usize, set: Set, table: &mut [i64]) -> bool
+    requires { ⌜ Fits n (now table) ⌝ }
+    ensures { λ r. ⌜ SetHidden n set (now (table .entry)) r (now (table .exit)) ⌝ }
+{
+    if n <= room::SMALL {
+        let mut list = [0; room::SMALL];
+        let mut plus = [0; room::SMALL_ROW];
+        let mut minus = [0; room::SMALL_ROW];
+        return hide_members(n, set, table, &mut list, &mut plus, &mut minus);
+    }
+    if n <= room::MIDDLE {
+        let mut list = [0; room::MIDDLE];
+        let mut plus = [0; room::MIDDLE_ROW];
+        let mut minus = [0; room::MIDDLE_ROW];
+        return hide_members(n, set, table, &mut list, &mut plus, &mut minus);
+    }
+    let mut list = [0; room::LARGE];
+    let mut plus = [0; room::LARGE_ROW];
+    let mut minus = [0; room::LARGE_ROW];
+    hide_members(n, set, table, &mut list, &mut plus, &mut minus)
+}
+
+// Makes the key of the sheet's table in the workspace and decides in `copy`, a copy of the key, whether no integers satisfy the sheet. Where some do, the table becomes the key. The words of `copy` are free.
+fn make_key(n: usize, set: Set, table: &mut [i64], workspace: &mut [i64], copy: &mut [i64]) -> bool
+    requires { ⌜ AllMet (keyNeedsThen n set (now table) (length (now workspace)) passed) × (blockStart n ≤ length (now copy)) ⌝ }
+    ensures { λ r. ⌜ KeyTried n set (now (table .entry)) (now (workspace .entry)) r (now (table .exit)) (now (workspace .exit)) ⌝ }
+{
+    let m = table::size(n);
+    words::copy(workspace, table, m);
+    if hide_set(n, set, workspace) {
+        return true;
+    }
+    if decide::decide(n, set, workspace, copy) {
+        return true;
+    }
+    words::copy(table, workspace, m);
+    false
+}
+
+// The same, with room on the stack for the copy.
+fn try_key(n: usize, set: Set, table: &mut [i64], workspace: &mut [i64]) -> bool
+    requires { ⌜ AllMet (keyNeedsThen n set (now table) (length (now workspace)) passed) ⌝ }
+    ensures { λ r. ⌜ KeyTried n set (now (table .entry)) (now (workspace .entry)) r (now (table .exit)) (now (workspace .exit)) ⌝ }
+{
+    if n <= room::SMALL {
+        let mut copy = [0; room::SMALL_TABLE];
+        return make_key(n, set, table, workspace, &mut copy);
+    }
+    if n <= room::MIDDLE {
+        let mut copy = [0; room::MIDDLE_TABLE];
+        return make_key(n, set, table, workspace, &mut copy);
+    }
+    let mut copy = [0; table::LARGEST];
+    make_key(n, set, table, workspace, &mut copy)
 }
 
 // The key call's checks before 5: its first refusal, or done.
@@ -73,8 +137,8 @@ fn check(n: usize, set: Set, table: &[i64], workspace: usize) -> Reply
     Reply::Done
 }
 
-// Replaces the sheet's table over `n` quantities by its key, the quantities of the set `hidden` hidden. 'No assignment' is decided in the workspace
-// first, for all quantities.
+// Replaces the sheet's table over `n` quantities by its key, the quantities of the set `hidden` hidden. The key is made in the workspace, and 'no assignment' decided
+// before the table is changed.
 pub fn key(n: usize, hidden: Set, table: &mut [i64], workspace: &mut [i64]) -> Reply
     ensures { λ r. ⌜ Keyed n hidden (now (table .entry)) (now (workspace .entry)) r (now (table .exit)) (now (workspace .exit)) ⌝ }
 {
@@ -82,9 +146,8 @@ pub fn key(n: usize, hidden: Set, table: &mut [i64], workspace: &mut [i64]) -> R
     let Reply::Done = checked else {
         return checked;
     };
-    if decide::decide(n, 0, table, workspace) {
+    if try_key(n, hidden, table, workspace) {
         return Reply::Refused(Refusal::NoAssignment);
     }
-    hide_set(n, hidden, table);
     Reply::Done
 }

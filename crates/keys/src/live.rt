@@ -1,18 +1,11 @@
 // The quantities of a sheet parted by a set, and those of them that are live at a turn: listed in increasing number, each by its number less one.
 use rules::hidden;
 use rules::hidden::Set;
-use rules::sheet::Sheet;
 ghost use mathlib.Core.Path.{_≡_};
 ghost use Prim.Native.Nat.{suc, _≤_, _<_};
 ghost use lib.ListN.{length};
 ghost use Rattle.rules.specs.Limits.{maxQuantities};
-ghost use Rattle.keys.specs.Inner.{memberOf, stillLive, LiveListed};
-
-// The most that a list has.
-pub const MOST: usize = Sheet::MAX_QUANTITIES;
-
-// The words of a row: one for each literal.
-pub const ROW: usize = 2 * MOST;
+ghost use Rattle.keys.specs.Inner.{memberOf, stillLive, firstLive, LiveListed};
 
 // A part of the quantities, given by a set.
 pub enum Part {
@@ -55,13 +48,23 @@ fn is_live(set: Set, part: Part, from: usize, i: usize) -> bool
     }
 }
 
+// The number less one of the quantity before which none is live.
+fn first(part: Part, from: usize) -> usize
+    ensures { λ r. ⌜ r ≡ firstLive part from ⌝ }
+{
+    match part {
+        Part::Inside => 0,
+        Part::Outside => from,
+    }
+}
+
 // Lists the live quantities of `n`, and answers how many they are. The other words of `out` are free.
 pub fn list(n: usize, set: Set, part: Part, from: usize, out: &mut [usize]) -> usize
-    requires { ⌜ (n ≤ maxQuantities) × (n ≤ length (now out)) ⌝ }
+    requires { ⌜ (n ≤ maxQuantities) × (n ≤ length (now out)) × (from ≤ n) ⌝ }
     ensures { λ r. ⌜ LiveListed n set part from r (now (out .exit)) ⌝ }
 {
     let mut count = 0;
-    let mut i = 0;
+    let mut i = first(part, from);
     while i < n {
         if is_live(set, part, from, i) {
             out[count] = i;

@@ -36,96 +36,14 @@ use Rattle.keys.specs.Breaking.{RuleBreakable}
 use Rattle.keys.proofs.Several.{key-visible, hideUpTo-length, hide-all}
 use Rattle.keys.proofs.Fitting.{words-mono, key-within, limit-doubled, paper-fits}
 use Rattle.keys.proofs.Deciding.{rest-fits}
+use Rattle.keys.proofs.Visible.{count-both, visible-unnamed, visible-rest, keyLimit, key-fits, key-word, values-small, LikeKey, like-rest}
+use Rattle.keys.proofs.Visible.{key-like as like-key}
 use Rattle.keys.proofs.Puts.{put-within, put-unnamed, opposite-hasPlace, opposite-names}
 use Rattle.marking.specs.Inner.{TablesAccepted}
 
--- ---- a table that names visible quantities alone
-
--- hidden and visible quantities together are all
-count-both : (hidden : ℕ → Bool) (n : ℕ) → hiddenCount hidden n + hiddenCount (λ q. not (hidden q)) n ≡ n
-unfolding hiddenCount
-count-both hidden zero = refl
-count-both hidden (suc j) = go (count-both hidden j) (hidden (suc j))
-  where
-    v : ℕ
-    v = hiddenCount (λ q. not (hidden q)) j
-
-    go : hiddenCount hidden j + v ≡ j → (b : Bool) → cond b (suc (hiddenCount hidden j)) (hiddenCount hidden j) + cond (not b) (suc v) v ≡ suc j
-    go ih true = omega arith
-    go ih false = omega arith
-
--- no rule names a hidden quantity
-pub visible-unnamed : (hidden : ℕ → Bool) (n j : ℕ) (t : List ℤ) → NamesVisible n hidden t → hidden (suc j) ≡ true → Unnamed n j t
-visible-unnamed hidden n j t v h = record { each = λ k p. go k p (names (suc j) (ruleIn t k)) refl }
-  where
-    go : (k : ℕ) → HoldsRule n t k → (b : Bool) → names (suc j) (ruleIn t k) ≡ b → b ≡ false
-    go k p true e = clash h (v .each k p (suc j) e)
-    go k p false e = refl
-
--- sums fit in a table within L whose hidden quantities no rule names, where L, doubled for each visible quantity, stays below 2 ^ 62
-visible-rest : (n set L : ℕ) (t : List ℤ) → n ≤ maxQuantities → blockStart n ≤ length t → WordsWithin (blockStart n) (pos L) t
-    → ((j : ℕ) → hiddenIn set (suc j) ≡ true → Unnamed n j t) → L * 2 ^ hiddenCount (outside set) n < 2 ^ 62 → RestFits n set t
-visible-rest n set L t m l w u h = record {
-  sums = record { most = m; room = l; limit = L; within = w; last = h };
-  alone = λ i g e. go i (hiddenIn set (suc i)) refl (leb 0 i) refl e;
-}
-  where
-    go : (i : ℕ) → (b : Bool) → hiddenIn set (suc i) ≡ b → (c : Bool) → leb 0 i ≡ c → (c && not b) ≡ false → Unnamed n i t
-    go i true e c f d = u i e
-    go i false e true f d = clash refl d
-    go i false e false f d = clash (le-leb 0 i (omega arith)) f
-
--- ---- the limit of a key
-
--- every bound of the key of a sheet within B is within this
-abbrev keyLimit : ℕ → ℕ → ℕ → ℕ
-keyLimit n set B = B * 2 ^ hiddenCount (hiddenIn set) n
-
--- one more than that, doubled for each visible quantity, is B doubled for every one and 1 for each visible one
-key-doubled : (B k v : ℕ) → (B * 2 ^ k + 1) * 2 ^ v ≡ B * 2 ^ (k + v) + 2 ^ v
-key-doubled B k v =
-    let whole : B * 2 ^ k * 2 ^ v ≡ B * 2 ^ (k + v) = mul-assoc B (2 ^ k) (2 ^ v) ∙ rw (pow-add 2 k v) in
-    rw (add-mul (B * 2 ^ k) 1 (2 ^ v), whole) (omega arith)
-
-module _ (n set B : ℕ) (h : (B + 1) * 2 ^ n < 2 ^ 62) where
-  whole : (keyLimit n set B + 1) * 2 ^ hiddenCount (outside set) n ≡ B * 2 ^ n + 2 ^ hiddenCount (outside set) n
-  whole = rw (count-both (hiddenIn set) n) at (key-doubled B (hiddenCount (hiddenIn set) n) (hiddenCount (outside set) n))
-
-  visible-most : 2 ^ hiddenCount (outside set) n ≤ 2 ^ n
-  visible-most = pow-mono {i = hiddenCount (outside set) n} {j = n} (omega (arith, count-both (hiddenIn set) n))
-
-  -- so it is below 2 ^ 62,
-  key-fits : (keyLimit n set B + 1) * 2 ^ hiddenCount (outside set) n < 2 ^ 62
-  key-fits = omega (arith, whole, visible-most, h, add-mul B 1 (2 ^ n))
-
-  -- itself a word's,
-  key-word : keyLimit n set B + 1 < 9223372036854775807
-  key-word =
-      let one : keyLimit n set B + 1 ≤ keyLimit n set B + 1 = omega arith in
-      omega (arith, key-fits, mul-le-mul one (pow-pos (hiddenCount (outside set) n)))
-
-  -- and the values that break a rule of the key's size and complete the sheet are in their range: B * 2 ^ n - B + 2 ^ v - 1 at most, with v visible quantities
-  pub values-small : ((keyLimit n set B + 1) * 2 ^ hiddenCount (outside set) n - (keyLimit n set B + 1)) + (B * 2 ^ hiddenCount (hiddenIn set) n - B) < 2 ^ 62
-  values-small =
-      let one : keyLimit n set B + 1 ≤ keyLimit n set B + 1 = omega arith in
-      omega (arith, whole, visible-most, h, add-mul B 1 (2 ^ n), mul-le-mul one (pow-pos (hiddenCount (outside set) n)))
-
 -- ---- the opposite of a rule put in
 
--- a table like a key of a sheet within B: its bounds are within the limit of one, and its rules name visible quantities alone
-record KeyLike (n set B : ℕ) (t : List ℤ) : Type 0 where
-  room : blockStart n ≤ length t
-  within : WordsWithin (blockStart n) (pos (keyLimit n set B)) t
-  visible : NamesVisible n (hiddenIn set) t
-
--- sums fit in it
-like-rest : (n set B : ℕ) (t : List ℤ) → (B + 1) * 2 ^ n < 2 ^ 62 → n ≤ maxQuantities → KeyLike n set B t → RestFits n set t
-like-rest n set B t h m r =
-    visible-rest n set (keyLimit n set B) t m (r .room) (r .within) (λ j g. visible-unnamed (hiddenIn set) n j t (r .visible) g)
-    (let one : keyLimit n set B ≤ keyLimit n set B + 1 = omega arith in
-    let same : 2 ^ hiddenCount (outside set) n ≤ 2 ^ hiddenCount (outside set) n = omega arith in omega (arith, key-fits n set B h, mul-le-mul one same))
-
-module _ (n set B : ℕ) (rules t : List ℤ) (k : ℕ) (h : (B + 1) * 2 ^ n < 2 ^ 62) (m : n ≤ maxQuantities) (r : KeyLike n set B rules) (w : KeyLike n set B t)
+module _ (n set B : ℕ) (rules t : List ℤ) (k : ℕ) (h : (B + 1) * 2 ^ n < 2 ^ 62) (m : n ≤ maxQuantities) (r : LikeKey n set B rules) (w : LikeKey n set B t)
     (p : HoldsRule n rules k) where
   -- the opposite of a rule's bound is larger by one at most
   opposite-within : Within (pos (keyLimit n set B + 1)) (oppositeBound (wordAt rules k))
@@ -210,19 +128,14 @@ module _ (n set : ℕ) (sheet script : List ℤ) (w v : ℕ) (m : TablesAccepted
   }
 
   -- the key itself is like a key,
-  pub key-room : blockStart n ≤ length (keyOf (hiddenIn set) n sheet)
-  unfolding keyOf
-  key-room = omega (arith, hideUpTo-length (hiddenIn set) n n sheet, m .sized .sheet-room)
+  key-like : LikeKey n set limit key
+  key-like = like-key n set limit sheet (m .sized .sheet-room) (m .limits .sheet-within)
 
-  key-like : KeyLike n set limit key
-  key-like = record {
-    room = key-room;
-    within = key-within (hiddenIn set) n limit sheet (m .sized .sheet-room) (m .limits .sheet-within);
-    visible = key-visible (hiddenIn set) n sheet (m .sized .sheet-room);
-  }
+  pub key-room : blockStart n ≤ length (keyOf (hiddenIn set) n sheet)
+  key-room = key-like .room
 
   -- and so is the script
-  script-like : KeyLike n set limit script
+  script-like : LikeKey n set limit script
   script-like = record {
     room = m .sized .script-room;
     within = let one : limit ≤ limit = omega arith in

@@ -90,7 +90,7 @@ module _ (n set m : ℕ) (visible : List ℕ) (sheet w u : List ℤ) (p : SheetR
 
   some-sheet : Satisfiable n key → (x : List ℤ) → AtTurns (hiddenIn set) n n sheet x → Satisfiable n sheet
   unfolding keyOf
-  some-sheet s x a = turns-some (hiddenIn set) n n sheet x (s .assignment) (omega arith) (set-ample (hiddenIn set) n sheet (p .hides)) a (s .satisfies)
+  some-sheet s x a = turns-some (hiddenIn set) n n sheet (s .assignment) (omega arith) (set-ample (hiddenIn set) n sheet (p .hides)) (a .clear) (s .satisfies)
 
   module _ (x : List ℤ) (b : Bool) (q : SetEliminated (hiddenIn set) n u b x) where
     reduced-lent : Lent (workspaceSize n) true w x

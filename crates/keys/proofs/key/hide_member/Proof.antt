@@ -3,10 +3,8 @@ use mathlib.Core.Path.{_≡_, refl, sym, _∙_}
 use native.Mathlib.Numerals.{add-one}
 use native.Mathlib.Omega.{arith}
 use borrow.Author.Needs.{needs}
-use Rattle.rules.specs.Hidden.{hiddenIn}
-use Rattle.keys.proofs.Several.{hide-member, keep-other}
 use Rattle.keys.proofs.Taking.{turn-step, taken-length, not-true, not-false}
-use Rattle.keys.proofs.Hiding.{hide-alone}
+use Rattle.keys.proofs.Hiding.{hide-alone, member-passed, member-hidden}
 use Rattle.keys.proofs.key.hide_member.Statement.{statement}
 use Rattle.keys.proofs.key.hide_member.Tie as tie
 
@@ -18,14 +16,13 @@ is-hidden-requires c κs = search needs
 
 returns : tie.Need-returns
 returns c =
-    let s = c .before .before .before in
-    keep-other (hiddenIn (s .args .set)) _ _ _ (sym (c .before .is-hidden .ensures) ∙ not-true (c .if1 .taken))
+    member-passed _ _ _ _ (sym (c .before .is-hidden .ensures) ∙ not-true (c .if1 .taken))
 
 add-list : tie.Need-add-list
 add-list c = search needs
 
 list-requires : tie.Need-list-requires
-list-requires c κs = let s = c .before .before .before .before in (s .pre .turn .ready .most, s .pre .turn .list-room)
+list-requires c κs = let s = c .before .before .before .before in (s .pre .turn .ready .most, s .pre .turn .rows .list-room, omega (arith, s .pre .turn .ready .one))
 
 slice-reshare-prefix-hide : tie.Need-slice-reshare-prefix-hide
 slice-reshare-prefix-hide c = let y = c .before .before .before in y .list .ensures .room
@@ -56,8 +53,7 @@ returns-2 c =
     let p = c .before .before .before in
     let y = p .before .before .before .before .before .before .before in
     let e = y .before .before in
-    let s = e .before .before .before in
-    hide-member (hiddenIn (s .args .set)) _ _ _ _ (sym (e .before .is-hidden .ensures) ∙ not-false (e .if1 .left)) (p .hide .ensures .table)
+    member-hidden _ _ _ _ _ _ (sym (e .before .is-hidden .ensures) ∙ not-false (e .if1 .left)) (p .hide .ensures)
 
 pub hide-member-spec : {M : Type 1} → statement M
 hide-member-spec =

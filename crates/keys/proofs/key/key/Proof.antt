@@ -1,6 +1,6 @@
--- `key::key` meets its contract: the checks, the decision in the workspace, then the hiding in the table. Assumes nothing.
+-- `key::key` meets its contract: the checks, then the key made where some integers satisfy the sheet. Assumes nothing.
+use Rattle.keys.proofs.Promised.{untouched, key-refused, key-five, key-done}
 use borrow.Author.Needs.{needs}
-use Rattle.keys.proofs.Promised.{untouched, key-fits, key-rest, key-refused, key-five, key-done}
 use Rattle.keys.proofs.key.key.Statement.{statement}
 use Rattle.keys.proofs.key.key.Tie as tie
 
@@ -20,11 +20,8 @@ returns : tie.Need-returns
 returns c =
     key-refused _ _ _ _ _ _ _ (c .before .before .check .ensures .stands _ (c .enum-told2 .given .1)) (c .enum-told2 .given .1) (untouched _ _ _)
 
-decide-requires : tie.Need-decide-requires
-decide-requires c κs =
-    let a = c .before .before in
-    let p = a .before .before .check .ensures .passes (a .enum-told .given .1) in
-    (key-rest _ _ _ _ p, p .1 .0)
+try-key-requires : tie.Need-try-key-requires
+try-key-requires c κs = let a = c .before .before in a .before .before .check .ensures .passes (a .enum-told .given .1)
 
 same-length-2 : tie.Need-same-length-2
 same-length-2 c = search needs
@@ -34,16 +31,9 @@ same-length-3 c = search needs
 
 returns-2 : tie.Need-returns-2
 returns-2 c =
-    let d = c .before .before in
-    let a = d .before .before .before in
-    let p = a .before .before .check .ensures .passes (a .enum-told .given .1) in
-    key-five _ _ _ _ _ p (rw (c .if1 .taken) at (d .decide .ensures))
-
-hide-set-requires : tie.Need-hide-set-requires
-hide-set-requires c κs =
-    let a = c .before .before .before .before .before .before in
-    let p = a .before .before .check .ensures .passes (a .enum-told .given .1) in
-    key-fits _ _ _ _ p
+    let y = c .before .before .before in
+    let a = y .before .before .before in
+    key-five _ _ _ _ _ _ (a .before .before .check .ensures .passes (a .enum-told .given .1)) (rw (c .if1 .taken) at (y .try-key .ensures))
 
 same-length-4 : tie.Need-same-length-4
 same-length-4 c = search needs
@@ -53,11 +43,9 @@ same-length-5 c = search needs
 
 returns-3 : tie.Need-returns-3
 returns-3 c =
-    let o = c .before .before .before in
-    let d = o .before .before in
-    let a = d .before .before .before in
-    key-done _ _ _ _ _ _ (a .before .before .check .ensures .passes (a .enum-told .given .1)) (rw (o .if1 .left) at (d .decide .ensures))
-    (c .before .hide-set .ensures)
+    let y = c .before .before .before in
+    let a = y .before .before .before in
+    key-done _ _ _ _ _ _ (a .before .before .check .ensures .passes (a .enum-told .given .1)) (rw (c .if1 .left) at (y .try-key .ensures))
 
 pub key-spec : {M : Type 1} → statement M
 key-spec =
@@ -68,11 +56,10 @@ key-spec =
     enum-told-2
     same-length
     returns
-    decide-requires
+    try-key-requires
     same-length-2
     same-length-3
     returns-2
-    hide-set-requires
     same-length-4
     same-length-5
     returns-3)

@@ -6,8 +6,9 @@ use Prim.Native.Nat.{_-_, _≤_, _<_}
 use native.Mathlib.Numerals.{add-one}
 use native.Mathlib.Omega.{arith}
 use lib.ListN.{length, length-set}
+use borrow.Author.Needs.{needs}
 use Rattle.keys.specs.Inner.{LiveListed}
-use Rattle.keys.proofs.Listing.{live-none, live-passed, live-put}
+use Rattle.keys.proofs.Listing.{live-none, first-most, live-passed, live-put}
 use Rattle.keys.proofs.live.list.Statement.{statement}
 use Rattle.keys.proofs.live.list.Tie as tie
 
@@ -18,8 +19,13 @@ Inv-loop n set part from out₀ count₀ i₀ out count i =
 abbrev μ-loop : tie.MeasureT-loop
 μ-loop n set part from out₀ count₀ i₀ out count i = n - i
 
+first-requires : tie.Need-first-requires Inv-loop μ-loop
+first-requires c κs = search needs
+
 loop-holds : tie.Need-loop-holds Inv-loop μ-loop
-loop-holds c = (omega arith, omega arith, refl, live-none _ _ _ _)
+loop-holds c =
+    let s = c .before .before in
+    rw (c .first .ensures) (omega (arith, first-most (s .args .set) (s .args .part) (s .args .from), s .pre .2), omega arith, refl, live-none _ _ _ _)
 
 is-live-requires : tie.Need-is-live-requires Inv-loop μ-loop
 is-live-requires c κs = omega arith
@@ -43,7 +49,7 @@ loop-again : tie.Need-loop-again Inv-loop μ-loop
 loop-again c =
     let a = c .before in
     let l = a .before .before .loop in
-    let s = a .before .before .before .before in
+    let s = a .before .before .before .before .before in
     let live = a .is-live .ensures in
     let last : l .count < length (l .out) = omega (arith, l .inv .2, s .pre .1) in
     rw (add-one (l .i))
@@ -68,7 +74,7 @@ same-length c = c .before .loop .inv .2
 returns : tie.Need-returns Inv-loop μ-loop
 returns c =
     let l = c .before .loop in
-    let e : l .i ≡ c .before .before .before .args .n = omega arith in
+    let e : l .i ≡ c .before .before .before .before .args .n = omega arith in
     rw (sym e) (l .inv .3)
 
 pub list-spec : {M : Type 1} → statement M
@@ -77,6 +83,7 @@ list-spec =
     (tie.spec
     Inv-loop
     μ-loop
+    first-requires
     loop-holds
     is-live-requires
     mul-out

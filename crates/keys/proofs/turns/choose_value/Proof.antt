@@ -22,7 +22,7 @@ add-list : tie.Need-add-list
 add-list c = search needs
 
 list-requires : tie.Need-list-requires
-list-requires c κs = let s = c .before .before .before .before in (s .pre .0 .ready .most, s .pre .0 .list-room)
+list-requires c κs = let s = c .before .before .before .before in (s .pre .0 .ready .most, s .pre .0 .rows .list-room, omega (arith, s .pre .0 .ready .one))
 
 slice-reshare-prefix-choose : tie.Need-slice-reshare-prefix-choose
 slice-reshare-prefix-choose c = let y = c .before .before .before in y .list .ensures .room

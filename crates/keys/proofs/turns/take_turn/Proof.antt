@@ -18,7 +18,7 @@ add-list : tie.Need-add-list
 add-list c = search needs
 
 list-requires : tie.Need-list-requires
-list-requires c κs = let s = c .before .before .before .before in (s .pre .ready .most, s .pre .list-room)
+list-requires c κs = let s = c .before .before .before .before in (s .pre .ready .most, s .pre .rows .list-room, omega (arith, s .pre .ready .one))
 
 slice-reshare-prefix-pair : tie.Need-slice-reshare-prefix-pair
 slice-reshare-prefix-pair c = let y = c .before .before .before in y .list .ensures .room

@@ -15,6 +15,11 @@ use Rattle.elimination.specs.Hiding.{loneWord}
 use Rattle.elimination.specs.Inner.{among, Listed}
 use Rattle.tightening.specs.Tightening.{pairUpTo, clashUpTo}
 
+-- two rows with room for a word of each literal
+pub record RowsLent (n : ℕ) (plus minus : List ℤ) : Type 0 where
+  pub plus-room : 2 * n ≤ length plus
+  pub minus-room : 2 * n ≤ length minus
+
 -- all quantities paired: whether a contradiction is met, and where not, every word; where one is, the table's words are free
 pub record AllPaired (n : ℕ) (before : List ℤ) (r : Bool) (after : List ℤ) : Type 0 where
   pub reply : r ≡ clashUpTo n n before

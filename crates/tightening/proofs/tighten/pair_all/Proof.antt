@@ -4,8 +4,7 @@ use mathlib.Core.Path.{_≡_, refl, _∙_}
 use Prim.Native.Nat.{_-_, _≤_}
 use native.Mathlib.Numerals.{add-one}
 use native.Mathlib.Omega.{arith}
-use lib.IntN.{pos}
-use lib.ListN.{length, getD, length-replicate}
+use lib.ListN.{length, getD}
 use denote.Ref.{now}
 use borrow.Author.Needs.{needs}
 use Rattle.tightening.proofs.Walking.{PairedTo, walk-first, walk-ready, walk-on, walk-clash, walk-end}
@@ -14,7 +13,7 @@ use Rattle.tightening.proofs.tighten.pair_all.Tie as tie
 
 abbrev Inv-loop : tie.InvT-loop
 Inv-loop n table₀ live plus₀ minus₀ turn₀ table plus minus turn =
-    (turn ≤ length live) × (length table ≡ length table₀) × (length plus ≡ 64) × (length minus ≡ 64) × PairedTo n (getD live turn n) table₀ table
+    (turn ≤ length live) × (length table ≡ length table₀) × (length plus ≡ length plus₀) × (length minus ≡ length minus₀) × PairedTo n (getD live turn n) table₀ table
 
 abbrev μ-loop : tie.MeasureT-loop
 μ-loop n table₀ live plus₀ minus₀ turn₀ table plus minus turn = length live - turn
@@ -24,8 +23,8 @@ loop-holds c =
     let s = c .before in (
       omega arith,
       refl,
-      length-replicate 64 (pos 0),
-      length-replicate 64 (pos 0),
+      refl,
+      refl,
       walk-first (s .args .n) (now (s .args .live)) (now (s .args .table)) (s .pre .0) (s .pre .1),
     )
 
@@ -35,12 +34,6 @@ mul-pair c = omega arith
 shared-slice-read-pair : tie.Need-shared-slice-read-pair Inv-loop μ-loop
 shared-slice-read-pair c = omega arith
 
-slice-aggregate-pair : tie.Need-slice-aggregate-pair Inv-loop μ-loop
-slice-aggregate-pair c = search needs
-
-slice-aggregate-pair-2 : tie.Need-slice-aggregate-pair-2 Inv-loop μ-loop
-slice-aggregate-pair-2 c = search needs
-
 pair-requires : tie.Need-pair-requires Inv-loop μ-loop
 pair-requires c κs =
     let g = c .before .before .before .before in
@@ -49,13 +42,21 @@ pair-requires c κs =
     record {
       ready = walk-ready (s .args .n) (now (s .args .live)) (now (s .args .table)) (s .pre .0) (s .pre .1) (l .turn) (l .table) (g .loop-test .taken) (l .inv .4);
       listed = s .pre .1 .listed;
-      plus-room = omega (arith, l .inv .2, s .pre .0 .sums .most);
-      minus-room = omega (arith, l .inv .3, s .pre .0 .sums .most);
+      plus-room = omega (arith, l .inv .2, s .pre .2 .plus-room);
+      minus-room = omega (arith, l .inv .3, s .pre .2 .minus-room);
     }
 
 same-length : tie.Need-same-length Inv-loop μ-loop
 same-length c =
     let p = c .before .before .before .before in p .pair .kept .1 .0 ∙ p .before .before .before .before .before .before .loop .inv .1
+
+same-length-2 : tie.Need-same-length-2 Inv-loop μ-loop
+same-length-2 c =
+    let p = c .before .before .before .before in p .pair .kept .1 .1 .1 .1 .0 ∙ p .before .before .before .before .before .before .loop .inv .2
+
+same-length-3 : tie.Need-same-length-3 Inv-loop μ-loop
+same-length-3 c =
+    let p = c .before .before .before .before in p .pair .kept .1 .1 .1 .1 .1 .0 ∙ p .before .before .before .before .before .before .loop .inv .3
 
 returns : tie.Need-returns Inv-loop μ-loop
 returns c =
@@ -87,8 +88,14 @@ loop-again c =
           (p .pair .ensures) (c .if1 .left)),
     )
 
-same-length-2 : tie.Need-same-length-2 Inv-loop μ-loop
-same-length-2 c = c .before .loop .inv .1
+same-length-4 : tie.Need-same-length-4 Inv-loop μ-loop
+same-length-4 c = c .before .loop .inv .1
+
+same-length-5 : tie.Need-same-length-5 Inv-loop μ-loop
+same-length-5 c = c .before .loop .inv .2
+
+same-length-6 : tie.Need-same-length-6 Inv-loop μ-loop
+same-length-6 c = c .before .loop .inv .3
 
 returns-2 : tie.Need-returns-2 Inv-loop μ-loop
 returns-2 c =
@@ -105,13 +112,15 @@ pair-all-spec =
     loop-holds
     mul-pair
     shared-slice-read-pair
-    slice-aggregate-pair
-    slice-aggregate-pair-2
     pair-requires
     same-length
+    same-length-2
+    same-length-3
     returns
     add-turn
     loop-less
     loop-again
-    same-length-2
+    same-length-4
+    same-length-5
+    same-length-6
     returns-2)

@@ -1,8 +1,6 @@
 -- `tighten::strengthen` meets its contract: pairing the gathered row with itself strengthens the table. Assumes nothing.
-use mathlib.Core.Path.{_≡_, refl, _∙_}
+use mathlib.Core.Path.{refl}
 use native.Mathlib.Omega.{arith}
-use lib.IntN.{pos}
-use lib.ListN.{length, length-replicate}
 use denote.Ref.{now}
 use borrow.Author.Needs.{needs}
 use Rattle.tables.proofs.Tests.{clash}
@@ -11,29 +9,19 @@ use Rattle.tightening.proofs.Strengthening.{lone-adds, strengthening-pa
 use Rattle.tightening.proofs.tighten.strengthen.Statement.{statement}
 use Rattle.tightening.proofs.tighten.strengthen.Tie as tie
 
-slice-aggregate-gather-lone : tie.Need-slice-aggregate-gather-lone
-slice-aggregate-gather-lone c = search needs
-
 gather-lone-requires : tie.Need-gather-lone-requires
 gather-lone-requires c κs = search needs
-
-slice-aggregate-pair-blocks : tie.Need-slice-aggregate-pair-blocks
-slice-aggregate-pair-blocks c = search needs
-
-slice-aggregate-pair-blocks-2 : tie.Need-slice-aggregate-pair-blocks-2
-slice-aggregate-pair-blocks-2 c = search needs
 
 -- the words of the row that was gathered add
 row : (c : tie.After-gather-lone) → let s = c .before .before .before .before in
     Row (s .args .n) (now (s .args .live)) (c .gather-lone .last .1 .1 .1 .0)
 row c =
     let s = c .before .before .before .before in
-    let size : length (c .gather-lone .last .1 .1 .1 .0) ≡ 64 = c .gather-lone .kept .1 .1 .1 .0 ∙ length-replicate 64 (pos 0) in
-    lone-adds _ _ _ _ (s .pre .0) (omega (arith, size, s .pre .0 .most)) (c .gather-lone .ensures)
+    lone-adds _ _ _ _ (s .pre .0) (omega (arith, c .gather-lone .kept .1 .1 .1 .0, s .pre .2)) (c .gather-lone .ensures)
 
 pair-blocks-requires : tie.Need-pair-blocks-requires
 pair-blocks-requires c κs =
-    let g = c .before .before .before .before in
+    let g = c .before .before .before in
     let s = g .before .before .before .before in
     record {
       listed = s .pre .1 .listed;
@@ -47,21 +35,17 @@ pair-blocks-requires c κs =
 same-length : tie.Need-same-length
 same-length c = search needs
 
+same-length-2 : tie.Need-same-length-2
+same-length-2 c = search needs
+
 returns : tie.Need-returns
 returns c =
     let p = c .before in
-    let g = p .before .before .before .before .before in
+    let g = p .before .before .before .before in
     let s = g .before .before .before .before in
     strengthening-paired _ _ _ _ _ (s .pre .0 .room) (s .pre .1) (g .gather-lone .ensures) (p .pair-blocks .ensures)
 
 pub strengthen-spec : {M : Type 1} → statement M
 strengthen-spec =
     tie.close
-    (tie.spec
-    slice-aggregate-gather-lone
-    gather-lone-requires
-    slice-aggregate-pair-blocks
-    slice-aggregate-pair-blocks-2
-    pair-blocks-requires
-    same-length
-    returns)
+    (tie.spec gather-lone-requires pair-blocks-requires same-length same-length-2 returns)

@@ -7,6 +7,7 @@ use keys::assignment;
 use keys::decide;
 use keys::live;
 use keys::live::Part;
+use keys::room;
 use places::Place;
 use rules::hidden::Set;
 use rules::rule::Rule;
@@ -16,6 +17,7 @@ use tables::table;
 use tightening::below;
 ghost use mathlib.Core.Bool.{true};
 ghost use mathlib.Core.Path.{_≡_};
+ghost use Prim.Native.Nat.{_≤_};
 ghost use lib.ListN.{length};
 ghost use Rattle.keys.specs.Keys.{refuted};
 ghost use Rattle.marking.specs.Promises.{TablesMarked};
@@ -63,7 +65,37 @@ fn narrow_verdict(
     Verdict::Tight(rule)
 }
 
-// The verdict on tables that passed the checks. Rules of the script are compared with the least bounds of the key, then rules of the key with those of the script.
+// The verdict on tables that passed the checks, with a list lent for the visible quantities: its words are free. Rules of the script are compared with the least bounds of the key, then rules
+// of the key with those of the script.
+fn verdict_in(
+    n: usize,
+    set: Set,
+    sheet: &[i64],
+    script: &[i64],
+    workspace: &mut [i64],
+    values: &mut [i64],
+    list: &mut [usize],
+) -> Verdict
+    requires { ⌜ TablesAccepted n set (now sheet) (now script) (length (now workspace)) (length (now values)) ⌝ }
+    requires { ⌜ n ≤ length (now list) ⌝ }
+    ensures { λ r. ⌜ VerdictGiven n set (now (sheet .entry)) (now (script .entry))
+        (now (workspace .entry)) (now (values .entry)) r (now (workspace .exit)) (now (values .exit)) ⌝ }
+{
+    let count = live::list(n, set, Part::Outside, 0, list);
+    if breaking::reduce_sheet(n, set, &list[..count], sheet, workspace) {
+        return unsatisfiable_sheet(n, set, sheet, script, workspace, values);
+    }
+    let tight = below::first_below(n, &list[..count], script, &workspace[table::size(n)..]);
+    let loose = breaking::first_broken(n, &list[..count], script, workspace);
+    let Place::At(k) = loose else {
+        return narrow_verdict(n, set, script, tight, workspace, values);
+    };
+    let rule = place::rule_at(k as u32, workspace[k]);
+    breaking::break_script(n, set, script, rule, workspace, values);
+    Verdict::Loose(rule)
+}
+
+// The verdict on tables that passed the checks. The list of visible quantities is of the first room that is long enough for `n`.
 pub fn verdict(
     n: usize,
     set: Set,
@@ -76,19 +108,16 @@ pub fn verdict(
     ensures { λ r. ⌜ VerdictGiven n set (now (sheet .entry)) (now (script .entry))
         (now (workspace .entry)) (now (values .entry)) r (now (workspace .exit)) (now (values .exit)) ⌝ }
 {
-    let mut list = [0; live::MOST];
-    let count = live::list(n, set, Part::Outside, 0, &mut list);
-    if breaking::reduce_sheet(n, set, &list[..count], sheet, workspace) {
-        return unsatisfiable_sheet(n, set, sheet, script, workspace, values);
+    if n <= room::SMALL {
+        let mut list = [0; room::SMALL];
+        return verdict_in(n, set, sheet, script, workspace, values, &mut list);
     }
-    let tight = below::first_below(n, &list[..count], script, &workspace[table::size(n)..]);
-    let loose = breaking::first_broken(n, &list[..count], script, workspace);
-    let Place::At(k) = loose else {
-        return narrow_verdict(n, set, script, tight, workspace, values);
-    };
-    let rule = place::rule_at(k as u32, workspace[k]);
-    breaking::break_script(n, set, script, rule, workspace, values);
-    Verdict::Loose(rule)
+    if n <= room::MIDDLE {
+        let mut list = [0; room::MIDDLE];
+        return verdict_in(n, set, sheet, script, workspace, values, &mut list);
+    }
+    let mut list = [0; room::LARGE];
+    verdict_in(n, set, sheet, script, workspace, values, &mut list)
 }
 
 // Marks the script against the sheet, both tables over `n` quantities, those of the set `hidden` hidden. For loose and tight, `values` gets an assignment that shows

@@ -1,4 +1,4 @@
--- `mark::verdict` meets its contract: the sheet reduced, the script compared with the key and the key with the script, and the rule found broken. Assumes nothing.
+-- `mark::verdict_in` meets its contract: the sheet reduced, the script compared with the key and the key with the script, and the rule found broken. Assumes nothing.
 use mathlib.Core.Path.{_≡_, refl, sym, _∙_, ap}
 use Prim.Native.Nat.{_≤_, _<_}
 use native.Mathlib.Omega.{arith}
@@ -17,21 +17,21 @@ use Rattle.marking.specs.Inner.{VisibleListed}
 use Rattle.marking.proofs.Broken.{second-part}
 use Rattle.marking.proofs.Reducing.{listed-visible}
 use Rattle.marking.proofs.Promised.{verdict-without, sheet-reducible, script-comparable, loose-inside, loose-there, loose-ready, loose-given, narrow-ready, narrow-given}
-use Rattle.marking.proofs.mark.verdict.Statement.{statement}
-use Rattle.marking.proofs.mark.verdict.Tie as tie
+use Rattle.marking.proofs.mark.verdict_in.Statement.{statement}
+use Rattle.marking.proofs.mark.verdict_in.Tie as tie
 
 -- the places before one another
-abbrev listOf : tie.After-reduce-sheet → tie.After-list2
-listOf r = r .before .before .before .before
+abbrev listOf : tie.After-reduce-sheet → tie.After-list
+listOf r = r .before .before .before .before .before
 
 abbrev startOf : tie.After-reduce-sheet → tie.Start
-startOf r = listOf r .before .before
+startOf r = listOf r .before .before .before
 
 abbrev reduceOf : tie.After-first-below → tie.After-reduce-sheet
 reduceOf b = b .before .before .before .before .before .before .before
 
 mostOf : (z : tie.After-size) → startOf (z .before .before .before .before) .args .n ≤ maxQuantities
-mostOf z = startOf (z .before .before .before .before) .pre .sized .most
+mostOf z = startOf (z .before .before .before .before) .pre .0 .sized .most
 
 known : (z : tie.After-size) → z .size .result ≡ blockStart (startOf (z .before .before .before .before) .args .n)
 known z = size-known _ _ (mostOf z) (z .size .ensures)
@@ -46,7 +46,7 @@ inside g =
     let b = f .before .before .before in
     let r = reduceOf b in
     let s = startOf r in
-    loose-inside _ _ _ _ _ _ (now (s .args .values)) _ (s .pre) (listed-visible _ _ _ _ (listOf r .list2 .ensures)) _ (b .before .before .before .before .before .if1 .left)
+    loose-inside _ _ _ _ _ _ (now (s .args .values)) _ (s .pre .0) (listed-visible _ _ _ _ (listOf r .list .ensures)) _ (b .before .before .before .before .before .if1 .left)
     (r .reduce-sheet .ensures) _ _ (f .first-broken .ensures) _ (g .before .loose .given .1)
 
 -- the rule is that of its place and its word at the front
@@ -54,30 +54,27 @@ ruled : (a : tie.After-rule-at) → let g = a .before .before in let k = g .befo
     a .rule-at .result ≡ ruleAt k (wordAt (g .before .before .before .before .first-broken .last .1 .1 .1 .0) k)
 ruled a = let g = a .before .before in a .rule-at .ensures .reply ∙ ap (ruleAt (g .before .loose .given .0 .0)) (held-value (a .before .rule-at-arg .given))
 
-slice-aggregate-list : tie.Need-slice-aggregate-list
-slice-aggregate-list c = search needs
-
 list-requires : tie.Need-list-requires
 list-requires c κs = search needs
 
-array-share-prefix-list : tie.Need-array-share-prefix-list
-array-share-prefix-list c = search needs
+slice-reshare-prefix-reduce-sheet : tie.Need-slice-reshare-prefix-reduce-sheet
+slice-reshare-prefix-reduce-sheet c = search needs
 
 slice-aggregate-reduce-sheet : tie.Need-slice-aggregate-reduce-sheet
-slice-aggregate-reduce-sheet c = let y = c .before .before in taken-length _ _ (y .list2 .ensures .room)
+slice-aggregate-reduce-sheet c = let y = c .before .before .before in taken-length _ _ (y .list .ensures .room)
 
 reduce-sheet-requires : tie.Need-reduce-sheet-requires
 reduce-sheet-requires c κs =
-    let y = c .before .before .before in
-    let s = y .before .before in
-    sheet-reducible _ _ _ _ _ _ (now (s .args .values)) (s .pre) (listed-visible _ _ _ _ (y .list2 .ensures))
+    let y = c .before .before .before .before in
+    let s = y .before .before .before in
+    sheet-reducible _ _ _ _ _ _ (now (s .args .values)) (s .pre .0) (listed-visible _ _ _ _ (y .list .ensures))
 
 unsatisfiable-sheet-requires : tie.Need-unsatisfiable-sheet-requires
 unsatisfiable-sheet-requires c κs =
     let t = c .before .before in
     let r = t .before .before in
     let s = startOf r in
-    (rw (r .reduce-sheet .ensures .lent .size) (s .pre), sym (r .reduce-sheet .ensures .reply) ∙ t .if1 .taken)
+    (rw (r .reduce-sheet .ensures .lent .size) (s .pre .0), sym (r .reduce-sheet .ensures .reply) ∙ t .if1 .taken)
 
 same-length : tie.Need-same-length
 same-length c = search needs
@@ -85,17 +82,20 @@ same-length c = search needs
 same-length-2 : tie.Need-same-length-2
 same-length-2 c = search needs
 
+same-length-3 : tie.Need-same-length-3
+same-length-3 c = search needs
+
 returns : tie.Need-returns
 returns c =
     let u = c .before .before in
     let r = u .before .before .before .before .before in
     verdict-without _ _ _ _ _ _ _ _ _ _ _ (r .reduce-sheet .ensures) (u .unsatisfiable-sheet .ensures)
 
-array-share-prefix-list-2 : tie.Need-array-share-prefix-list-2
-array-share-prefix-list-2 c = search needs
+slice-reshare-prefix-first-below : tie.Need-slice-reshare-prefix-first-below
+slice-reshare-prefix-first-below c = search needs
 
 slice-aggregate-first-below : tie.Need-slice-aggregate-first-below
-slice-aggregate-first-below c = let y = listOf (c .before .before .before) in taken-length _ _ (y .list2 .ensures .room)
+slice-aggregate-first-below c = let y = listOf (c .before .before .before) in taken-length _ _ (y .list .ensures .room)
 
 size-requires : tie.Need-size-requires
 size-requires c κs = search needs
@@ -106,13 +106,13 @@ mul-first-below c = omega (arith, known c, small-start _ (mostOf c))
 sub-first-below : tie.Need-sub-first-below
 sub-first-below c =
     let r = c .before .before .before .before in
-    omega (arith, known c, r .reduce-sheet .ensures .lent .size, startOf r .pre .workspace-room)
+    omega (arith, known c, r .reduce-sheet .ensures .lent .size, startOf r .pre .0 .workspace-room)
 
 part-first-below-start : tie.Need-part-first-below-start
 part-first-below-start c =
     let z = c .before in
     let r = z .before .before .before .before in
-    omega (arith, known z, r .reduce-sheet .ensures .lent .size, startOf r .pre .workspace-room)
+    omega (arith, known z, r .reduce-sheet .ensures .lent .size, startOf r .pre .0 .workspace-room)
 
 part-first-below-end : tie.Need-part-first-below-end
 part-first-below-end c = search needs
@@ -124,22 +124,22 @@ first-below-requires c κs =
     let s = startOf r in
     record {
       most = mostOf z;
-      listed = listOf r .list2 .ensures .listed;
-      rules-room = s .pre .sized .script-room;
-      least-room = second-room _ _ (now (s .args .workspace)) (r .reduce-sheet .last .1 .1 .1 .1 .0) (mostOf z) (z .size .ensures) (s .pre .workspace-room) (r .reduce-sheet .ensures .lent .size);
+      listed = listOf r .list .ensures .listed;
+      rules-room = s .pre .0 .sized .script-room;
+      least-room = second-room _ _ (now (s .args .workspace)) (r .reduce-sheet .last .1 .1 .1 .1 .0) (mostOf z) (z .size .ensures) (s .pre .0 .workspace-room) (r .reduce-sheet .ensures .lent .size);
     }
 
-array-share-prefix-list-3 : tie.Need-array-share-prefix-list-3
-array-share-prefix-list-3 c = search needs
+slice-reshare-prefix-first-broken : tie.Need-slice-reshare-prefix-first-broken
+slice-reshare-prefix-first-broken c = search needs
 
 slice-aggregate-first-broken : tie.Need-slice-aggregate-first-broken
-slice-aggregate-first-broken c = let y = listOf (reduceOf (c .before)) in taken-length _ _ (y .list2 .ensures .room)
+slice-aggregate-first-broken c = let y = listOf (reduceOf (c .before)) in taken-length _ _ (y .list .ensures .room)
 
 first-broken-requires : tie.Need-first-broken-requires
 first-broken-requires c κs =
     let r = reduceOf (c .before .before) in
     let s = startOf r in
-    script-comparable _ _ _ (now (s .args .sheet)) _ (now (s .args .workspace)) (now (s .args .values)) _ (s .pre) (listed-visible _ _ _ _ (listOf r .list2 .ensures))
+    script-comparable _ _ _ (now (s .args .sheet)) _ (now (s .args .workspace)) (now (s .args .values)) _ (s .pre .0) (listed-visible _ _ _ _ (listOf r .list .ensures))
     (r .reduce-sheet .ensures .lent .size)
 
 enum-known-loose : tie.Need-enum-known-loose
@@ -156,14 +156,17 @@ narrow-verdict-requires c κs =
     let z = b .before .before .before in
     let r = reduceOf b in
     let s = startOf r in
-    narrow-ready _ _ _ _ _ _ _ _ (s .pre) (listed-visible _ _ _ _ (listOf r .list2 .ensures)) _ (z .before .before .if1 .left) (r .reduce-sheet .ensures)
+    narrow-ready _ _ _ _ _ _ _ _ (s .pre .0) (listed-visible _ _ _ _ (listOf r .list .ensures)) _ (z .before .before .if1 .left) (r .reduce-sheet .ensures)
     _ _ (b .first-below .ensures) (second-part _ _ _ (mostOf z) (z .size .ensures)) _ _ (f .first-broken .ensures) (e .enum-told .given .1)
-
-same-length-3 : tie.Need-same-length-3
-same-length-3 c = search needs
 
 same-length-4 : tie.Need-same-length-4
 same-length-4 c = search needs
+
+same-length-5 : tie.Need-same-length-5
+same-length-5 c = search needs
+
+same-length-6 : tie.Need-same-length-6
+same-length-6 c = search needs
 
 returns-2 : tie.Need-returns-2
 returns-2 c =
@@ -174,7 +177,7 @@ returns-2 c =
     let z = b .before .before .before in
     let r = reduceOf b in
     let s = startOf r in
-    narrow-given _ _ _ _ _ _ _ _ (s .pre) (listed-visible _ _ _ _ (listOf r .list2 .ensures)) _ (z .before .before .if1 .left) (r .reduce-sheet .ensures)
+    narrow-given _ _ _ _ _ _ _ _ (s .pre .0) (listed-visible _ _ _ _ (listOf r .list .ensures)) _ (z .before .before .if1 .left) (r .reduce-sheet .ensures)
     _ _ (b .first-below .ensures) (second-part _ _ _ (mostOf z) (z .size .ensures)) _ _ (f .first-broken .ensures) (e .enum-told .given .1) _ _ _ (v .narrow-verdict .ensures)
 
 cast-rule-at : tie.Need-cast-rule-at
@@ -190,7 +193,7 @@ slice-copy-out-rule-at c =
     let b = f .before .before .before in
     let r = reduceOf b in
     let s = startOf r in
-    loose-there _ _ _ _ _ _ (now (s .args .values)) _ (s .pre) (listed-visible _ _ _ _ (listOf r .list2 .ensures)) _ (b .before .before .before .before .before .if1 .left)
+    loose-there _ _ _ _ _ _ (now (s .args .values)) _ (s .pre .0) (listed-visible _ _ _ _ (listOf r .list .ensures)) _ (b .before .before .before .before .before .if1 .left)
     (r .reduce-sheet .ensures) _ _ (f .first-broken .ensures) _ (g .before .loose .given .1)
 
 rule-at-requires : tie.Need-rule-at-requires
@@ -204,14 +207,17 @@ break-script-requires c κs =
     let b = f .before .before .before in
     let r = reduceOf b in
     let s = startOf r in
-    loose-ready _ _ _ _ _ _ (now (s .args .values)) _ (s .pre) (listed-visible _ _ _ _ (listOf r .list2 .ensures)) _ (b .before .before .before .before .before .if1 .left)
+    loose-ready _ _ _ _ _ _ (now (s .args .values)) _ (s .pre .0) (listed-visible _ _ _ _ (listOf r .list .ensures)) _ (b .before .before .before .before .before .if1 .left)
     (r .reduce-sheet .ensures) _ _ (f .first-broken .ensures) _ (g .before .loose .given .1) _ (ruled a)
 
-same-length-5 : tie.Need-same-length-5
-same-length-5 c = search needs
+same-length-7 : tie.Need-same-length-7
+same-length-7 c = search needs
 
-same-length-6 : tie.Need-same-length-6
-same-length-6 c = search needs
+same-length-8 : tie.Need-same-length-8
+same-length-8 c = search needs
+
+same-length-9 : tie.Need-same-length-9
+same-length-9 c = search needs
 
 returns-3 : tie.Need-returns-3
 returns-3 c =
@@ -222,23 +228,23 @@ returns-3 c =
     let b = f .before .before .before in
     let r = reduceOf b in
     let s = startOf r in
-    loose-given _ _ _ _ _ _ (now (s .args .values)) _ (s .pre) (listed-visible _ _ _ _ (listOf r .list2 .ensures)) _ (b .before .before .before .before .before .if1 .left)
+    loose-given _ _ _ _ _ _ (now (s .args .values)) _ (s .pre .0) (listed-visible _ _ _ _ (listOf r .list .ensures)) _ (b .before .before .before .before .before .if1 .left)
     (r .reduce-sheet .ensures) _ _ (f .first-broken .ensures) _ (g .before .loose .given .1) _ (ruled a) _ _ (v .break-script .ensures)
 
-pub verdict-spec : {M : Type 1} → statement M
-verdict-spec =
+pub verdict-in-spec : {M : Type 1} → statement M
+verdict-in-spec =
     tie.close
     (tie.spec
-    slice-aggregate-list
     list-requires
-    array-share-prefix-list
+    slice-reshare-prefix-reduce-sheet
     slice-aggregate-reduce-sheet
     reduce-sheet-requires
     unsatisfiable-sheet-requires
     same-length
     same-length-2
+    same-length-3
     returns
-    array-share-prefix-list-2
+    slice-reshare-prefix-first-below
     slice-aggregate-first-below
     size-requires
     mul-first-below
@@ -246,20 +252,22 @@ verdict-spec =
     part-first-below-start
     part-first-below-end
     first-below-requires
-    array-share-prefix-list-3
+    slice-reshare-prefix-first-broken
     slice-aggregate-first-broken
     first-broken-requires
     enum-known-loose
     enum-told
     narrow-verdict-requires
-    same-length-3
     same-length-4
+    same-length-5
+    same-length-6
     returns-2
     cast-rule-at
     mul-rule-at
     slice-copy-out-rule-at
     rule-at-requires
     break-script-requires
-    same-length-5
-    same-length-6
+    same-length-7
+    same-length-8
+    same-length-9
     returns-3)

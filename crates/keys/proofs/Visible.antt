@@ -60,6 +60,12 @@ visible-rest n set L t m l w u h = record {
     go i false e true f d = clash refl d
     go i false e false f d = clash (le-leb 0 i (omega arith)) f
 
+pub visible-limit : (n set L : ℕ) (t : List ℤ) (m : n ≤ maxQuantities) (l : blockStart n ≤ length t) (w : WordsWithin (blockStart n) (pos L) t)
+    (u : (j : ℕ) → hiddenIn set (suc j) ≡ true → Unnamed n j t) (h : L * 2 ^ hiddenCount (outside set) n < 2 ^ 62)
+    → visible-rest n set L t m l w u h .sums .limit ≡ L
+unfolding visible-rest
+visible-limit n set L t m l w u h = refl
+
 -- ---- the limit of a key
 
 -- every bound of the key of a sheet within B is within this

@@ -36,7 +36,7 @@ use Rattle.keys.specs.Breaking.{RuleBreakable}
 use Rattle.keys.proofs.Several.{key-visible, hideUpTo-length, hide-all}
 use Rattle.keys.proofs.Fitting.{words-mono, key-within, limit-doubled, paper-fits}
 use Rattle.keys.proofs.Deciding.{rest-fits}
-use Rattle.keys.proofs.Visible.{count-both, visible-unnamed, visible-rest, keyLimit, key-fits, key-word, values-small, LikeKey, like-rest}
+use Rattle.keys.proofs.Visible.{count-both, visible-unnamed, visible-rest, visible-limit, keyLimit, key-fits, key-word, values-small, LikeKey, like-rest}
 use Rattle.keys.proofs.Visible.{key-like as like-key}
 use Rattle.keys.proofs.Puts.{put-within, put-unnamed, opposite-hasPlace, opposite-names}
 use Rattle.marking.specs.Inner.{TablesAccepted}
@@ -91,8 +91,8 @@ module _ (n set B : ℕ) (rules t : List ℤ) (k : ℕ) (h : (B + 1) * 2 ^ n < 2
 
   -- whose limit is that of the key and one
   opposed-limit : (values : List ℤ) (l : n ≤ length values) (b : Breaks (Satisfies n t) (ruleIn rules k)) → opposed-breakable values l b .fits .sums .limit ≡ keyLimit n set B + 1
-  unfolding opposed-breakable opposed-rest visible-rest
-  opposed-limit values l b = refl
+  unfolding opposed-breakable opposed-rest
+  opposed-limit values l b = visible-limit n set (keyLimit n set B + 1) (putRule t (oppositeOf (ruleIn rules k))) m _ _ _ _
 
 -- ---- tables that are marked
 

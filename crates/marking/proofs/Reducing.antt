@@ -37,7 +37,7 @@ use Rattle.keys.proofs.Parts.{PartBack, front-word, back-word}
 use Rattle.tightening.specs.Promises.{Tightened}
 use Rattle.marking.specs.Meaning.{workspaceSize}
 use Rattle.marking.specs.Inner.{VisibleListed, SheetReducible, SheetReduced, ScriptComparable, FrontFound, FirstSeen}
-use Rattle.marking.proofs.Opposed.{visible-unnamed}
+use Rattle.keys.proofs.Visible.{visible-unnamed}
 use Rattle.marking.proofs.Lending.{lent-again, lent-wider, part-lent}
 
 -- ---- the visible quantities, listed

@@ -4,6 +4,7 @@ use crate::pair::PairChecked;
 use crate::reply::TextMarking;
 use crate::room::Lengths;
 use crate::stack;
+use keys::room;
 use tables::table;
 ghost use Rattle.scripts.specs.Promises.{MarkedInOwnRoom};
 
@@ -21,10 +22,10 @@ pub fn mark_in_own_room(sheet: &[u8], script: &[u8], values: &mut [i64]) -> Text
     match pair::check_pair(sheet, script, lent) {
         PairChecked::Refused { paper, refusal } => TextMarking::Refused { paper, refusal },
         PairChecked::Passed(pair) => {
-            if pair.quantities <= stack::SMALL {
+            if pair.quantities <= room::SMALL {
                 return stack::mark_small(sheet, script, pair, values);
             }
-            if pair.quantities <= stack::MIDDLE {
+            if pair.quantities <= room::MIDDLE {
                 return stack::mark_middle(sheet, script, pair, values);
             }
             stack::mark_large(sheet, script, pair, values)

@@ -2,6 +2,7 @@
 use crate::pair::Pair;
 use crate::reply::TextMarking;
 use crate::texts;
+use keys::room;
 use tables::table;
 ghost use Prim.Native.Nat.{_≤_};
 ghost use lib.ListN.{length};
@@ -9,24 +10,14 @@ ghost use Rattle.scripts.specs.Meaning.{ownLengths};
 ghost use Rattle.scripts.specs.Inner.{PassedPair, smallCount, middleCount};
 ghost use Rattle.scripts.specs.Promises.{MarkedInOwnRoom};
 
-// The most quantities of the small room, and the words of a table over so many.
-pub(crate) const SMALL: usize = 8;
-
-const SMALL_TABLE: usize = 2 * SMALL * SMALL;
-
-// The same of the middle room.
-pub(crate) const MIDDLE: usize = 16;
-
-const MIDDLE_TABLE: usize = 2 * MIDDLE * MIDDLE;
-
 // Marks two texts that passed in the small room.
 pub(crate) fn mark_small(sheet: &[u8], script: &[u8], pair: Pair, values: &mut [i64]) -> TextMarking
     requires { ⌜ PassedPair (now sheet) (now script) (ownLengths (length (now values))) pair × (pair .quantities ≤ smallCount) ⌝ }
     ensures { λ r. ⌜ MarkedInOwnRoom (now (sheet .entry)) (now (script .entry)) (now (values .entry)) r (now (values .exit)) ⌝ }
 {
-    let mut sheet_table = [0; SMALL_TABLE];
-    let mut script_table = [0; SMALL_TABLE];
-    let mut workspace = [0; 2 * SMALL_TABLE];
+    let mut sheet_table = [0; room::SMALL_TABLE];
+    let mut script_table = [0; room::SMALL_TABLE];
+    let mut workspace = [0; 2 * room::SMALL_TABLE];
     texts::mark_passed(
         sheet,
         script,
@@ -48,9 +39,9 @@ pub(crate) fn mark_middle(
     requires { ⌜ PassedPair (now sheet) (now script) (ownLengths (length (now values))) pair × (pair .quantities ≤ middleCount) ⌝ }
     ensures { λ r. ⌜ MarkedInOwnRoom (now (sheet .entry)) (now (script .entry)) (now (values .entry)) r (now (values .exit)) ⌝ }
 {
-    let mut sheet_table = [0; MIDDLE_TABLE];
-    let mut script_table = [0; MIDDLE_TABLE];
-    let mut workspace = [0; 2 * MIDDLE_TABLE];
+    let mut sheet_table = [0; room::MIDDLE_TABLE];
+    let mut script_table = [0; room::MIDDLE_TABLE];
+    let mut workspace = [0; 2 * room::MIDDLE_TABLE];
     texts::mark_passed(
         sheet,
         script,

@@ -14,7 +14,7 @@ use Rattle.places.proofs.Numbering.{one-below, pair-below, at-lower, at-below}
 use Rattle.rules.specs.Hidden.{hiddenIn}
 use Rattle.rules.specs.Meaning.{Assignment, names}
 use Rattle.tables.specs.Places.{ruleAt}
-use Rattle.tables.specs.Meaning.{Satisfies, Unsatisfiable}
+use Rattle.tables.specs.Meaning.{Unsatisfiable}
 use Rattle.tables.proofs.Tests.{clash}
 use Rattle.tables.proofs.Without.{cleared-word}
 use Rattle.elimination.specs.Hiding.{every, pairWord, loneWord, liveAt, paired, contradicts, eliminated}
@@ -23,14 +23,13 @@ use Rattle.elimination.proofs.TermWords.{quantity-cases, pair-same, pair-first,
 use Rattle.elimination.proofs.Terms.{place-unnamed}
 use Rattle.elimination.proofs.PairedWords.{live-one, live-pair, paired-dead}
 use Rattle.elimination.proofs.Step.{paired-length}
-use Rattle.elimination.proofs.Exact.{eliminate-none}
 use Rattle.elimination.proofs.Fewer.{fewer-paired, fewer-contradicts}
 use Rattle.elimination.proofs.Alike.{alike-word, alike-contradicts}
 use Rattle.keys.specs.declared.live.Part.{Part}
 use Rattle.keys.specs.declared.live.Part.the-variants.{Inside, Outside}
 use Rattle.keys.specs.Keys.{hideUpTo}
-use Rattle.keys.specs.Inner.{memberOf, stillLive, turnAt, AtTurns}
-use Rattle.keys.proofs.Several.{AmpleUpTo, upTo, allows-own, hideUpTo-length, hideUpTo-unnamed, several-exact}
+use Rattle.keys.specs.Inner.{memberOf, stillLive, turnAt, AtTurns, ContradictionMet}
+use Rattle.keys.proofs.Several.{AmpleUpTo, hideUpTo-length, hideUpTo-unnamed, never-contradicts}
 use Rattle.keys.proofs.Fitting.{hide-unnamed}
 use Rattle.keys.proofs.Turning.{notYet, turn-had, turn-open, turn-closed, turn-most, yet-before, yet-later, had-yet}
 
@@ -209,11 +208,13 @@ module _ (members : ℕ → Bool) (n j : ℕ) (t u : List ℤ) (l : blockStart n
         clear i g d true q = rw (eqb-true i j q) (sym turn-contradicts ∙ c)
         clear i g d false q = a .clear i (omega (arith, eqb-false i j q)) d
 
-    -- where a contradiction is met, no integers satisfy the table
-    pub turn-none : AmpleUpTo members n t → contradicts live n j u ≡ true → Unsatisfiable n t
-    turn-none ample c σ s =
-        eliminate-none n j before σ room h (sym turn-contradicts ∙ c)
-        (several-exact members n j t σ (omega arith) ample s σ .1 (allows-own n (upTo members j) t σ s))
+    -- a contradiction with the live ones is one with all
+    pub turn-met : contradicts live n j u ≡ true → ContradictionMet members n t
+    turn-met c = record { turn = j; inside = h; member = e; met = sym turn-contradicts ∙ c }
+
+-- where one is met, no integers satisfy the table
+pub met-none : (members : ℕ → Bool) (n : ℕ) (t : List ℤ) → AmpleUpTo members n t → ContradictionMet members n t → Unsatisfiable n t
+met-none members n t ample c σ s = clash (c .met) (never-contradicts members n (c .turn) t σ (c .inside) ample s)
 
 -- ---- before the first
 

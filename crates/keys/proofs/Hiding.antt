@@ -11,7 +11,7 @@ use lib.ListN.{length, take}
 use borrow.Author.Tests.{le-leb, leb-false, ltb-true, ltb-false}
 use Rattle.places.specs.Numbering.{blockStart}
 use Rattle.rules.specs.Hidden.{hiddenIn}
-use Rattle.tables.specs.Meaning.{Satisfiable, Unsatisfiable}
+use Rattle.tables.specs.Meaning.{Satisfiable}
 use Rattle.tables.proofs.Tests.{clash}
 use Rattle.elimination.specs.Hiding.{every, contradicts}
 use Rattle.elimination.specs.Promises.{QuantityHidden}
@@ -19,9 +19,10 @@ use Rattle.elimination.specs.Magnitude.{Unnamed}
 use Rattle.elimination.specs.Inner.{among, Ready, NamesAlone}
 use Rattle.keys.specs.declared.live.Part.the-variants.{Inside}
 use Rattle.keys.specs.Keys.{hideUpTo}
-use Rattle.keys.specs.Inner.{outside, stillLive, LiveListed, Fits, HideReady, MemberHidden, SetHidden}
-use Rattle.keys.proofs.Several.{hideUpTo-length, hideUpTo-unnamed, rest-hidden, hide-more, hide-all, never-contradicts}
+use Rattle.keys.specs.Inner.{outside, stillLive, LiveListed, Fits, ContradictionMet, HideReady, MemberHidden, SetHidden}
+use Rattle.keys.proofs.Several.{hideUpTo-length, hideUpTo-unnamed, rest-hidden, hide-more, hide-all}
 use Rattle.keys.proofs.Fitting.{hide-ample}
+use Rattle.keys.proofs.AtTurns.{met-none}
 use Rattle.keys.proofs.Deciding.{NoneMet, turns-some}
 
 -- the rules of a table name a member at its turn and live quantities alone
@@ -80,17 +81,18 @@ module _ (n set : ℕ) (t : List ℤ) (f : Fits n t) where
             let own : hiddenIn set (suc j) ≡ true = rw s at o in
             rw s (sym (met false d ∙ rw own))
 
-    -- and where one is, no integers satisfy the table
-    pub member-none : r ≡ true → Unsatisfiable n t
-    member-none d σ s = go (hiddenIn set (suc j)) (met true d)
+    -- and where one is, the turns end
+    member-met : r ≡ true → ContradictionMet (hiddenIn set) n t
+    member-met d = go (hiddenIn set (suc j)) refl (met true d)
       where
-        go : (b : Bool) → true ≡ (b && contradicts every n j (upTo j)) → ⊥
-        go true a = clash (sym a) (never-contradicts (hiddenIn set) n j t σ h (hide-ample (hiddenIn set) n t f) s)
-        go false a = clash (sym a) refl
+        go : (b : Bool) → hiddenIn set (suc j) ≡ b → true ≡ (b && contradicts every n j (upTo j)) → ContradictionMet (hiddenIn set) n t
+        go true o a = record { turn = j; inside = h; member = o; met = sym a }
+        go false o a = clash (sym a) refl
 
     pub set-clash : r ≡ true → SetHidden n set t true v
     set-clash d = record {
-      none = λ c. member-none d;
+      met = λ c. member-met d;
+      none = λ c. met-none (hiddenIn set) n t (hide-ample (hiddenIn set) n t f) (member-met d);
       key = λ c. clash refl c;
       some = λ c. clash refl c;
       lent = record {
@@ -103,6 +105,7 @@ module _ (n set : ℕ) (t : List ℤ) (f : Fits n t) where
   -- with none met to the end, what is left has an assignment only where the table has
   pub set-hidden : (u : List ℤ) → u ≡ hideUpTo (hiddenIn set) n n t → NoneMet (hiddenIn set) n n t → SetHidden n set t false u
   set-hidden u e c = record {
+    met = λ d. clash d refl;
     none = λ d. clash d refl;
     key = λ d. e ∙ hide-all (hiddenIn set) n t;
     some = λ d s. left (rw e at s);

@@ -17,7 +17,7 @@ use Rattle.elimination.specs.Inner.{among, Listed}
 use Rattle.elimination.proofs.Lists.{listed-below}
 use Rattle.keys.specs.declared.live.Part.{Part}
 use Rattle.keys.specs.declared.live.Part.the-variants.{Inside, Outside}
-use Rattle.keys.specs.Inner.{stillLive, firstLive, LiveListed, LiveAlone}
+use Rattle.keys.specs.Inner.{stillLive, NoneBefore, LiveListed, LiveAlone}
 
 -- ---- a list with one more at its end
 
@@ -73,36 +73,28 @@ listed-wider n m list h l = record { rising = l .rising; below = λ i g. omega (
 
 -- ---- the live ones of the first i quantities
 
-module _ (set : ℕ) (part : Part) (from : ℕ) where
-  -- before the first there is none,
-  none-live : (i : ℕ) → i < firstLive part from → stillLive set part from i ≡ false
-  none-live i h = go part h
-    where
-      go : (p : Part) → i < firstLive p from → stillLive set p from i ≡ false
-      go Inside g = let z : ⊥ = omega arith in absurd z
-      go Outside g = rw (lt-leb from i g)
+-- inside a set all later ones are live, and outside it no earlier one is
+pub none-inside : (from : ℕ) → NoneBefore Inside from 0
+none-inside from = record { most = omega arith; none = λ set h l. let z : ⊥ = omega arith in absurd z }
 
+pub none-outside : (from : ℕ) → NoneBefore Outside from from
+none-outside from = record { most = omega arith; none = λ set h l. rw (lt-leb from h l) }
+
+module _ (set : ℕ) (part : Part) (from : ℕ) where
+  -- before the first none is,
   among-none : (i : ℕ) → among [] i ≡ false
   unfolding isListed
   among-none i = refl
 
-  pub live-none : (out : List ℕ) → LiveListed (firstLive part from) set part from 0 out
-  live-none out = record {
+  pub live-none : (i : ℕ) (out : List ℕ) → NoneBefore part from i → LiveListed i set part from 0 out
+  live-none i out b = record {
     room = omega arith;
     listed = record {
-      rising = record { rises = λ i h. let z : ⊥ = omega arith in absurd z };
-      below = λ i h. let z : ⊥ = omega arith in absurd z;
+      rising = record { rises = λ h l. let z : ⊥ = omega arith in absurd z };
+      below = λ h l. let z : ⊥ = omega arith in absurd z;
     };
-    each = λ i h. rw (none-live i h) (among-none i);
+    each = λ h l. rw (b .none set h l) (among-none h);
   }
-
-  -- and it is no later than where the turn is
-  pub first-most : firstLive part from ≤ from
-  first-most = go part
-    where
-      go : (p : Part) → firstLive p from ≤ from
-      go Inside = omega arith
-      go Outside = omega arith
 
   -- of one more that is not live,
   pub live-passed : (i count : ℕ) (out : List ℕ) → stillLive set part from i ≡ false → LiveListed i set part from count out

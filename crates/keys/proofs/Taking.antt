@@ -34,11 +34,11 @@ use Rattle.elimination.proofs.Fewer.{fewer-paired, fewer-contradicts}
 use Rattle.elimination.proofs.Step.{paired-length}
 use Rattle.keys.specs.declared.live.Part.{Part}
 use Rattle.keys.specs.Keys.{hideUpTo}
-use Rattle.keys.specs.Inner.{memberOf, stillLive, LiveListed, PartFits, turnAt, AtTurns, SetEliminated, TurnReady, TurnTaken, ChoiceReady, PartReadable, Readable, readOne, readBack}
+use Rattle.keys.specs.Inner.{memberOf, stillLive, LiveListed, PartFits, turnAt, AtTurns, ContradictionMet, SetEliminated, TurnReady, TurnTaken, ChoiceReady, PartReadable, Readable, readOne, readBack}
 use Rattle.keys.proofs.Several.{hideUpTo-length}
 use Rattle.keys.proofs.Fitting.{limit-rises, hidden-within, set-ample}
 use Rattle.keys.proofs.Turning.{turn-most, had-yet}
-use Rattle.keys.proofs.AtTurns.{LiveNow, live-part, skip-turn, next-turn, turn-none}
+use Rattle.keys.proofs.AtTurns.{LiveNow, live-part, skip-turn, next-turn, turn-met, met-none}
 use Rattle.keys.proofs.ReadBack.{read-length, read-within}
 
 -- ---- sets that agree on n quantities
@@ -109,7 +109,8 @@ module _ (n set : ℕ) (part : Part) (t : List ℤ) (f : PartFits n set part t) 
       go false d p q = rw q (skip-turn (memberOf set part) n j t u (f .sums .room) h room a d)
 
   -- a contradiction
-  pub turn-clash : (j : ℕ) (u v : List ℤ) (r : Bool) → j < n → length u ≡ length t → AtTurns (memberOf set part) n j t u → TurnTaken n set part j u r v → r ≡ true → Unsatisfiable n t
+  pub turn-clash : (j : ℕ) (u v : List ℤ) (r : Bool) → j < n → length u ≡ length t → AtTurns (memberOf set part) n j t u → TurnTaken n set part j u r v → r ≡ true
+      → ContradictionMet (memberOf set part) n t
   turn-clash j u v r h s a y e = go (memberOf set part (suc j)) refl (y .reply)
     where
       live : ℕ → Bool
@@ -118,10 +119,8 @@ module _ (n set : ℕ) (part : Part) (t : List ℤ) (f : PartFits n set part t) 
       room : blockStart n ≤ length u
       room = omega (arith, f .sums .room)
 
-      go : (b : Bool) → memberOf set part (suc j) ≡ b → r ≡ (b && contradicts live n j u) → Unsatisfiable n t
-      go true d p =
-          turn-none (memberOf set part) n j t u (f .sums .room) h room a live d (live-part set part n (suc j) t (f .alone))
-          (set-ample (memberOf set part) n t (f .sums)) (sym p ∙ e)
+      go : (b : Bool) → memberOf set part (suc j) ≡ b → r ≡ (b && contradicts live n j u) → ContradictionMet (memberOf set part) n t
+      go true d p = turn-met (memberOf set part) n j t u (f .sums .room) h room a live d (live-part set part n (suc j) t (f .alone)) (sym p ∙ e)
       go false d p = clash e p
 
   -- a table on the way is ready for its next turn
@@ -144,10 +143,16 @@ module _ (n set : ℕ) (part : Part) (t : List ℤ) (f : PartFits n set part t) 
   -- at the end, or stopped
   pub set-done : (u : List ℤ) → length u ≡ length t → drop (blockStart n) u ≡ drop (blockStart n) t → AtTurns (memberOf set part) n n t u
       → SetEliminated (memberOf set part) n t false u
-  set-done u s e a = record { none = λ c. clash c refl; some = λ c. a; lent = record { size = s; rest = e; kept = λ c. clash refl c } }
+  set-done u s e a = record { met = λ c. clash c refl; none = λ c. clash c refl; some = λ c. a; lent = record { size = s; rest = e; kept = λ c. clash refl c } }
 
-  pub set-none : (u : List ℤ) → length u ≡ length t → drop (blockStart n) u ≡ drop (blockStart n) t → Unsatisfiable n t → SetEliminated (memberOf set part) n t true u
-  set-none u s e a = record { none = λ c. a; some = λ c. clash refl c; lent = record { size = s; rest = e; kept = λ c. clash refl c } }
+  pub set-none : (u : List ℤ) → length u ≡ length t → drop (blockStart n) u ≡ drop (blockStart n) t → ContradictionMet (memberOf set part) n t
+      → SetEliminated (memberOf set part) n t true u
+  set-none u s e a = record {
+    met = λ c. a;
+    none = λ c. met-none (memberOf set part) n t (set-ample (memberOf set part) n t (f .sums)) a;
+    some = λ c. clash refl c;
+    lent = record { size = s; rest = e; kept = λ c. clash refl c };
+  }
 
 -- ---- a value
 

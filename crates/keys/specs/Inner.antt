@@ -48,10 +48,10 @@ abbrev pub stillLive : ℕ → Part → ℕ → ℕ → Bool
 stillLive set Inside from i = leb from i || outside set (suc i)
 stillLive set Outside from i = leb from i && outside set (suc i)
 
--- none before this is
-abbrev pub firstLive : Part → ℕ → ℕ
-firstLive Inside from = 0
-firstLive Outside from = from
+-- none before quantity i + 1 is, whatever the set
+pub record NoneBefore (part : Part) (from i : ℕ) : Type 0 where
+  pub most : i ≤ from
+  pub none : (set h : ℕ) → h < i → stillLive set part from h ≡ false
 
 -- the first `count` of a list are these of n quantities, in increasing number
 pub record LiveListed (n set : ℕ) (part : Part) (from count : ℕ) (out : List ℕ) : Type 0 where
@@ -105,8 +105,16 @@ pub record AtTurns (members : ℕ → Bool) (n m : ℕ) (before after : List ℤ
   pub words : (k : ℕ) → k < blockStart n → wordAt after k ≡ wordAt (hideUpTo members n (turnAt members m k) before) k
   pub clear : (j : ℕ) → j < m → members (suc j) ≡ true → contradicts every n j (hideUpTo members n j before) ≡ false
 
+-- a contradiction at the turn of a member, with those before it hidden
+pub record ContradictionMet (members : ℕ → Bool) (n : ℕ) (t : List ℤ) : Type 0 where
+  pub turn : ℕ
+  pub inside : turn < n
+  pub member : members (suc turn) ≡ true
+  pub met : contradicts every n turn (hideUpTo members n turn t) ≡ true
+
 -- all members eliminated, and whether a contradiction is met: then no integers satisfy the table, and its words are free
 pub record SetEliminated (members : ℕ → Bool) (n : ℕ) (before : List ℤ) (r : Bool) (after : List ℤ) : Type 0 where
+  pub met : r ≡ true → ContradictionMet members n before
   pub none : r ≡ true → Unsatisfiable n before
   pub some : r ≡ false → AtTurns members n n before after
   pub lent : Lent (blockStart n) true before after
@@ -202,6 +210,7 @@ pub record MemberHidden (n set j : ℕ) (before : List ℤ) (r : Bool) (after : 
 
 -- all of the set hidden, and whether a contradiction is met: then no integers satisfy the table, and its words are free. With none, the key has an assignment only where the table has
 pub record SetHidden (n set : ℕ) (before : List ℤ) (r : Bool) (after : List ℤ) : Type 0 where
+  pub met : r ≡ true → ContradictionMet (hiddenIn set) n before
   pub none : r ≡ true → Unsatisfiable n before
   pub key : r ≡ false → after ≡ keyOf (hiddenIn set) n before
   pub some : r ≡ false → Satisfiable n after → Satisfiable n before

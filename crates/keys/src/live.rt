@@ -5,7 +5,7 @@ ghost use mathlib.Core.Path.{_≡_};
 ghost use Prim.Native.Nat.{suc, _≤_, _<_};
 ghost use lib.ListN.{length};
 ghost use Rattle.rules.specs.Limits.{maxQuantities};
-ghost use Rattle.keys.specs.Inner.{memberOf, stillLive, firstLive, LiveListed};
+ghost use Rattle.keys.specs.Inner.{memberOf, stillLive, NoneBefore, LiveListed};
 
 // A part of the quantities, given by a set.
 pub enum Part {
@@ -48,9 +48,9 @@ fn is_live(set: Set, part: Part, from: usize, i: usize) -> bool
     }
 }
 
-// The number less one of the quantity before which none is live.
+// A quantity before which none is live, by its number less one.
 fn first(part: Part, from: usize) -> usize
-    ensures { λ r. ⌜ r ≡ firstLive part from ⌝ }
+    ensures { λ r. ⌜ NoneBefore part from r ⌝ }
 {
     match part {
         Part::Inside => 0,

@@ -8,7 +8,7 @@ use native.Mathlib.Omega.{arith}
 use lib.ListN.{length, length-set}
 use borrow.Author.Needs.{needs}
 use Rattle.keys.specs.Inner.{LiveListed}
-use Rattle.keys.proofs.Listing.{live-none, first-most, live-passed, live-put}
+use Rattle.keys.proofs.Listing.{live-none, live-passed, live-put}
 use Rattle.keys.proofs.live.list.Statement.{statement}
 use Rattle.keys.proofs.live.list.Tie as tie
 
@@ -25,7 +25,8 @@ first-requires c κs = search needs
 loop-holds : tie.Need-loop-holds Inv-loop μ-loop
 loop-holds c =
     let s = c .before .before in
-    rw (c .first .ensures) (omega (arith, first-most (s .args .set) (s .args .part) (s .args .from), s .pre .2), omega arith, refl, live-none _ _ _ _)
+    let f = c .first .ensures in
+    (omega (arith, f .most, s .pre .2), omega arith, refl, live-none _ _ _ _ _ f)
 
 is-live-requires : tie.Need-is-live-requires Inv-loop μ-loop
 is-live-requires c κs = omega arith

@@ -48,7 +48,7 @@ use Rattle.marking.specs.Verdicts.{verdictNumber, carriedRule, verdictRe
 use Rattle.marking.specs.Marking.{firstBroken, orElse, verdictOf, markChecks, markedAs, markReply}
 use Rattle.marking.specs.Meaning.{FirstAt, LooseShown, TightShown, VerdictMeans, workspaceSize, markNeeds}
 use Rattle.marking.specs.Promises.{TablesMarked}
-use Rattle.marking.specs.Inner.{TablesAccepted, VerdictGiven, VisibleListed, SheetReducible, SheetReduced, ScriptComparable, FrontFound}
+use Rattle.marking.specs.Inner.{TablesAccepted, VerdictGiven, VerdictTold, VisibleListed, SheetReducible, SheetReduced, ScriptComparable, FrontFound}
 use Rattle.marking.specs.Inner.{ScriptBreakable, ScriptBroken, SheetBreakable, SheetBroken, NarrowReady, NarrowGiven}
 use Rattle.marking.proofs.Checking.{mark-tied, met-accepted}
 use Rattle.marking.proofs.Carried.{verdict-refusal, ruleAt-term, first-alike, loose-alike, loose-shown-alike, tight-shown-alike}
@@ -392,6 +392,10 @@ verdict-told n set sheet script w v r w' v' m g = record {
   );
 }
 
+pub told-given : (n set : ℕ) (sheet script w v : List ℤ) (r : Verdict) (w' v' : List ℤ) → TablesAccepted n set sheet script (length w) (length v)
+    → VerdictGiven n set sheet script w v r w' v' → VerdictTold n set sheet script w v r w' v'
+told-given n set sheet script w v r w' v' m g = record { given = g; means = verdict-told n set sheet script w v r w' v' m g }
+
 -- a reply made of checks is refused as they are
 marked-refused : (a : Reply) (v : Verdict) (f : Refusal) → (markingReturned (markedAs a v) ≡ refusedAs f) ↔ (a ≡ NotDone f)
 marked-refused Done v f = (λ e. absurd (verdict-refusal v f (ap (λ (x : Returned). x .number) e)), λ e. absurd (refused-done (sym e)))
@@ -433,16 +437,16 @@ mark-refused n set sheet script w v a f e d = record {
 
 -- a verdict
 pub mark-given : (n set : ℕ) (sheet script w v : List ℤ) (a : Reply) (r : Verdict) (w' v' : List ℤ)
-    → a ≡ markChecks n set sheet script (length w) (length v) → a ≡ Done → VerdictGiven n set sheet script w v r w' v'
+    → a ≡ markChecks n set sheet script (length w) (length v) → a ≡ Done → VerdictTold n set sheet script w v r w' v'
     → TablesMarked n set sheet script w v (Marked r) w' v'
 unfolding markReply
 mark-given n set sheet script w v a r w' v' e d g = record {
   reply = reply;
-  lent = g .lent;
-  written = g .written;
+  lent = g .given .lent;
+  written = g .given .written;
   decided = reply-decided n set sheet script (length w) (length v) (Marked r) reply;
-  means = λ c. verdict-told n set sheet script w v r w' v' (checked-accepted n set sheet script (length w) (length v) a e d) g;
+  means = λ c. g .means;
 }
   where
     reply : Marked r ≡ markReply n set sheet script (length w) (length v)
-    reply = rw (← e, d, ← g .reply)
+    reply = rw (← e, d, ← g .given .reply)

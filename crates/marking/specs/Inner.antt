@@ -1,4 +1,4 @@
--- What the functions inside ask and answer; no promise of marking rests on it, but `mark::verdict`, for tables that were checked before, promises `VerdictGiven`. Verdicts go through the key: a rule of the script that some assignment of the sheet breaks is one that some assignment of the key
+-- What the functions inside ask and answer; no promise of marking rests on it, but `mark::verdict`, for tables that were checked before, promises `VerdictTold`. Verdicts go through the key: a rule of the script that some assignment of the sheet breaks is one that some assignment of the key
 -- breaks, and hidden values complete that one.
 use mathlib.Core.Bool.{Bool, true, false}
 use mathlib.Core.Path.{_≡_}
@@ -30,8 +30,8 @@ use Rattle.keys.specs.Breaking.{RuleBreakable}
 use Rattle.tightening.specs.Below.{LivePlace}
 use Rattle.marking.specs.declared.verdict.Verdict.{Verdict}
 use Rattle.marking.specs.declared.verdict.Verdict.the-variants.{Equal, Loose, Tight}
-use Rattle.marking.specs.Verdicts.{isShown}
-use Rattle.marking.specs.Meaning.{LooseShown, TightShown, workspaceSize}
+use Rattle.marking.specs.Verdicts.{isShown, verdictReturned}
+use Rattle.marking.specs.Meaning.{LooseShown, TightShown, VerdictMeans, workspaceSize}
 use Rattle.marking.specs.Marking.{verdictOf}
 
 -- ---- what they ask: the needs of marking are met
@@ -65,6 +65,11 @@ pub record VerdictGiven (n set : ℕ) (sheet script workspace values : List ℤ)
   pub written : Lent n (isShown r) values values'
   pub loose-shown : (rule : Rule) → r ≡ Loose rule → LooseShown n (hiddenIn set) (Satisfies n sheet) (Satisfies n script) rule values'
   pub tight-shown : (rule : Rule) → r ≡ Tight rule → TightShown n (hiddenIn set) (Satisfies n sheet) (Satisfies n script) rule values'
+
+-- and what it means: demand 3, with the rule and the assignment
+pub record VerdictTold (n set : ℕ) (sheet script workspace values : List ℤ) (r : Verdict) (workspace' values' : List ℤ) : Type 0 where
+  pub given : VerdictGiven n set sheet script workspace values r workspace' values'
+  pub means : VerdictMeans n set (Satisfies n sheet) (Satisfies n script) sheet script (verdictReturned r) values'
 
 -- ---- the sheet reduced: its hidden quantities eliminated at the front of a workspace, the least bounds of its key at the back
 

@@ -21,7 +21,7 @@ ghost use Prim.Native.Nat.{_≤_};
 ghost use lib.ListN.{length};
 ghost use Rattle.keys.specs.Keys.{refuted};
 ghost use Rattle.marking.specs.Promises.{TablesMarked};
-ghost use Rattle.marking.specs.Inner.{TablesAccepted, VerdictGiven, NarrowReady, NarrowGiven};
+ghost use Rattle.marking.specs.Inner.{TablesAccepted, VerdictGiven, VerdictTold, NarrowReady, NarrowGiven};
 
 // The verdict where no integers satisfy the sheet: the script is equal if none satisfy it either, and else loose with no rule.
 fn unsatisfiable_sheet(
@@ -78,7 +78,7 @@ fn verdict_in(
 ) -> Verdict
     requires { ⌜ TablesAccepted n set (now sheet) (now script) (length (now workspace)) (length (now values)) ⌝ }
     requires { ⌜ n ≤ length (now list) ⌝ }
-    ensures { λ r. ⌜ VerdictGiven n set (now (sheet .entry)) (now (script .entry))
+    ensures { λ r. ⌜ VerdictTold n set (now (sheet .entry)) (now (script .entry))
         (now (workspace .entry)) (now (values .entry)) r (now (workspace .exit)) (now (values .exit)) ⌝ }
 {
     let count = live::list(n, set, Part::Outside, 0, list);
@@ -95,7 +95,7 @@ fn verdict_in(
     Verdict::Loose(rule)
 }
 
-// The verdict on tables that passed the checks. The list of visible quantities is of the first room that is long enough for `n`.
+// The verdict on tables that passed the checks, with what it means. The list of visible quantities is of the first room that is long enough for `n`.
 pub fn verdict(
     n: usize,
     set: Set,
@@ -105,7 +105,7 @@ pub fn verdict(
     values: &mut [i64],
 ) -> Verdict
     requires { ⌜ TablesAccepted n set (now sheet) (now script) (length (now workspace)) (length (now values)) ⌝ }
-    ensures { λ r. ⌜ VerdictGiven n set (now (sheet .entry)) (now (script .entry))
+    ensures { λ r. ⌜ VerdictTold n set (now (sheet .entry)) (now (script .entry))
         (now (workspace .entry)) (now (values .entry)) r (now (workspace .exit)) (now (values .exit)) ⌝ }
 {
     if n <= room::SMALL {

@@ -16,7 +16,7 @@ use Rattle.keys.proofs.Taking.{taken-length}
 use Rattle.marking.specs.Inner.{VisibleListed}
 use Rattle.marking.proofs.Broken.{second-part}
 use Rattle.marking.proofs.Reducing.{listed-visible}
-use Rattle.marking.proofs.Promised.{verdict-without, sheet-reducible, script-comparable, loose-inside, loose-there, loose-ready, loose-given, narrow-ready, narrow-given}
+use Rattle.marking.proofs.Promised.{told-given, verdict-without, sheet-reducible, script-comparable, loose-inside, loose-there, loose-ready, loose-given, narrow-ready, narrow-given}
 use Rattle.marking.proofs.mark.verdict_in.Statement.{statement}
 use Rattle.marking.proofs.mark.verdict_in.Tie as tie
 
@@ -89,7 +89,7 @@ returns : tie.Need-returns
 returns c =
     let u = c .before .before in
     let r = u .before .before .before .before .before in
-    verdict-without _ _ _ _ _ _ _ _ _ _ _ (r .reduce-sheet .ensures) (u .unsatisfiable-sheet .ensures)
+    told-given _ _ _ _ _ _ _ _ _ (startOf r .pre .0) (verdict-without _ _ _ _ _ _ _ _ _ _ _ (r .reduce-sheet .ensures) (u .unsatisfiable-sheet .ensures))
 
 slice-reshare-prefix-first-below : tie.Need-slice-reshare-prefix-first-below
 slice-reshare-prefix-first-below c = search needs
@@ -177,8 +177,9 @@ returns-2 c =
     let z = b .before .before .before in
     let r = reduceOf b in
     let s = startOf r in
-    narrow-given _ _ _ _ _ _ _ _ (s .pre .0) (listed-visible _ _ _ _ (listOf r .list .ensures)) _ (z .before .before .if1 .left) (r .reduce-sheet .ensures)
-    _ _ (b .first-below .ensures) (second-part _ _ _ (mostOf z) (z .size .ensures)) _ _ (f .first-broken .ensures) (e .enum-told .given .1) _ _ _ (v .narrow-verdict .ensures)
+    told-given _ _ _ _ _ _ _ _ _ (s .pre .0)
+    (narrow-given _ _ _ _ _ _ _ _ (s .pre .0) (listed-visible _ _ _ _ (listOf r .list .ensures)) _ (z .before .before .if1 .left) (r .reduce-sheet .ensures)
+    _ _ (b .first-below .ensures) (second-part _ _ _ (mostOf z) (z .size .ensures)) _ _ (f .first-broken .ensures) (e .enum-told .given .1) _ _ _ (v .narrow-verdict .ensures))
 
 cast-rule-at : tie.Need-cast-rule-at
 cast-rule-at c = omega (arith, inside c, small-start _ (mostOf (sizeOf c)))
@@ -228,8 +229,9 @@ returns-3 c =
     let b = f .before .before .before in
     let r = reduceOf b in
     let s = startOf r in
-    loose-given _ _ _ _ _ _ (now (s .args .values)) _ (s .pre .0) (listed-visible _ _ _ _ (listOf r .list .ensures)) _ (b .before .before .before .before .before .if1 .left)
-    (r .reduce-sheet .ensures) _ _ (f .first-broken .ensures) _ (g .before .loose .given .1) _ (ruled a) _ _ (v .break-script .ensures)
+    told-given _ _ _ _ _ _ _ _ _ (s .pre .0)
+    (loose-given _ _ _ _ _ _ (now (s .args .values)) _ (s .pre .0) (listed-visible _ _ _ _ (listOf r .list .ensures)) _ (b .before .before .before .before .before .if1 .left)
+    (r .reduce-sheet .ensures) _ _ (f .first-broken .ensures) _ (g .before .loose .given .1) _ (ruled a) _ _ (v .break-script .ensures))
 
 pub verdict-in-spec : {M : Type 1} → statement M
 verdict-in-spec =

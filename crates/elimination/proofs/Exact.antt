@@ -22,7 +22,7 @@ use Rattle.tables.proofs.Without.{cleared-meaning}
 use Rattle.elimination.specs.Hiding.{every, pairWord, loneWord, paired, contradicts, eliminated}
 use Rattle.elimination.specs.Choosing.{chosen}
 use Rattle.elimination.proofs.Projection.{own-sums, sums-own}
-use Rattle.elimination.specs.Magnitude.{Live}
+use Rattle.elimination.proofs.Terms.{Live}
 use Rattle.elimination.proofs.TermWords.{pair-apart}
 use Rattle.elimination.proofs.Terms.{TermsMet, Others, OwnOf, satisfies-met, without-met, met-some, sums-some, met-own, met-join, literal-agree, met-agree, own-agree, sums-agree}
 use Rattle.elimination.proofs.Step.{SumsOf, Adds, paired-length, step-lower, step-met, step-clear, step-sums}

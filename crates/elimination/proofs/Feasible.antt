@@ -26,7 +26,7 @@ use Rattle.tables.proofs.Places.{own-named, four-named}
 use Rattle.elimination.specs.Hiding.{pairWord, loneWord}
 use Rattle.elimination.specs.Choosing.{choice}
 use Rattle.elimination.specs.Feasible.{MeetsOwn, Feasible}
-use Rattle.elimination.specs.Magnitude.{Live}
+use Rattle.elimination.proofs.Terms.{Live}
 use Rattle.elimination.specs.Promises.{Chosen}
 use Rattle.elimination.proofs.Projection.{Own, own-sums, sums-own, chosen-near}
 use Rattle.elimination.proofs.TermWords.{pair-apart, pair-first, pair-sym, lone-at, pair-at}

@@ -20,10 +20,17 @@ use Rattle.tables.specs.Meaning.{WordsWithin}
 use Rattle.tables.proofs.Tests.{clash}
 use Rattle.tables.proofs.Without.{cleared-word}
 use Rattle.elimination.specs.Hiding.{every, pairWord, loneWord, paired, eliminated}
-use Rattle.elimination.specs.Magnitude.{Live, OwnWithin}
+use Rattle.elimination.proofs.Terms.{Live}
 use Rattle.elimination.proofs.TermWords.{lone-at, pair-at, lone-within, pair-within}
 use Rattle.elimination.proofs.PairedWords.{lone-elim, pair-elim}
 use Rattle.elimination.proofs.Step.{paired-length}
+
+-- every bound of quantity j + 1, alone or with a literal In, is at most B in magnitude
+pub record OwnWithin (In : ℕ → Type 0) (j B : ℕ) (t : List ℤ) : Type 0 where
+  pub plus : (x : ℕ) → In x → hasRule (pairWord t (2 * j) x) ≡ true → Within (pos B) (pairWord t (2 * j) x)
+  pub minus : (x : ℕ) → In x → hasRule (pairWord t (2 * j + 1) x) ≡ true → Within (pos B) (pairWord t (2 * j + 1) x)
+  pub plus-alone : hasRule (loneWord t (2 * j)) ≡ true → Within (pos B) (loneWord t (2 * j))
+  pub minus-alone : hasRule (loneWord t (2 * j + 1)) ≡ true → Within (pos B) (loneWord t (2 * j + 1))
 
 -- ---- bounds by terms
 

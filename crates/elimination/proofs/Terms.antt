@@ -22,10 +22,13 @@ use Rattle.tables.specs.Tables.{hasRule}
 use Rattle.tables.specs.Meaning.{ruleIn, Satisfies, SatisfiesWithout}
 use Rattle.tables.proofs.Tests.{clash}
 use Rattle.tables.proofs.Places.{own-named, four-named, not-named}
-use Rattle.elimination.specs.Magnitude.{Live}
 use Rattle.elimination.specs.Hiding.{every, pairWord, loneWord}
 use Rattle.elimination.proofs.Projection.{Sums, Own}
 use Rattle.elimination.proofs.TermWords.{pair-none, pair-first, pair-sym, lone-at, pair-at}
+
+-- the literals of the live quantities of n
+abbrev pub Live : (ℕ → Bool) → ℕ → ℕ → Type 0
+Live live n x = (live (x / 2) ≡ true) × (x < 2 * n)
 
 -- an assignment meets every rule of a table whose literals are all In
 pub record TermsMet (In : ℕ → Type 0) (t : List ℤ) (σ : Assignment) : Type 0 where

@@ -30,10 +30,6 @@ chosen live value plus minus p m x = negℤ (boundedBy live value minus m x (neg
 
 -- ---- in a table over n quantities, given the values of the live ones
 
--- v lowered by every rule of the literal z, alone or with a live quantity
-abbrev pub boundedIn : (ℕ → Bool) → ℕ → List ℤ → List ℤ → ℕ → ℤ → ℤ
-boundedIn live n t values z v = boundedBy live (literalValue (assignmentOf values)) (pairWord t z) (loneWord t z) (2 * n) v
-
 -- the value chosen for quantity j + 1
 unfoldable pub choice : (ℕ → Bool) → ℕ → List ℤ → ℕ → List ℤ → ℤ
 choice live n t j values =

@@ -325,6 +325,7 @@ module _ (n set : ℕ) (ws part ws' : List ℤ) (l : 2 * blockStart n ≤ length
   unfolding setCleared
   key-copied = record {
     front = first-word;
+    back = λ k h. rw (← yet-last (hiddenIn set) n k h) (second-word k h);
     key = λ t r a k h. second-word k h ∙ key-word (hiddenIn set) n t ws k r a h;
     lent = record { size = p .size ∙ copied-length (blockStart n) ws; rest = rest; kept = λ h. clash refl h };
   }

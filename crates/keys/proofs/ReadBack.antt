@@ -22,7 +22,8 @@ use Rattle.tables.specs.Meaning.{Satisfies, WordsWithin, assignmentOf}
 use Rattle.tables.proofs.Tests.{clash}
 use Rattle.elimination.specs.Hiding.{every, pairWord, loneWord, liveAt, paired, contradicts, eliminated}
 use Rattle.elimination.specs.Choosing.{chosen, choice}
-use Rattle.elimination.specs.Magnitude.{Live, Unnamed}
+use Rattle.elimination.specs.Magnitude.{Unnamed}
+use Rattle.elimination.proofs.Terms.{Live}
 use Rattle.elimination.proofs.Projection.{bounded-same, chosen-within}
 use Rattle.elimination.proofs.TermWords.{quantity-cases, pair-same, pair-first, pair-second, pair-sym, lone-within, pair-within}
 use Rattle.elimination.proofs.Terms.{TermsMet, Others, satisfies-met, met-some, sums-some}

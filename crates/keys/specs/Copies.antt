@@ -30,9 +30,10 @@ clearingSet set k w = cond (liveAt (λ i. outside set (suc i)) k) w noRule
 unfoldable pub setCleared : ℕ → ℕ → List ℤ → List ℤ
 setCleared n set t = change (blockStart n) (clearingSet set) t
 
--- the second table of the words is the key of each sheet of which the first is the table with its hidden quantities eliminated; the first stays
+-- the second table of the words is the first with the places of the set cleared; so it is the key of each sheet of which the first is the table with its hidden quantities eliminated. The first stays
 pub record KeyCopied (n set : ℕ) (before after : List ℤ) : Type 0 where
   pub front : (k : ℕ) → k < blockStart n → wordAt after k ≡ wordAt before k
+  pub back : (k : ℕ) → k < blockStart n → wordAt after (blockStart n + k) ≡ clearingSet set k (wordAt before k)
   pub key : (t : List ℤ) → blockStart n ≤ length t → AtTurns (hiddenIn set) n n t before → (k : ℕ) → k < blockStart n
       → wordAt after (blockStart n + k) ≡ wordAt (keyOf (hiddenIn set) n t) k
   pub lent : Lent (2 * blockStart n) true before after

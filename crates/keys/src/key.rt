@@ -85,7 +85,8 @@ fn hide_set(n: usize, set: Set, table: &mut [i64]) -> bool
     hide_members(n, set, table, &mut list, &mut plus, &mut minus)
 }
 
-// Makes the key of the sheet's table in the workspace and decides in `copy`, a copy of the key, whether no integers satisfy the sheet. Where some do, the table becomes the key. The words of `copy` are free.
+// Makes the key of the sheet's table in the workspace, and answers whether no integers satisfy the sheet: a contradiction is met while hidden quantities are hidden, or in `copy`, a copy of the key, where the visible ones are
+// eliminated. Where there is none, the table becomes the key. The words of `copy` are free.
 fn make_key(n: usize, set: Set, table: &mut [i64], workspace: &mut [i64], copy: &mut [i64]) -> bool
     requires { ⌜ AllMet (keyNeedsThen n set (now table) (length (now workspace)) passed) × (blockStart n ≤ length (now copy)) ⌝ }
     ensures { λ r. ⌜ KeyTried n set (now (table .entry)) (now (workspace .entry)) r (now (table .exit)) (now (workspace .exit)) ⌝ }

@@ -21,7 +21,8 @@ use Rattle.tables.specs.Tables.{hasRule}
 use Rattle.tables.specs.Meaning.{Satisfies, SheetAllows}
 use Rattle.tables.proofs.Tests.{clash}
 use Rattle.elimination.specs.Hiding.{every, pairWord, loneWord}
-use Rattle.elimination.specs.Magnitude.{Live, Unnamed}
+use Rattle.elimination.specs.Magnitude.{Unnamed}
+use Rattle.elimination.proofs.Terms.{Live}
 use Rattle.elimination.proofs.TermWords.{pair-none, pair-sym}
 use Rattle.elimination.proofs.SumWords.{hasRule-mono}
 use Rattle.elimination.proofs.Terms.{TermsMet, satisfies-met, literal-agree}

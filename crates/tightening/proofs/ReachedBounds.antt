@@ -17,7 +17,7 @@ use Rattle.tables.specs.Tables.{hasRule}
 use Rattle.tables.specs.Meaning.{Satisfies, SheetAllows, joined}
 use Rattle.tables.proofs.Tests.{clash}
 use Rattle.elimination.specs.Hiding.{every, pairWord, loneWord}
-use Rattle.elimination.specs.Magnitude.{Live}
+use Rattle.elimination.proofs.Terms.{Live}
 use Rattle.elimination.proofs.Terms.{TermsMet, satisfies-met, met-some, literal-agree}
 use Rattle.keys.specs.Inner.{Fits}
 use Rattle.tightening.specs.Tightening.{pairUpTo}

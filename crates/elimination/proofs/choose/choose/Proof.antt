@@ -1,6 +1,6 @@
 -- `choose::choose` meets its contract: what the gathered bounds leave is what the table's do, it is a word, and so is its negation. Assumes nothing.
 use mathlib.Core.Path.{_≡_, _∙_, ap}
-use mathlib.Core.Bool.{true}
+use mathlib.Core.Bool.{Bool, true}
 use mathlib.Core.List.{List}
 use Prim.Native.Nat.{ℕ, _+_, _*_, _/_, _≤_, _<_}
 use native.Mathlib.Omega.{arith}
@@ -22,7 +22,7 @@ use Rattle.tables.specs.Meaning.{assignmentOf}
 use Rattle.tables.proofs.Sizes.{small-square}
 use Rattle.elimination.specs.Hiding.{pairWord, loneWord}
 use Rattle.elimination.specs.Magnitude.{addLimit}
-use Rattle.elimination.specs.Choosing.{boundedBy, boundedIn, chosen, choice}
+use Rattle.elimination.specs.Choosing.{boundedBy, chosen, choice}
 use Rattle.elimination.specs.Inner.{among, Valued, Ready, Row}
 use Rattle.elimination.proofs.Feasible.{choice-chosen}
 use Rattle.elimination.proofs.Projection.{bounded-within, bounded-same}
@@ -31,6 +31,10 @@ use Rattle.elimination.proofs.Values.{literal-within, zero-less, zero-l
 use Rattle.elimination.proofs.Rows.{gathered-row}
 use Rattle.elimination.proofs.choose.choose.Statement.{statement}
 use Rattle.elimination.proofs.choose.choose.Tie as tie
+
+-- v lowered by every rule of the literal z, alone or with a live quantity
+abbrev boundedIn : (ℕ → Bool) → ℕ → List ℤ → List ℤ → ℕ → ℤ → ℤ
+boundedIn live n t values z v = boundedBy live (literalValue (assignmentOf values)) (pairWord t z) (loneWord t z) (2 * n) v
 
 -- an integer of 2 ^ 63 - 1 at most in magnitude, which is a word, and so is its negation
 abbrev Small : ℤ → Type 0

@@ -34,7 +34,7 @@ use Rattle.elimination.proofs.Unnamed.{unnamed-lone, unnamed-pair}
 use Rattle.elimination.proofs.Values.{literal-within}
 use Rattle.keys.specs.Keys.{hideUpTo, keyOf}
 use Rattle.keys.specs.declared.live.Part.{Part}
-use Rattle.keys.specs.Inner.{memberOf, stillLive, AtTurns, Readable, readOne, readBack}
+use Rattle.keys.specs.Inner.{memberOf, stillLive, AtTurns, Readable, readOne, readBack, PartReadable, PartRead}
 use Rattle.keys.proofs.Several.{Ample, hideUpTo-length, hideUpTo-unnamed}
 use Rattle.keys.proofs.Fitting.{memberLimit, limit-step, limit-stays, limit-rises, hidden-within, set-ample, hide-unnamed}
 use Rattle.keys.proofs.Turning.{notYet, turn-had, turn-own, yet-later, yet-before, had-yet}
@@ -327,3 +327,18 @@ module _ (set : ℕ) (part : Part) (n wide : ℕ) (t table values : List ℤ) (r
           (within-mono (omega (arith, limit-step members L j e, rises)) (before ih i g (kept (eqb-false i j q) c)))
       go ih false e true q = within-mono (omega (arith, limit-stays members L j e)) (before ih i g (inl (rw (eqb-true i j q) e)))
       go ih false e false q = within-mono (omega (arith, limit-stays members L j e)) (before ih i g (kept (eqb-false i j q) c))
+
+-- ---- in the program's words
+
+pub part-read : (n set : ℕ) (part : Part) (table values values' : List ℤ) → PartReadable n set part table values → values' ≡ readBack set part n table n values
+    → PartRead n set part table values values'
+unfolding hideUpTo
+part-read n set part table values values' p e = rw e (record {
+  words = refl;
+  others = λ i d. read-others set part n (p .wide) (p .from) table values (p .readable) (p .alone) n (omega arith) i d;
+  rest = read-rest set part n (p .wide) (p .from) table values (p .readable) (p .alone) n (omega arith);
+  meaning = λ wide t r a s. rw none at (read-satisfies set part n wide t table values r a s n (omega arith));
+})
+  where
+    none : n - n ≡ 0
+    none = omega arith

@@ -10,7 +10,7 @@ use mathlib.Core.List.{List}
 use Prim.Native.Nat.{ℕ, zero, suc, _+_, _-_, _*_, _/_, _≤_, _<_, _^_}
 use lib.Dec.{leb, ltb}
 use lib.IntN.{ℤ, pos}
-use lib.ListN.{length, take}
+use lib.ListN.{length, take, drop}
 use lib.ListN.{set as put}
 use Rattle.integers.specs.Bound.{Within}
 use Rattle.words.specs.Change.{wordAt}
@@ -154,6 +154,14 @@ readOne set part n t j values = cond (memberOf set part (suc j)) (put values j (
 unfoldable pub readBack : ℕ → Part → ℕ → List ℤ → ℕ → List ℤ → List ℤ
 readBack set part n t zero values = values
 readBack set part n t (suc m) values = readOne set part n t (n - suc m) (readBack set part n t m values)
+
+-- so the values of a part are read back; other words stay. Where the values before satisfy a table with the part hidden, those after satisfy the table itself
+pub record PartRead (n set : ℕ) (part : Part) (table values values' : List ℤ) : Type 0 where
+  pub words : values' ≡ readBack set part n table n values
+  pub others : (i : ℕ) → memberOf set part (suc i) ≡ false → wordAt values' i ≡ wordAt values i
+  pub rest : drop n values' ≡ drop n values
+  pub meaning : (wide : ℕ) (t : List ℤ) → Readable (memberOf set part) n wide t table values → ((i : ℕ) → i < n → stillLive set part 0 i ≡ false → Unnamed n i t)
+      → Satisfies n (keyOf (memberOf set part) n t) (assignmentOf values) → Satisfies n t (assignmentOf values')
 
 -- a table reduced: all quantities outside the set eliminated, and none in it named
 pub record Reduced (n set : ℕ) (t table : List ℤ) : Type 0 where

@@ -8,7 +8,7 @@ use elimination::pair;
 use rules::hidden::Set;
 ghost use mathlib.Core.Path.{_≡_};
 ghost use Prim.Native.Nat.{suc};
-ghost use Rattle.keys.specs.Inner.{memberOf, PartFits, SetEliminated, PartReadable, readBack, readOne, RowsLent, TurnReady, TurnTaken, ChoiceReady};
+ghost use Rattle.keys.specs.Inner.{memberOf, PartFits, SetEliminated, PartReadable, PartRead, readBack, readOne, RowsLent, TurnReady, TurnTaken, ChoiceReady};
 
 // Pairs quantity `j + 1` with the live ones where it is of the part, and answers whether a contradiction is met. List and rows are free.
 fn take_turn(
@@ -124,7 +124,7 @@ fn choose_values(
 // Chooses a value for each quantity of the part, the last first, given the values of the others.
 pub fn read_back(n: usize, set: Set, part: Part, table: &[i64], values: &mut [i64])
     requires { ⌜ PartReadable n set part (now table) (now values) ⌝ }
-    ensures { λ _. ⌜ now (values .exit) ≡ readBack set part n (now (table .entry)) n (now (values .entry)) ⌝ }
+    ensures { λ _. ⌜ PartRead n set part (now (table .entry)) (now (values .entry)) (now (values .exit)) ⌝ }
 {
     if n <= room::SMALL {
         let mut list = [0; room::SMALL];

@@ -20,7 +20,7 @@ returns : tie.Need-returns
 returns c =
     let r = c .before in
     let y = r .before .before .before in
-    filled _ _ _ _ _ (y .before .before .pre) (r .read-back .ensures ∙ rw (y .fill .ensures))
+    filled _ _ _ _ _ (y .before .before .pre) (r .read-back .ensures .words ∙ rw (y .fill .ensures))
 
 pub fill-spec : {M : Type 1} → statement M
 fill-spec = tie.close (tie.spec fill-requires read-back-requires same-length returns)

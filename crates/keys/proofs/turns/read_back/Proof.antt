@@ -1,5 +1,6 @@
 -- `turns::read_back` meets its contract: the room taken is long enough for n. Assumes nothing.
 use native.Mathlib.Omega.{arith}
+use Rattle.keys.proofs.ReadBack.{part-read}
 use borrow.Author.Needs.{needs}
 use Rattle.keys.proofs.turns.read_back.Statement.{statement}
 use Rattle.keys.proofs.turns.read_back.Tie as tie
@@ -20,7 +21,9 @@ same-length : tie.Need-same-length
 same-length c = search needs
 
 returns : tie.Need-returns
-returns c = search needs
+returns c =
+    let y = c .before .before .before .before in
+    part-read _ _ _ _ _ _ (y .before .before .before .before .before .before .pre) (y .choose-values .ensures)
 
 slice-aggregate-choose-values-4 : tie.Need-slice-aggregate-choose-values-4
 slice-aggregate-choose-values-4 c = search needs
@@ -38,7 +41,9 @@ same-length-2 : tie.Need-same-length-2
 same-length-2 c = search needs
 
 returns-2 : tie.Need-returns-2
-returns-2 c = search needs
+returns-2 c =
+    let y = c .before .before .before .before in
+    part-read _ _ _ _ _ _ (y .before .before .before .before .before .before .before .pre) (y .choose-values2 .ensures)
 
 slice-aggregate-choose-values-7 : tie.Need-slice-aggregate-choose-values-7
 slice-aggregate-choose-values-7 c = search needs
@@ -59,7 +64,9 @@ same-length-3 : tie.Need-same-length-3
 same-length-3 c = search needs
 
 returns-3 : tie.Need-returns-3
-returns-3 c = search needs
+returns-3 c =
+    let y = c .before .before .before .before in
+    part-read _ _ _ _ _ _ (y .before .before .before .before .before .before .before .pre) (y .choose-values3 .ensures)
 
 pub read-back-spec : {M : Type 1} → statement M
 read-back-spec =

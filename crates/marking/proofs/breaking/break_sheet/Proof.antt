@@ -84,8 +84,8 @@ returns c =
     let part = second-part _ _ _ (s .pre .is .hides .most) (z .size .ensures) in
     record {
       lent = sheet-lent _ _ _ _ _ _ _ _ (s .pre .is) (y .copy-key .ensures) part _ _ _ (given-back b) (b .break-rule .ensures);
-      written = sheet-written _ _ _ _ _ _ _ _ (s .pre .is) (y .copy-key .ensures) part _ _ _ (given-back b) (b .break-rule .ensures) _ (a .read-back .ensures);
-      shown = λ sheet p. sheet-shown _ _ sheet _ _ _ _ _ p (y .copy-key .ensures) part _ _ _ (given-back b) (b .break-rule .ensures) _ (a .read-back .ensures);
+      written = sheet-written _ _ _ _ _ _ _ _ (s .pre .is) (y .copy-key .ensures) part _ _ _ (given-back b) (b .break-rule .ensures) _ (a .read-back .ensures .words);
+      shown = λ sheet p. sheet-shown _ _ sheet _ _ _ _ _ p (y .copy-key .ensures) part _ _ _ (given-back b) (b .break-rule .ensures) _ (a .read-back .ensures .words);
     }
 
 pub break-sheet-spec : {M : Type 1} → statement M

@@ -12,7 +12,7 @@ use Rattle.words.specs.Change.{wordAt}
 use Rattle.places.specs.Numbering.{blockStart, placeOfOne, placeOfPair, isOne, higherAt, lowerAt}
 use Rattle.places.proofs.Numbering.{one-below, pair-below, at-lower, at-below}
 use Rattle.rules.specs.Hidden.{hiddenIn}
-use Rattle.rules.specs.Meaning.{Assignment, names}
+use Rattle.rules.specs.Meaning.{names}
 use Rattle.tables.specs.Places.{ruleAt}
 use Rattle.tables.specs.Meaning.{Unsatisfiable}
 use Rattle.tables.proofs.Tests.{clash}

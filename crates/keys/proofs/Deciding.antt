@@ -1,5 +1,5 @@
 -- 'No assignment' as the program decides it is document 01's, and is given exactly when no integers satisfy the table. Assumes nothing.
-use mathlib.Core.Path.{_≡_, refl, sym, _∙_}
+use mathlib.Core.Path.{_≡_, refl, _∙_}
 use mathlib.Core.Bool.{Bool, true, false, cond, and-false}
 use mathlib.Core.Logic.{_↔_}
 use mathlib.Core.List.{List}
@@ -26,7 +26,7 @@ use Rattle.elimination.specs.Magnitude.{Unnamed}
 use Rattle.elimination.proofs.Exact.{eliminate-exact}
 use Rattle.keys.specs.declared.live.Part.the-variants.{Outside}
 use Rattle.keys.specs.Keys.{hideUpTo, keyOf, refuted}
-use Rattle.keys.specs.Inner.{outside, memberOf, Fits, PartFits, RestFits, AtTurns, SetEliminated, Decided}
+use Rattle.keys.specs.Inner.{outside, Fits, RestFits, AtTurns, SetEliminated, Decided}
 use Rattle.keys.proofs.Several.{AmpleUpTo, hideUpTo-unnamed, refuted-true, refuted-false}
 use Rattle.keys.proofs.Copying.{SameTable, copied, same-back, same-satisfies, same-part, same-turns}
 use Rattle.keys.proofs.Fitting.{hide-unnamed, set-ample, hide-ample}

@@ -1,26 +1,25 @@
 -- Values read back from a table in which all quantities outside a set are eliminated: they satisfy it, are 0 in the set, and lie in their range. Assumes nothing.
 use mathlib.Core.Path.{_≡_, refl, _∙_}
-use mathlib.Core.Bool.{Bool, true, false, not}
+use mathlib.Core.Bool.{Bool, true, false}
 use mathlib.Core.List.{List}
-use mathlib.Core.Logic.{_⊎_, inl, inr}
+use mathlib.Core.Logic.{inr}
 use Prim.Native.Nat.{ℕ, zero, suc, _+_, _-_, _*_, _≤_, _<_, _^_}
 use native.Mathlib.Omega.{arith}
 use lib.IntN.{ℤ, pos}
-use lib.ListN.{length, drop}
+use lib.ListN.{length}
 use borrow.Author.Tests.{le-ltb}
 use Rattle.integers.specs.Bound.{Within}
 use Rattle.integers.proofs.Parts.{positivePart, negativePart}
 use Rattle.integers.proofs.Within.{within-mono, within-of}
 use Rattle.words.specs.Change.{wordAt, change, fillFrom}
-use Rattle.words.specs.Lent.{Lent}
 use Rattle.words.proofs.Change.{change-length, change-drop, change-below}
 use Rattle.rules.specs.Hidden.{hiddenIn, hiddenCount}
 use Rattle.tables.specs.Meaning.{Satisfies, assignmentOf}
 use Rattle.tables.proofs.Tests.{clash}
 use Rattle.elimination.specs.Magnitude.{valueLimit}
 use Rattle.keys.specs.declared.live.Part.the-variants.{Outside}
-use Rattle.keys.specs.Keys.{hideUpTo, keyOf}
-use Rattle.keys.specs.Inner.{outside, memberOf, SetFits, Readable, PartReadable, readBack, Reduced, Fillable, Filled}
+use Rattle.keys.specs.Keys.{hideUpTo}
+use Rattle.keys.specs.Inner.{outside, memberOf, Readable, PartReadable, readBack, Reduced, Fillable, Filled}
 use Rattle.keys.proofs.Deciding.{rest-left}
 use Rattle.keys.proofs.Fitting.{memberLimit}
 use Rattle.keys.proofs.ReadBack.{read-length, read-rest, read-others, read-satisfies, read-within}

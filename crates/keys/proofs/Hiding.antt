@@ -1,6 +1,6 @@
 -- The quantities of a set hidden in increasing number, each paired with the live ones alone: none of the set before it is named any more. Assumes nothing.
 use mathlib.Core.Path.{_≡_, refl, sym, _∙_}
-use mathlib.Core.Bool.{Bool, true, false, cond, not, _&&_, _||_}
+use mathlib.Core.Bool.{Bool, true, false, not, _&&_, _||_}
 use mathlib.Core.List.{List}
 use Prim.Native.Nat.{ℕ, suc, _+_, _≤_, _<_}
 use native.Mathlib.Numerals.{add-one}
@@ -16,10 +16,10 @@ use Rattle.tables.proofs.Tests.{clash}
 use Rattle.elimination.specs.Hiding.{every, contradicts}
 use Rattle.elimination.specs.Promises.{QuantityHidden}
 use Rattle.elimination.specs.Magnitude.{Unnamed}
-use Rattle.elimination.specs.Inner.{among, Ready, NamesAlone}
+use Rattle.elimination.specs.Inner.{Ready, NamesAlone}
 use Rattle.keys.specs.declared.live.Part.the-variants.{Inside}
 use Rattle.keys.specs.Keys.{hideUpTo}
-use Rattle.keys.specs.Inner.{outside, stillLive, LiveListed, Fits, ContradictionMet, HideReady, MemberHidden, SetHidden}
+use Rattle.keys.specs.Inner.{LiveListed, Fits, ContradictionMet, HideReady, MemberHidden, SetHidden}
 use Rattle.keys.proofs.Several.{hideUpTo-length, hideUpTo-unnamed, rest-hidden, hide-more, hide-all}
 use Rattle.keys.proofs.Fitting.{hide-ample}
 use Rattle.keys.proofs.AtTurns.{met-none}

@@ -1,17 +1,16 @@
 -- The key copied from a table in which the hidden quantities are eliminated: a place that names none of them has the key's word, and at any other the key has no rule. Assumes nothing.
 use mathlib.Core.Path.{_≡_, refl, sym, _∙_, ap}
 use mathlib.Core.Bool.{Bool, true, false, cond, not, _&&_, _||_, and-true}
-use mathlib.Core.List.{List, [], _++_, append-nil}
+use mathlib.Core.List.{List}
 use Prim.Native.Nat.{ℕ, zero, suc, _+_, _-_, _*_, _/_, _≤_, _<_}
 use native.Mathlib.Numerals.{add-one, unary-clauses}
 use native.Mathlib.Omega.{arith}
 use lib.Dec.{eqb, ltb}
-use lib.IntN.{ℤ, pos}
-use lib.ListN.{length, take, drop, length-drop, drop-of-length-le}
+use lib.IntN.{ℤ}
+use lib.ListN.{length, drop, length-drop}
 use lib.ListN.{set as put}
-use lib.Seq.{length-take-le, take-all, drop-at, drop-drop, getD-take, getD-drop}
 use borrow.Author.Tests.{eqb-true, eqb-false, eq-eqb, ne-eqb, lt-ltb, le-ltb, ltb-true, ltb-false, le-leb}
-use borrow.Rule.Slice.PartMut.{midOf, putMid, same-len-mid, mid-len, take-put}
+use borrow.Rule.Slice.PartMut.{midOf, putMid}
 use Rattle.words.specs.Change.{wordAt, change, startingAt}
 use Rattle.words.proofs.Change.{change-length, change-below, change-is, change-same, change-nothing, change-past, change-drop, starting-none, starting-more}
 use Rattle.places.specs.Numbering.{blockStart, isOne, higherAt, lowerAt}

@@ -1,13 +1,13 @@
 -- The key made in a copy of the sheet, and 'no assignment' decided in a copy of the key. Assumes nothing.
-use mathlib.Core.Path.{_≡_, refl, sym, _∙_, ap}
-use mathlib.Core.Bool.{Bool, true, false, cond}
+use mathlib.Core.Path.{_≡_, refl, sym, _∙_}
+use mathlib.Core.Bool.{Bool, true, false}
 use mathlib.Core.List.{List}
-use Prim.Native.Nat.{ℕ, _+_, _-_, _≤_, _<_}
+use Prim.Native.Nat.{ℕ, _+_, _-_, _≤_}
 use native.Mathlib.Omega.{arith}
-use lib.IntN.{ℤ, pos}
+use lib.IntN.{ℤ}
 use lib.ListN.{length, drop}
 use borrow.Author.Tests.{lt-ltb}
-use Rattle.words.specs.Change.{wordAt, change, copying}
+use Rattle.words.specs.Change.{change, copying}
 use Rattle.words.specs.Lent.{Lent}
 use Rattle.words.proofs.Change.{change-length, change-drop, change-is}
 use Rattle.places.specs.Numbering.{blockStart}
@@ -19,7 +19,7 @@ use Rattle.tables.specs.Tables.{tableSize}
 use Rattle.tables.specs.Meaning.{Satisfiable, Unsatisfiable}
 use Rattle.tables.proofs.Tests.{clash}
 use Rattle.elimination.specs.Hiding.{every}
-use Rattle.keys.specs.Keys.{keyOf, refuted}
+use Rattle.keys.specs.Keys.{keyOf}
 use Rattle.keys.specs.Meaning.{BoundsWithin, keyNeedsThen}
 use Rattle.keys.specs.Inner.{Fits, RestFits, Decided, SetHidden, KeyTried}
 use Rattle.keys.proofs.Several.{key-exact, allows-own, refuted-false, rest-key, key-length}

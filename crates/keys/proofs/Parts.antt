@@ -1,43 +1,17 @@
 -- A slice lent from a place on and given back: the words before it stay. Assumes nothing.
-use mathlib.Core.Path.{_≡_, refl, sym, _∙_, ap}
-use mathlib.Core.Bool.{Bool, true, false, cond, not, _&&_, _||_, and-true}
+use mathlib.Core.Path.{_≡_, sym, _∙_, ap}
 use mathlib.Core.List.{List, [], _++_, append-nil}
-use Prim.Native.Nat.{ℕ, zero, suc, _+_, _-_, _*_, _/_, _≤_, _<_}
-use native.Mathlib.Numerals.{add-one, unary-clauses}
+use Prim.Native.Nat.{ℕ, _+_, _-_, _*_, _≤_, _<_}
 use native.Mathlib.Omega.{arith}
-use lib.Dec.{eqb, ltb}
 use lib.IntN.{ℤ, pos}
 use lib.ListN.{length, take, drop, length-drop, drop-of-length-le}
-use lib.ListN.{set as put}
 use lib.Seq.{length-take-le, take-all, drop-at, drop-drop, getD-take, getD-drop}
-use borrow.Author.Tests.{eqb-true, eqb-false, eq-eqb, ne-eqb, lt-ltb, le-ltb, ltb-true, ltb-false, le-leb}
 use borrow.Rule.Slice.PartMut.{midOf, putMid, same-len-mid, mid-len, take-put}
-use Rattle.words.specs.Change.{wordAt, change, startingAt}
-use Rattle.words.proofs.Change.{change-length, change-below, change-is, change-same, change-nothing, change-past, change-drop, starting-none, starting-more}
-use Rattle.places.specs.Numbering.{blockStart, isOne, higherAt, lowerAt}
-use Rattle.places.proofs.Numbering.{at-lower, at-below}
-use Rattle.rules.specs.declared.rule.Rule.the-variants.{One, Two}
-use Rattle.rules.specs.Hidden.{hiddenIn}
-use Rattle.rules.specs.Limits.{noRule, maxQuantities}
-use Rattle.rules.specs.Literal.{quantityOf}
-use Rattle.rules.specs.Meaning.{names}
-use Rattle.tables.specs.declared.reply.Reply.{Reply}
-use Rattle.tables.specs.declared.reply.Reply.the-variants.{Done}
-use Rattle.tables.specs.Places.{ruleAt}
-use Rattle.tables.specs.Tables.{tableSize, clearing, cleared, clearReply}
-use Rattle.tables.specs.Promises.{Cleared}
-use Rattle.tables.proofs.Sizes.{long-serves, size-known}
-use Rattle.tables.proofs.Tests.{clash}
-use Rattle.tables.proofs.Without.{cleared-word}
-use Rattle.elimination.specs.Hiding.{every, liveAt, paired, eliminated}
-use Rattle.elimination.proofs.PairedWords.{paired-dead}
-use Rattle.elimination.proofs.Step.{paired-length}
-use Rattle.elimination.proofs.Fewer.{fewer-paired}
-use Rattle.keys.specs.Keys.{hideUpTo, keyOf}
-use Rattle.keys.specs.Inner.{AtTurns}
-use Rattle.keys.specs.Copies.{wordBefore, copiedOn, clearingSet, setCleared, KeyCopied}
-use Rattle.keys.proofs.Several.{hideUpTo-length, hideUpTo-unnamed, hide-all}
-use Rattle.keys.proofs.Turning.{notYet, turn-had, turn-open, had-yet, yet-later}
+use Rattle.words.specs.Change.{wordAt}
+use Rattle.places.specs.Numbering.{blockStart}
+use Rattle.rules.specs.Limits.{maxQuantities}
+use Rattle.tables.specs.Tables.{tableSize}
+use Rattle.tables.proofs.Sizes.{size-known}
 
 -- the list before and after, with the words lent and those given back; the words before them stay
 pub record PartBack (m : ℕ) (before part part' after : List ℤ) : Type 0 where

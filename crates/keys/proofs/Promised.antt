@@ -19,7 +19,6 @@ use Rattle.rules.proofs.Refusals.{refusal-number}
 use Rattle.rules.specs.Hidden.{hiddenIn}
 use Rattle.tables.specs.declared.reply.Reply.{Reply}
 use Rattle.tables.specs.declared.reply.Reply.the-variants.{Done, Refused}
-use Rattle.tables.proofs.Tests.{clash}
 use Rattle.tables.specs.Meaning.{Satisfiable, Unsatisfiable}
 use Rattle.tables.proofs.Sizes.{serves-sized}
 use Rattle.tables.proofs.Refusing.{tied-decided}

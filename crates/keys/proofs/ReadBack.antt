@@ -17,10 +17,9 @@ use Rattle.words.specs.Change.{wordAt}
 use Rattle.places.specs.Numbering.{blockStart, placeOfOne, placeOfPair}
 use Rattle.places.proofs.Numbering.{one-below, pair-below}
 use Rattle.rules.specs.Meaning.{Assignment, literalValue}
-use Rattle.tables.specs.Tables.{hasRule}
 use Rattle.tables.specs.Meaning.{Satisfies, WordsWithin, assignmentOf}
 use Rattle.tables.proofs.Tests.{clash}
-use Rattle.elimination.specs.Hiding.{every, pairWord, loneWord, liveAt, paired, contradicts, eliminated}
+use Rattle.elimination.specs.Hiding.{every, pairWord, loneWord, paired, eliminated}
 use Rattle.elimination.specs.Choosing.{chosen, choice}
 use Rattle.elimination.specs.Magnitude.{Unnamed}
 use Rattle.elimination.proofs.Terms.{Live}
@@ -28,7 +27,7 @@ use Rattle.elimination.proofs.Projection.{bounded-same, chosen-within}
 use Rattle.elimination.proofs.TermWords.{quantity-cases, pair-same, pair-first, pair-second, pair-sym, lone-within, pair-within}
 use Rattle.elimination.proofs.Terms.{TermsMet, Others, satisfies-met, met-some, sums-some}
 use Rattle.elimination.proofs.PairedWords.{live-one, live-pair}
-use Rattle.elimination.proofs.Step.{Adds, SumsOf, step-lower, step-sums}
+use Rattle.elimination.proofs.Step.{step-lower, step-sums}
 use Rattle.elimination.proofs.Exact.{eliminated-met, upward-choose}
 use Rattle.elimination.proofs.Unnamed.{unnamed-lone, unnamed-pair}
 use Rattle.elimination.proofs.Values.{literal-within}

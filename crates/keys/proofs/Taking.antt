@@ -3,8 +3,7 @@ use mathlib.Core.Path.{_≡_, refl, sym, _∙_}
 use mathlib.Core.Bool.{Bool, true, false, cond, not, _&&_}
 use mathlib.Core.List.{List}
 use mathlib.Core.Logic.{_⊎_, inl, inr}
-use Prim.Native.Nat.{ℕ, zero, suc, _+_, _-_, _*_, _/_, _≤_, _<_}
-use native.Mathlib.Numerals.{add-one}
+use Prim.Native.Nat.{ℕ, suc, _+_, _-_, _*_, _/_, _≤_, _<_}
 use native.Mathlib.Omega.{arith}
 use lib.Dec.{ltb}
 use lib.IntN.{ℤ, pos}
@@ -15,15 +14,14 @@ use borrow.Author.Tests.{ltb-true, ltb-false}
 use Rattle.integers.specs.Bound.{Within}
 use Rattle.integers.proofs.Within.{within-mono}
 use Rattle.words.specs.Change.{wordAt}
-use Rattle.words.specs.Lent.{Lent}
 use Rattle.words.proofs.Change.{change-drop}
 use Rattle.places.specs.Numbering.{blockStart}
 use Rattle.rules.specs.Hidden.{hiddenCount}
 use Rattle.rules.specs.Meaning.{literalValue}
 use Rattle.tables.specs.Tables.{hasRule}
-use Rattle.tables.specs.Meaning.{Unsatisfiable, assignmentOf}
+use Rattle.tables.specs.Meaning.{assignmentOf}
 use Rattle.tables.proofs.Tests.{clash}
-use Rattle.elimination.specs.Hiding.{every, pairWord, loneWord, paired, contradicts}
+use Rattle.elimination.specs.Hiding.{pairWord, loneWord, paired, contradicts}
 use Rattle.elimination.specs.Choosing.{chosen, choice}
 use Rattle.elimination.specs.Magnitude.{addLimit}
 use Rattle.elimination.specs.Inner.{among, Ready, StepReady, Valued}
@@ -31,10 +29,9 @@ use Rattle.elimination.specs.Promises.{Paired, Chosen}
 use Rattle.elimination.proofs.Projection.{bounded-live}
 use Rattle.elimination.proofs.Lists.{listed-below}
 use Rattle.elimination.proofs.Fewer.{fewer-paired, fewer-contradicts}
-use Rattle.elimination.proofs.Step.{paired-length}
 use Rattle.keys.specs.declared.live.Part.{Part}
 use Rattle.keys.specs.Keys.{hideUpTo}
-use Rattle.keys.specs.Inner.{memberOf, stillLive, LiveListed, PartFits, turnAt, AtTurns, ContradictionMet, SetEliminated, TurnReady, TurnTaken, ChoiceReady, PartReadable, Readable, readOne, readBack}
+use Rattle.keys.specs.Inner.{memberOf, stillLive, LiveListed, PartFits, turnAt, AtTurns, ContradictionMet, SetEliminated, TurnReady, TurnTaken, ChoiceReady, PartReadable, readOne, readBack}
 use Rattle.keys.proofs.Several.{hideUpTo-length}
 use Rattle.keys.proofs.Fitting.{limit-rises, hidden-within, set-ample}
 use Rattle.keys.proofs.Turning.{turn-most, had-yet}

@@ -1,12 +1,12 @@
 -- The turn of a place: that of the lowest member that it names. Assumes nothing.
 use mathlib.Core.Path.{_≡_, refl, _∙_}
 use mathlib.Core.Bool.{Bool, true, false, cond, not, _&&_, _||_, and-false}
-use Prim.Native.Nat.{ℕ, zero, suc, _+_, _*_, _/_, _≤_, _<_}
+use Prim.Native.Nat.{ℕ, zero, suc, _/_, _≤_, _<_}
 use native.Mathlib.Omega.{arith}
 use lib.Dec.{leb, ltb}
-use borrow.Author.Tests.{ltb-true, ltb-false, lt-ltb, le-ltb, leb-true, leb-false, le-leb, lt-leb}
-use Rattle.places.specs.Numbering.{placeOfOne, placeOfPair, isOne, higherAt, lowerAt}
-use Rattle.places.proofs.Numbering.{one-isOne, one-higher, pair-isOne, pair-higher, pair-lower, at-lower}
+use borrow.Author.Tests.{ltb-true, ltb-false, lt-ltb, le-ltb, le-leb, lt-leb}
+use Rattle.places.specs.Numbering.{placeOfOne, isOne, higherAt, lowerAt}
+use Rattle.places.proofs.Numbering.{one-isOne, one-higher, at-lower}
 use Rattle.tables.proofs.Tests.{clash}
 use Rattle.elimination.specs.Hiding.{liveAt}
 use Rattle.keys.specs.Inner.{turnOf, turnAt}

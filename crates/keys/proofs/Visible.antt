@@ -1,5 +1,5 @@
 -- Sums fit in a table that names visible quantities alone and has bounds as large as a key's, for any n and limit B of a sheet with (B + 1) * 2 ^ n below 2 ^ 62. Assumes nothing.
-use mathlib.Core.Path.{_≡_, refl, sym, _∙_}
+use mathlib.Core.Path.{_≡_, refl, _∙_}
 use mathlib.Core.Bool.{Bool, true, false, cond, not, _&&_}
 use mathlib.Core.List.{List}
 use Prim.Native.Nat.{ℕ, zero, suc, _+_, _-_, _*_, _≤_, _<_, _^_}

@@ -1,6 +1,6 @@
 -- The key of a sheet, 'no assignment', and the replies of the two calls (document 01, 'Hiding', 'Finding an assignment', 'Returned to the
 -- caller').
-use mathlib.Core.Bool.{Bool, true, false, cond, not, _&&_, _||_}
+use mathlib.Core.Bool.{Bool, false, cond, not, _&&_, _||_}
 use mathlib.Core.List.{List}
 use Prim.Native.Nat.{ℕ, zero, suc}
 use lib.Dec.{leb, eqb}

@@ -13,14 +13,11 @@ use Rattle.integers.specs.Bound.{oppositeBound}
 use Rattle.words.specs.Change.{wordAt}
 use Rattle.places.specs.Numbering.{blockStart}
 use Rattle.rules.specs.declared.rule.Rule.{Rule}
-use Rattle.rules.specs.Meaning.{Assignment, Meets, boundOf, hasTerm}
+use Rattle.rules.specs.Meaning.{hasTerm}
 use Rattle.rules.specs.Steps.{trivialRule, oppositeOf}
-use Rattle.rules.proofs.Meanings.{opposite-bound, opposite-meaning}
 use Rattle.tables.specs.Places.{ruleAt}
 use Rattle.tables.specs.Tables.{hasRule, putRule}
 use Rattle.tables.specs.Meaning.{HoldsRule, ruleIn, Satisfies, Solutions, Breaks}
-use Rattle.tables.proofs.Places.{ruleAt-bound, ruleAt-hasPlace}
-use Rattle.tables.proofs.Putting.{hasPlace-put}
 use Rattle.tables.proofs.Tests.{clash, both-true}
 use Rattle.elimination.specs.Hiding.{every}
 use Rattle.keys.specs.Keys.{refuted}

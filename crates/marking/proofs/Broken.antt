@@ -2,10 +2,10 @@
 use mathlib.Core.Path.{_≡_, refl, sym, _∙_, ap}
 use mathlib.Core.Bool.{Bool, true, false}
 use mathlib.Core.List.{List}
-use mathlib.Core.Logic.{_⊎_, inl, inr}
+use mathlib.Core.Logic.{inr}
 use Prim.Native.Nat.{ℕ, zero, suc, _+_, _-_, _*_, _≤_, _<_, _^_}
 use native.Mathlib.Omega.{arith}
-use lib.Dec.{eqb, leb}
+use lib.Dec.{eqb}
 use lib.IntN.{ℤ, pos}
 use lib.ListN.{length, drop, length-drop}
 use lib.Seq.{take-all}
@@ -22,11 +22,11 @@ use Rattle.places.specs.Numbering.{blockStart}
 use Rattle.rules.specs.declared.rule.Rule.{Rule}
 use Rattle.rules.specs.Hidden.{hiddenIn, hiddenCount}
 use Rattle.rules.specs.Limits.{maxQuantities}
-use Rattle.rules.specs.Meaning.{Assignment, Meets, boundOf, names}
+use Rattle.rules.specs.Meaning.{boundOf, names}
 use Rattle.rules.specs.Steps.{oppositeOf}
 use Rattle.tables.specs.Places.{HasPlace, ruleAt}
 use Rattle.tables.specs.Tables.{putRule, tableSize}
-use Rattle.tables.specs.Meaning.{Satisfies, Breaks, assignmentOf}
+use Rattle.tables.specs.Meaning.{Satisfies, assignmentOf}
 use Rattle.tables.proofs.Places.{placeOf, ruleAt-hasPlace, hasPlace-below}
 use Rattle.tables.proofs.Sizes.{size-known}
 use Rattle.tables.proofs.Tests.{clash}
@@ -45,7 +45,7 @@ use Rattle.keys.proofs.Parts.{PartBack, front-word, back-word}
 use Rattle.tightening.specs.Promises.{Tightened}
 use Rattle.tightening.specs.Below.{LivePlace, FirstBelow}
 use Rattle.marking.specs.Meaning.{workspaceSize}
-use Rattle.marking.specs.Inner.{Seen, FirstSeen, LeastBounds, FrontFound, ScriptBreakable, ScriptBroken, SheetBreakable, SheetShown, SheetBroken}
+use Rattle.marking.specs.Inner.{FirstSeen, LeastBounds, FrontFound, ScriptBreakable, ScriptBroken, SheetBreakable, SheetShown}
 use Rattle.marking.proofs.Finding.{LeastOf, below-seen}
 use Rattle.marking.proofs.Lending.{lent-again, lent-wider, part-lent}
 use Rattle.marking.proofs.Reducing.{same-breaks, same-alone, same-front}

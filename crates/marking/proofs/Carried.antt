@@ -7,7 +7,6 @@ use Prim.Native.Nat.{ℕ, suc, _≤_, _+_, _/_, _%_}
 use native.Mathlib.Omega.{arith}
 use lib.Dec.{eqb}
 use lib.IntN.{ℤ, pos, negℤ}
-use lib.Signed.{mag}
 use borrow.Author.Tests.{eqb-true, eqb-false}
 use Rattle.words.specs.Change.{wordAt}
 use Rattle.places.specs.Numbering.{isOne, higherAt, lowerAt}
@@ -18,7 +17,7 @@ use Rattle.rules.specs.Literal.{literalOf, signedOf}
 use Rattle.rules.specs.Meaning.{Assignment, hasTerm}
 use Rattle.rules.specs.Refusal.{refusalNumber}
 use Rattle.rules.specs.Steps.{trivialRule, isNone, ruleOf}
-use Rattle.rules.proofs.Refusals.{same-refusal, refusal-below}
+use Rattle.rules.proofs.Refusals.{refusal-below}
 use Rattle.rules.specs.RuleWords.{ruleValues, ruleWords, ruleOfWords}
 use Rattle.tables.specs.Places.{ruleAt}
 use Rattle.tables.specs.Meaning.{Solutions}

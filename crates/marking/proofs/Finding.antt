@@ -1,13 +1,12 @@
 -- The first rule by place that some assignment of a table breaks, found by comparing each rule's bound with the least bound of its term, over the places of visible quantities alone. Assumes nothing.
-use mathlib.Core.Path.{_≡_, refl, sym, _∙_, ap}
+use mathlib.Core.Path.{_≡_, refl, _∙_}
 use mathlib.Core.Bool.{Bool, true, false, _&&_, _||_}
-use mathlib.Core.List.{List, [], _++_}
+use mathlib.Core.List.{List}
 use mathlib.Core.Logic.{_↔_}
-use Prim.Native.Nat.{ℕ, zero, suc, _+_, _-_, _*_, _/_, _≤_, _<_}
+use Prim.Native.Nat.{ℕ, suc, _-_, _/_, _≤_, _<_}
 use native.Mathlib.Omega.{arith}
-use lib.IntN.{ℤ, pos}
-use lib.ListN.{length, take, drop}
-use lib.Seq.{getD-drop}
+use lib.IntN.{ℤ}
+use lib.ListN.{length}
 use lib.Signed.{_<ℤ_}
 use Rattle.words.specs.Change.{wordAt}
 use Rattle.places.specs.declared.Place.{Place}
@@ -15,18 +14,15 @@ use Rattle.places.specs.declared.Place.the-variants.{At, Nowhere}
 use Rattle.places.specs.Numbering.{blockStart, isOne, higherAt, lowerAt}
 use Rattle.places.proofs.Numbering.{at-lower, at-below}
 use Rattle.rules.specs.Hidden.{hiddenIn}
-use Rattle.rules.specs.Meaning.{names}
 use Rattle.tables.specs.Places.{ruleAt}
 use Rattle.tables.specs.Tables.{hasRule}
-use Rattle.tables.specs.Meaning.{HoldsRule, ruleIn, Satisfies, Solutions, Breaks, NamesVisible}
-use Rattle.tables.proofs.Tests.{clash}
+use Rattle.tables.specs.Meaning.{HoldsRule, Solutions, Breaks, NamesVisible}
 use Rattle.elimination.specs.Hiding.{liveAt}
 use Rattle.elimination.specs.Inner.{among}
 use Rattle.elimination.proofs.Terms.{higher-named, lower-named}
-use Rattle.keys.specs.Inner.{outside}
-use Rattle.tightening.specs.Below.{BelowAt, FirstBelow, LivePlace}
+use Rattle.tightening.specs.Below.{FirstBelow, LivePlace}
 use Rattle.marking.specs.Meaning.{FirstAt}
-use Rattle.marking.specs.Inner.{VisibleListed, Seen, FirstSeen}
+use Rattle.marking.specs.Inner.{VisibleListed, FirstSeen}
 use Rattle.marking.proofs.Breakable.{NoneBroken}
 
 -- ---- from least bounds to what is broken

@@ -1,16 +1,14 @@
 -- Sums fit while two tables are marked, also with bounds as large as a key's: in the sheet with its hidden quantities eliminated, in key and script, and in either with the opposite of a rule of
 -- the other put in; and so do the values that show a verdict. Stated for any n and limit B with (B + 1) * 2 ^ n below 2 ^ 62. Assumes nothing.
-use mathlib.Core.Path.{_≡_, refl, sym, _∙_}
-use mathlib.Core.Bool.{Bool, true, false, cond, not, _&&_}
+use mathlib.Core.Path.{_≡_, refl, _∙_}
+use mathlib.Core.Bool.{true}
 use mathlib.Core.List.{List}
-use Prim.Native.Nat.{ℕ, zero, suc, _+_, _-_, _*_, _≤_, _<_, _^_}
-use native.Mathlib.Nat.{add-mul, mul-assoc, mul-le-mul}
+use Prim.Native.Nat.{ℕ, suc, _+_, _-_, _*_, _≤_, _<_, _^_}
+use native.Mathlib.Nat.{add-mul, mul-le-mul}
 use native.Mathlib.Omega.{arith}
-use lib.Dec.{leb}
 use lib.IntN.{ℤ, pos}
 use lib.ListN.{length}
-use lib.Pow.{pow-mono, pow-add, pow-pos}
-use borrow.Author.Tests.{le-leb}
+use lib.Pow.{pow-mono, pow-pos}
 use Rattle.integers.specs.Bound.{Within, oppositeBound}
 use Rattle.integers.proofs.Within.{within-opposite}
 use Rattle.words.specs.Change.{wordAt}
@@ -19,12 +17,10 @@ use Rattle.rules.specs.declared.rule.Rule.{Rule}
 use Rattle.rules.specs.declared.paper.Paper.the-variants.{Sheet, Script}
 use Rattle.rules.specs.Hidden.{hiddenIn, hiddenCount}
 use Rattle.rules.specs.Limits.{maxQuantities, boundLimit}
-use Rattle.rules.specs.Meaning.{names}
 use Rattle.rules.specs.Steps.{oppositeOf}
 use Rattle.rules.proofs.Meanings.{opposite-bound}
 use Rattle.tables.specs.Tables.{hasRule, putRule}
-use Rattle.tables.specs.Meaning.{HoldsRule, ruleIn, Satisfies, Breaks, NamesVisible, WordsWithin}
-use Rattle.tables.proofs.Tests.{clash}
+use Rattle.tables.specs.Meaning.{HoldsRule, ruleIn, Satisfies, Breaks, WordsWithin}
 use Rattle.tables.proofs.Places.{ruleAt-bound, ruleAt-hasPlace}
 use Rattle.tables.proofs.Lists.{put-length}
 use Rattle.elimination.specs.Magnitude.{Unnamed}
@@ -33,8 +29,7 @@ use Rattle.keys.specs.Keys.{keyOf}
 use Rattle.keys.specs.Meaning.{BoundsWithin}
 use Rattle.keys.specs.Inner.{outside, SetFits, Fits, RestFits}
 use Rattle.keys.specs.Breaking.{RuleBreakable}
-use Rattle.keys.proofs.Several.{key-visible, hideUpTo-length, hide-all}
-use Rattle.keys.proofs.Fitting.{words-mono, key-within, limit-doubled, paper-fits}
+use Rattle.keys.proofs.Fitting.{words-mono, limit-doubled, paper-fits}
 use Rattle.keys.proofs.Deciding.{rest-fits}
 use Rattle.keys.proofs.Visible.{count-both, visible-unnamed, visible-rest, visible-limit, keyLimit, key-fits, key-word, values-small, LikeKey, like-rest}
 use Rattle.keys.proofs.Visible.{key-like as like-key}

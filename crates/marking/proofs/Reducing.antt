@@ -1,14 +1,11 @@
 -- The sheet reduced: its hidden quantities eliminated at the front of the workspace, its key copied to the back and made the tightest there; so 'no assignment' is decided. Assumes nothing.
-use mathlib.Core.Path.{_≡_, refl, sym, _∙_, ap}
-use mathlib.Core.Bool.{Bool, true, false, not, _||_}
+use mathlib.Core.Path.{_≡_, refl, sym, _∙_}
+use mathlib.Core.Bool.{Bool, true, false, not}
 use mathlib.Core.List.{List}
-use mathlib.Core.Logic.{_↔_}
-use Prim.Native.Nat.{ℕ, suc, _+_, _*_, _≤_, _<_}
+use Prim.Native.Nat.{ℕ, suc, _≤_, _<_}
 use native.Mathlib.Omega.{arith}
-use lib.Dec.{leb}
-use lib.IntN.{ℤ, pos}
+use lib.IntN.{ℤ}
 use lib.ListN.{length, take, drop, length-drop}
-use lib.Signed.{_<ℤ_}
 use borrow.Author.Tests.{le-leb}
 use Rattle.words.specs.Change.{wordAt, change, copying}
 use Rattle.words.specs.Lent.{Lent}
@@ -16,18 +13,15 @@ use Rattle.words.proofs.Change.{change-length, change-drop}
 use Rattle.places.specs.Numbering.{blockStart}
 use Rattle.rules.specs.declared.rule.Rule.{Rule}
 use Rattle.rules.specs.Hidden.{hiddenIn}
-use Rattle.rules.specs.Meaning.{Assignment}
 use Rattle.tables.specs.Places.{ruleAt}
-use Rattle.tables.specs.Tables.{hasRule, tableSize}
+use Rattle.tables.specs.Tables.{tableSize}
 use Rattle.tables.specs.Meaning.{Satisfies, Satisfiable, Unsatisfiable, Breaks, NamesVisible}
 use Rattle.tables.proofs.Sizes.{size-known}
 use Rattle.tables.proofs.Tests.{clash}
 use Rattle.elimination.specs.Hiding.{every}
-use Rattle.elimination.specs.Inner.{among}
-use Rattle.elimination.specs.Magnitude.{Unnamed}
 use Rattle.keys.specs.declared.live.Part.the-variants.{Inside, Outside}
-use Rattle.keys.specs.Keys.{keyOf, hideUpTo, refuted}
-use Rattle.keys.specs.Inner.{outside, stillLive, LiveListed, LiveAlone, SetFits, Fits, PartFits, AtTurns, SetEliminated}
+use Rattle.keys.specs.Keys.{keyOf}
+use Rattle.keys.specs.Inner.{LiveListed, LiveAlone, Fits, PartFits, AtTurns, SetEliminated}
 use Rattle.keys.specs.Copies.{KeyCopied}
 use Rattle.keys.proofs.Several.{key-exact, key-visible, refuted-false, allows-own}
 use Rattle.keys.proofs.Copying.{SameTable, copied, same-back, same-satisfies, same-fits, same-part, same-turns, same-unnamed}
@@ -36,7 +30,7 @@ use Rattle.keys.proofs.Deciding.{turns-some, decides-refuted}
 use Rattle.keys.proofs.Parts.{PartBack, front-word, back-word}
 use Rattle.tightening.specs.Promises.{Tightened}
 use Rattle.marking.specs.Meaning.{workspaceSize}
-use Rattle.marking.specs.Inner.{VisibleListed, SheetReducible, SheetReduced, ScriptComparable, FrontFound, FirstSeen}
+use Rattle.marking.specs.Inner.{VisibleListed, SheetReducible, SheetReduced}
 use Rattle.keys.proofs.Visible.{visible-unnamed}
 use Rattle.marking.proofs.Lending.{lent-again, lent-wider, part-lent}
 

@@ -1,7 +1,6 @@
 -- What marking two tables promises: the reply and every lent word, for every input, and demand 3's meaning.
 use mathlib.Core.Bool.{true}
 use mathlib.Core.Path.{_≡_}
-use mathlib.Core.Logic.{_↔_}
 use mathlib.Core.List.{List}
 use Prim.Native.Nat.{ℕ}
 use lib.IntN.{ℤ}

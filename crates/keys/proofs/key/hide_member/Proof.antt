@@ -1,5 +1,5 @@
 -- `key::hide_member` meets its contract: a quantity of the set is hidden with the live ones listed, another left. Assumes nothing.
-use mathlib.Core.Path.{_≡_, refl, sym, _∙_}
+use mathlib.Core.Path.{sym, _∙_}
 use native.Mathlib.Numerals.{add-one}
 use native.Mathlib.Omega.{arith}
 use borrow.Author.Needs.{needs}

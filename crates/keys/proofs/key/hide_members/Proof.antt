@@ -1,6 +1,6 @@
 -- `key::hide_members` meets its contract. The loop's invariant: of the first j quantities those of the set are hidden, and no contradiction was met. The measure is the quantities left.
 -- Assumes nothing.
-use mathlib.Core.Path.{_≡_, refl, sym, _∙_}
+use mathlib.Core.Path.{_≡_, refl, _∙_}
 use Prim.Native.Nat.{_-_, _≤_}
 use native.Mathlib.Numerals.{add-one}
 use native.Mathlib.Omega.{arith}

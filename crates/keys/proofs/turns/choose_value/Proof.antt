@@ -1,5 +1,5 @@
 -- `turns::choose_value` meets its contract: a quantity that is not of the part keeps its word, and another gets the value that its rules with those listed leave. Assumes nothing.
-use mathlib.Core.Path.{_≡_, refl, sym, _∙_}
+use mathlib.Core.Path.{sym, _∙_}
 use native.Mathlib.Numerals.{add-one}
 use native.Mathlib.Omega.{arith}
 use borrow.Author.Needs.{needs}

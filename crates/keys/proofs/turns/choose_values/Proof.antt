@@ -1,10 +1,8 @@
 -- `turns::choose_values` meets its contract. The loop's invariant: the members past the first j quantities have their values. The measure is the quantities left. Assumes nothing.
-use mathlib.Core.Path.{_≡_, refl, sym, _∙_}
+use mathlib.Core.Path.{_≡_, refl, _∙_}
 use Prim.Native.Nat.{_-_, _≤_}
 use native.Mathlib.Omega.{arith}
 use lib.ListN.{length}
-use denote.Ref.{now}
-use borrow.Author.Needs.{needs}
 use Rattle.keys.specs.Inner.{readBack}
 use Rattle.keys.proofs.Taking.{table-ready, read-none, read-more, read-ready}
 use Rattle.keys.proofs.turns.choose_values.Statement.{statement}

@@ -1,11 +1,10 @@
 -- `turns::take_turns` meets its contract. The loop's invariant: the members among the first j quantities have had their turn. The measure is the quantities left. Assumes nothing.
-use mathlib.Core.Path.{_≡_, refl, sym, _∙_}
+use mathlib.Core.Path.{_≡_, refl, _∙_}
 use Prim.Native.Nat.{_-_, _≤_}
 use native.Mathlib.Numerals.{add-one}
 use native.Mathlib.Omega.{arith}
 use lib.ListN.{length, drop}
 use denote.Ref.{now}
-use borrow.Author.Needs.{needs}
 use Rattle.places.specs.Numbering.{blockStart}
 use Rattle.keys.specs.Inner.{memberOf, AtTurns}
 use Rattle.keys.proofs.AtTurns.{no-turn}

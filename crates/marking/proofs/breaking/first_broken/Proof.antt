@@ -1,5 +1,5 @@
 -- `breaking::first_broken` meets its contract: the script's least bounds at the back, then the first rule at the front that is below its one. Assumes nothing.
-use mathlib.Core.Path.{_≡_, refl, sym, _∙_}
+use mathlib.Core.Path.{_≡_, refl}
 use Prim.Native.Nat.{_-_, _≤_}
 use native.Mathlib.Omega.{arith}
 use lib.ListN.{length}

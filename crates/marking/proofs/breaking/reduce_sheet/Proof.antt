@@ -1,6 +1,5 @@
 -- `breaking::reduce_sheet` meets its contract: the sheet copied and its hidden quantities eliminated, then the key copied and made the tightest. Assumes nothing.
 use native.Mathlib.Omega.{arith}
-use mathlib.Core.Path.{refl}
 use Prim.Native.Nat.{_≤_}
 use lib.ListN.{length}
 use borrow.Author.Needs.{needs}

@@ -1,8 +1,7 @@
 -- `mark::verdict_in` meets its contract: the sheet reduced, the script compared with the key and the key with the script, and the rule found broken. Assumes nothing.
-use mathlib.Core.Path.{_≡_, refl, sym, _∙_, ap}
+use mathlib.Core.Path.{_≡_, sym, _∙_, ap}
 use Prim.Native.Nat.{_≤_, _<_}
 use native.Mathlib.Omega.{arith}
-use lib.ListN.{length}
 use denote.Ref.{now}
 use borrow.Author.Needs.{needs}
 use Rattle.integers.proofs.Parts.{held-value}
@@ -13,7 +12,6 @@ use Rattle.tables.specs.Places.{ruleAt}
 use Rattle.tables.proofs.Sizes.{size-known, small-start}
 use Rattle.keys.proofs.Parts.{second-room}
 use Rattle.keys.proofs.Taking.{taken-length}
-use Rattle.marking.specs.Inner.{VisibleListed}
 use Rattle.marking.proofs.Broken.{second-part}
 use Rattle.marking.proofs.Reducing.{listed-visible}
 use Rattle.marking.proofs.Promised.{told-given, verdict-without, sheet-reducible, script-comparable, loose-inside, loose-there, loose-ready, loose-given, narrow-ready, narrow-given}

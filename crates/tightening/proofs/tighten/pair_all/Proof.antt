@@ -6,7 +6,6 @@ use native.Mathlib.Numerals.{add-one}
 use native.Mathlib.Omega.{arith}
 use lib.ListN.{length, getD}
 use denote.Ref.{now}
-use borrow.Author.Needs.{needs}
 use Rattle.tightening.proofs.Walking.{PairedTo, walk-first, walk-ready, walk-on, walk-clash, walk-end}
 use Rattle.tightening.proofs.tighten.pair_all.Statement.{statement}
 use Rattle.tightening.proofs.tighten.pair_all.Tie as tie

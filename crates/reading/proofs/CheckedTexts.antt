@@ -17,7 +17,7 @@ use Rattle.reading.proofs.Means.{text-means, reads-check}
 use Rattle.reading.proofs.Numbers.{returned-failed, returned-passed}
 
 -- what passed is no refusal
-not-failed {ℓ} : {X : Type ℓ} {n set m body : ℕ} {f : Refusal} → Passed n set m body ≡ Failed f → X
+pub not-failed {ℓ} : {X : Type ℓ} {n set m body : ℕ} {f : Refusal} → Passed n set m body ≡ Failed f → X
 not-failed e = let z : _≡_ {A = ℕ} 0 1 = cc in let y : ⊥ = omega arith in absurd y
 
 module _ (paper : Paper) (s : List ℕ) (r : Checked) (e : r ≡ checkedOf (checkText paper s)) where

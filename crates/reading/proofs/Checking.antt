@@ -76,10 +76,10 @@ module _ (paper : Paper) (s : List ℕ) (h : length s ≤ maxText) where
       third-checked f g = rw (le-ltb maxText (length s) h, e, d, g)
 
       -- the lines of the rules decide
-      pub rules-checked : (m body : ℕ) → body ≤ length s → countJudged rulesKey 0 maxRules 3 v ≡ accepted m (drop body s)
-          → checkedRules n (setOf qs) m body (rulesFrom n (boundLimit paper n (setOf qs)) m 4 (drop body s)) ≡ checkedOf (checkText paper s)
+      pub rules-checked : (set m body : ℕ) → set ≡ setOf qs → body ≤ length s → countJudged rulesKey 0 maxRules 3 v ≡ accepted m (drop body s)
+          → checkedRules n set m body (rulesFrom n (boundLimit paper n set) m 4 (drop body s)) ≡ checkedOf (checkText paper s)
       unfolding checkText linesFrom onward checkedOf checkedRules
-      rules-checked m body l g = rw (le-ltb maxText (length s) h, e, d, g) (go (rulesFrom n (boundLimit paper n (setOf qs)) m 4 (drop body s)) refl)
+      rules-checked set m body told l g = rw (told, le-ltb maxText (length s) h, e, d, g) (go (rulesFrom n (boundLimit paper n (setOf qs)) m 4 (drop body s)) refl)
         where
           made : List Written → Contents
           made ws = record { count = n; hiddens = qs; written = ws }

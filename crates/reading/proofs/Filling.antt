@@ -32,14 +32,21 @@ use Rattle.reading.proofs.Fronts.{filled-from}
 -- ---- what the calls on the table do
 
 -- it is emptied, and an accepted rule is put in
-emptied-table : (n : ℕ) (t : List ℤ) (r : Reply) (u : List ℤ) → serves n (length t) ≡ true → Emptied n t r u
+pub emptied-table : (n : ℕ) (t : List ℤ) (r : Reply) (u : List ℤ) → serves n (length t) ≡ true → Emptied n t r u
     → u ≡ emptyTable n ++ drop (blockStart n) t
 emptied-table n t r u e p = rw (p .reply, e) at (p .table)
 
-put-table : (n : ℕ) (q : Rule) (t : List ℤ) (r : Reply) (u : List ℤ) → serves n (length t) ≡ true → ruleReply n (halvedOf q) ≡ Done → Put n q t r u
+pub put-table : (n : ℕ) (q : Rule) (t : List ℤ) (r : Reply) (u : List ℤ) → serves n (length t) ≡ true → ruleReply n (halvedOf q) ≡ Done → Put n q t r u
     → u ≡ putRule t q
 unfolding putReply
 put-table n q t r u e d p = rw (p .reply, e, d) at (p .table)
+
+-- the rule of a line that is found is accepted
+pub found-accepted : (s : List ℕ) (n limit line at : ℕ) (q : Rule) (next : ℕ) → limit < cap → RuleFound s n limit line at q next
+    → ruleReply n (halvedOf q) ≡ Done
+unfolding lineWithin
+found-accepted s n limit line at q next below k =
+    rw (k .told) (fine-accepted n limit (k .written) below (record { formed = tt; within = k .within; uncancelled = k .stays }))
 
 -- ---- the loop
 
@@ -53,10 +60,10 @@ pub record Filling (limit : ℕ) (s : List ℕ) (n count body : ℕ) (table₀ t
   pub kept : length table ≡ length table₀
 
 -- at the start all rules are left
-pub filling-begins : (limit : ℕ) (s : List ℕ) (n count body : ℕ) (ws : List Written) (t : List ℤ) → Opened limit s n count body ws
-    → Filling limit s n count body t t body 0
-filling-begins limit s n count body ws t o =
-    record { all = ws; begun = o .rest; left = ws; lines = rw (sub-zero count) (o .rest); goal = refl; kept = refl }
+pub filling-begins : (limit : ℕ) (s : List ℕ) (n count body : ℕ) (ws : List Written) (t : List ℤ)
+    → rulesFrom n limit count 4 (drop body s) ≡ accepted ws [] → Filling limit s n count body t t body 0
+filling-begins limit s n count body ws t e =
+    record { all = ws; begun = e; left = ws; lines = rw (sub-zero count) e; goal = refl; kept = refl }
 
 module _ (limit : ℕ) (s : List ℕ) (n count body : ℕ) (t₀ t : List ℤ) (at i : ℕ) (f : Filling limit s n count body t₀ t at i) where
   -- no line is refused on the way
@@ -66,7 +73,7 @@ module _ (limit : ℕ) (s : List ℕ) (n count body : ℕ) (t₀ t : List ℤ) (
   -- the next rule is put in
   pub filling-again : (q : Rule) (next : ℕ) (r : Reply) (u : List ℤ) → limit < cap → i < count → serves n (length t) ≡ true
       → RuleFound s n limit (i + 4) at q next → Put n q t r u → length u ≡ length t → Filling limit s n count body t₀ u next (i + 1)
-  unfolding putAll lineWithin
+  unfolding putAll
   filling-again q next r u below h e k p l = record {
     all = f .all;
     begun = f .begun;
@@ -85,14 +92,11 @@ module _ (limit : ℕ) (s : List ℕ) (n count body : ℕ) (t₀ t : List ℤ) (
       rest : w .rest ≡ drop next s
       rest = cc (w .line, k .is)
 
-      done : ruleReply n (halvedOf q) ≡ Done
-      done = rw (k .told) (fine-accepted n limit (k .written) below (record { formed = tt; within = k .within; uncancelled = k .stays }))
-
       put : u ≡ putRule t (writtenRule (w .first))
-      put = put-table n q t r u e done p ∙ ap (putRule t) (k .told ∙ ap writtenRule (sym first))
+      put = put-table n q t r u e (found-accepted s n limit (i + 4) at q next below k) p ∙ ap (putRule t) (k .told ∙ ap writtenRule (sym first))
 
   -- at the end none are left
-  filling-over : count ≤ i → t ≡ putAll t₀ (writtenRules (f .all))
+  pub filling-over : count ≤ i → t ≡ putAll t₀ (writtenRules (f .all))
   unfolding putAll
   filling-over h = rw (rules-none n limit count i (drop at s) (f .left) h (f .lines)) at (f .goal)
 

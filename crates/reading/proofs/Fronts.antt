@@ -1,13 +1,13 @@
 -- Rules put into the first words of a longer table: the words past these stay. Assumes nothing.
-use mathlib.Core.Path.{_≡_, refl}
+use mathlib.Core.Path.{_≡_, refl, sym, _∙_, ap}
 use mathlib.Core.Bool.{Bool, true, false, cond}
 use mathlib.Core.List.{List, [], _∷_, _++_}
 use Prim.Native.Nat.{ℕ, _/_, _≤_, _<_}
 use native.Mathlib.Omega.{arith}
 use lib.Dec.{eqb}
 use lib.IntN.{ℤ, pos}
-use lib.ListN.{length, drop, length-replicate, List·getD-append}
-use lib.Seq.{set-append-left}
+use lib.ListN.{length, take, drop, length-replicate, take-append-drop, List·getD-append}
+use lib.Seq.{length-take-le, drop-at, set-append-left}
 use borrow.Author.Tests.{eqb-false}
 use Rattle.integers.specs.Bound.{smaller}
 use Rattle.words.specs.Change.{wordAt, lowered}
@@ -53,6 +53,20 @@ module _ (n : ℕ) (t v : List ℤ) (l : blockStart n ≤ length t) where
 put-front : (n : ℕ) (t v : List ℤ) (r : Rule) → blockStart n ≤ length t → ruleReply n (halvedOf r) ≡ Done → putRule (t ++ v) r ≡ putRule t r ++ v
 unfolding putRule
 put-front n t v r l e = halved-front n t v l (halvedOf r) e
+
+-- so the words past the first part stay
+pub put-past : (n : ℕ) (t : List ℤ) (r : Rule) → blockStart n ≤ length t → ruleReply n (halvedOf r) ≡ Done
+    → drop (blockStart n) (putRule t r) ≡ drop (blockStart n) t
+put-past n t r l e =
+    ap (λ (x : List ℤ). drop (blockStart n) (putRule x r)) (sym (take-append-drop (blockStart n) t))
+    ∙ ap (drop (blockStart n)) (put-front n front (drop (blockStart n) t) r (omega (arith, long)) e)
+    ∙ drop-at (putRule front r) (drop (blockStart n) t) (blockStart n) (put-length front r ∙ long)
+  where
+    front : List ℤ
+    front = take (blockStart n) t
+
+    long : length front ≡ blockStart n
+    long = length-take-le (blockStart n) t l
 
 -- all of a list
 putAll-front : (n : ℕ) (t v : List ℤ) (rs : List Rule) → blockStart n ≤ length t → AllAccepted n rs → putAll (t ++ v) rs ≡ putAll t rs ++ v

@@ -18,6 +18,7 @@ pub mod RuleLines
 pub mod Headers
 pub mod Fronts
 pub mod Filling
+pub mod FillingOnce
 pub mod Checking
 pub mod ReadTexts
 pub mod Frauds

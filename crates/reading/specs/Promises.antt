@@ -10,15 +10,18 @@ use Rattle.places.specs.Numbering.{blockStart}
 use Rattle.rules.specs.declared.paper.Paper.{Paper}
 use Rattle.rules.specs.declared.paper.Paper.the-variants.{Sheet}
 use Rattle.rules.specs.declared.refusal.Refusal.{Refusal}
+use Rattle.rules.specs.Limits.{maxQuantities}
 use Rattle.rules.specs.Refusal.{refusedAs}
 use Rattle.rules.specs.Meaning.{Assignment}
 use Rattle.tables.specs.Tables.{tableOf, smallestAt}
 use Rattle.tables.specs.Meaning.{Satisfies, MeetsAll}
 use Rattle.lines.specs.Spelling.{writtenRules}
 use Rattle.reading.specs.declared.check.Checked.{Checked}
+use Rattle.reading.specs.declared.check.Checked.the-variants.{Passed}
 use Rattle.reading.specs.declared.read.Reading.{Reading}
 use Rattle.reading.specs.Texts.{Contents}
 use Rattle.reading.specs.Meaning.{Reads, FailsFor, Passes, RefusedFor, AcceptedAs}
+use Rattle.reading.specs.Reading.{filled as fill}
 use Rattle.reading.specs.Reading.{checkText, checkedOf, readReply, readTable, checkedReturned, readingReturned, readingNumber}
 
 -- a text checked: refused exactly for these reasons, and passed exactly where it is spelled so, as it is returned
@@ -27,6 +30,12 @@ pub record TextChecked (paper : Paper) (s : List ℕ) (r : Checked) : Type 0 whe
   pub refused : (f : Refusal) → (checkedReturned r ≡ refusedAs f) ↔ FailsFor paper s f
   pub passed : (n set m body : ℕ)
       → (checkedReturned r ≡ record { number = 0; values = pos n ∷ pos set ∷ pos m ∷ pos body ∷ [] }) ↔ Passes paper s n set m body
+
+-- a text checked, and a table that is long enough for its n filled where it passed; where it is refused, the first words of the table are free
+pub record TextFilled (paper : Paper) (s : List ℕ) (table : List ℤ) (r : Checked) (table' : List ℤ) : Type 0 where
+  pub checked : TextChecked paper s r
+  pub filled : (n set m body : ℕ) → r ≡ Passed n set m body → blockStart n ≤ length table → table' ≡ fill (checkText paper s) table
+  pub rest : drop (blockStart maxQuantities) table' ≡ drop (blockStart maxQuantities) table
 
 -- a table holds what contents write: at each place the smallest bound that rules have there, in whatever order they stand; so what satisfies it meets the rules
 pub record TableHolds (c : Contents) (table : List ℤ) : Type 0 where

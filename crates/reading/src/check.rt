@@ -1,4 +1,4 @@
-// A text checked, without a table: its size, then its lines from the first.
+// A text checked: its size, then its lines from the first. Each line is read once, and a table that is at hand is filled meanwhile.
 use lines::answer;
 use lines::answer::Answer;
 use lines::count;
@@ -9,14 +9,12 @@ use rules::paper;
 use rules::paper::Paper;
 use rules::refusal::Refusal;
 use rules::sheet::Sheet;
-ghost use mathlib.Core.Path.{_≡_};
+use tables::table;
 ghost use Prim.Native.Nat.{_≤_, _<_};
-ghost use lib.ListN.{drop};
 ghost use Rattle.numerals.specs.Decimal.{cap};
 ghost use Rattle.rules.specs.Limits.{maxQuantities, maxRules};
-ghost use Rattle.reading.specs.Reading.{rulesFrom};
-ghost use Rattle.reading.specs.Promises.{TextChecked};
-ghost use Rattle.reading.specs.Inner.{checkedRules};
+ghost use Rattle.reading.specs.Promises.{TextChecked, TextFilled};
+ghost use Rattle.reading.specs.Inner.{RulesFilled};
 
 pub enum Checked {
     // n, the hidden set, the number of rules, and the cursor at which their lines begin
@@ -31,20 +29,36 @@ pub enum Checked {
     },
 }
 
-// Checks the lines of `count` rules from the cursor `body` on, the first being line 4, and that nothing follows them; `n` and `hidden` go into the answer.
-fn check_rules(s: &[u8], n: usize, hidden: Set, limit: u64, count: usize, body: usize) -> Checked
-    requires { ⌜ (n ≤ maxQuantities) × (limit < cap) × (count ≤ maxRules) ⌝ }
-    ensures { λ r. ⌜ r ≡ checkedRules n hidden count body (rulesFrom n limit count 4 (drop body (now (s .entry)))) ⌝ }
+// Checks the lines of `count` rules from the cursor `body` on, the first being line 4, and that nothing follows them; `n` and `hidden` go into the answer. A table that is long enough is
+// filled with the rules meanwhile, and its words are free where a line is refused; a shorter one stays.
+fn check_rules(
+    s: &[u8],
+    n: usize,
+    hidden: Set,
+    limit: u64,
+    count: usize,
+    body: usize,
+    table: &mut [i64],
+) -> Checked
+    requires { ⌜ (1 ≤ n) × (n ≤ maxQuantities) × (limit < cap) × (count ≤ maxRules) ⌝ }
+    ensures { λ r. ⌜ RulesFilled n hidden limit count body (now (s .entry)) (now (table .entry)) r (now (table .exit)) ⌝ }
 {
+    let fills = table::size(n) <= table.len();
+    if fills {
+        table::empty(n, table);
+    }
     let mut at = body;
     let mut i = 0;
     while i < count {
         let got = rule::rule_line(s, at, n, limit, i + 4);
-        let Answer::Rule { rule: _, next } = got else {
+        let Answer::Rule { rule, next } = got else {
             return Checked::Refused {
                 refusal: answer::refusal(got),
             };
         };
+        if fills {
+            table::put(n, table, rule);
+        }
         at = next;
         i = i + 1;
     }
@@ -61,9 +75,10 @@ fn check_rules(s: &[u8], n: usize, hidden: Set, limit: u64, count: usize, body: 
     }
 }
 
-// Checks a text, taken as a sheet or a script: its size, the three lines of its header, then its rules, whose bounds the header limits.
-pub fn check(s: &[u8], paper: Paper) -> Checked
-    ensures { λ r. ⌜ TextChecked paper (now (s .entry)) r ⌝ }
+// Checks a text, taken as a sheet or a script: its size, the three lines of its header, then its rules, whose bounds the header limits. A table that is long enough for its n is filled
+// meanwhile, so that each line is read once; its words are free where the text is refused.
+pub fn check_filling(s: &[u8], paper: Paper, table: &mut [i64]) -> Checked
+    ensures { λ r. ⌜ TextFilled paper (now (s .entry)) (now (table .entry)) r (now (table .exit)) ⌝ }
 {
     if Sheet::MAX_TEXT < s.len() {
         return Checked::Refused {
@@ -101,5 +116,13 @@ pub fn check(s: &[u8], paper: Paper) -> Checked
             refusal: answer::refusal(third),
         };
     };
-    check_rules(s, n, set, limit, count, body)
+    check_rules(s, n, set, limit, count, body, table)
+}
+
+// Checks a text and fills no table.
+pub fn check(s: &[u8], paper: Paper) -> Checked
+    ensures { λ r. ⌜ TextChecked paper (now (s .entry)) r ⌝ }
+{
+    let mut none = [0; 0];
+    check_filling(s, paper, &mut none)
 }

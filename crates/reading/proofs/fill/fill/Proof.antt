@@ -52,7 +52,7 @@ empty-requires c κs = search needs
 
 loop-holds : tie.Need-loop-holds Inv-loop μ-loop
 loop-holds c = let b = c .before .before .before in let a = b .before .before .args in
-    filling-begins (unsigned (b .bound-limit .result)) (now (a .s)) (a .n) (a .count) (a .body) _ _ (opened-by b)
+    filling-begins (unsigned (b .bound-limit .result)) (now (a .s)) (a .n) (a .count) (a .body) _ _ (opened-by b .rest)
 
 add-rule-line : tie.Need-add-rule-line Inv-loop μ-loop
 add-rule-line c = omega (arith, opened (c .before .before .before .before .before .before .before) .lines)

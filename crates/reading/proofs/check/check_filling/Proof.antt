@@ -1,4 +1,4 @@
--- `check::check` meets its contract: a line that is refused ends it with its refusal, and after three lines those of the rules decide. Assumes
+-- `check::check_filling` meets its contract: a line that is refused ends it with its refusal, and after three lines those of the rules decide. Assumes
 -- nothing.
 use mathlib.Core.Path.{_≡_, sym, _∙_}
 use mathlib.Core.List.{List}
@@ -12,11 +12,12 @@ use Rattle.rules.specs.Limits.{maxQuantities, boundLimit, maxRules, maxText}
 use Rattle.lines.specs.Spelling.{quantitiesKey, rulesKey}
 use Rattle.lines.specs.Lines.{countJudged, hiddenJudged}
 use Rattle.lines.proofs.Found.{CountFound, HiddenFound, LineRefused, count-found, hidden-found, count-refused, hidden-refused, refused-by}
+use Rattle.reading.specs.Inner.{RulesFilled}
 use Rattle.reading.proofs.Limits.{limit-told, unsigned, cap-casts, cap-value}
-use Rattle.reading.proofs.CheckedTexts.{check-promised}
+use Rattle.reading.proofs.FillingOnce.{header-refused, text-filled}
 use Rattle.reading.proofs.Checking.{size-checked, first-checked, second-checked, third-checked, rules-checked}
-use Rattle.reading.proofs.check.check.Statement.{statement}
-use Rattle.reading.proofs.check.check.Tie as tie
+use Rattle.reading.proofs.check.check_filling.Statement.{statement}
+use Rattle.reading.proofs.check.check_filling.Tie as tie
 
 -- the text, the paper, n and the cursor of the second line, where the first is found
 abbrev textOf : tie.After-known-told → List ℕ
@@ -69,7 +70,7 @@ third c = let l = c .before .before .before in let k = l .before .before .before
     count-found (textOf f) rulesKey 0 maxRules 3 (thirdAt k) (rulesOf c) (bodyAt c) (sym (l .count-line2 .ensures .reply) ∙ c .before .third .given .1)
 
 returns : tie.Need-returns
-returns c = let a = c .before .before .args in check-promised (a .paper) (now (a .s)) _ (size-checked (a .paper) (now (a .s)) (c .if1 .taken))
+returns c = let a = c .before .before .args in header-refused (a .paper) (now (a .s)) _ _ (size-checked (a .paper) (now (a .s)) (c .if1 .taken))
 
 slice-aggregate-count-line : tie.Need-slice-aggregate-count-line
 slice-aggregate-count-line c = search needs
@@ -91,7 +92,7 @@ refusal-requires c κs = let f = first-refused c in (f .refusal, f .answered)
 
 returns-2 : tie.Need-returns-2
 returns-2 c = let k = c .before in let l = k .before in let a = l .before .before .before .before .args in
-    check-promised (a .paper) (now (a .s)) _
+    header-refused (a .paper) (now (a .s)) _ _
     (first-checked (a .paper) (now (a .s)) (l .before .before .if1 .left) _ (refused-by _ (first-refused k) (c .refusal .ensures)))
 
 hidden-line-requires : tie.Need-hidden-line-requires
@@ -111,7 +112,7 @@ refusal-requires-2 c κs = let f = second-refused c in (f .refusal, f .answered)
 
 returns-3 : tie.Need-returns-3
 returns-3 c = let k = c .before in let f = k .before .before in
-    check-promised (paperOf f) (textOf f) _ (second-checked (paperOf f) (textOf f) (small f) (countOf f) (drop (secondAt f) (textOf f)) (first f .is) _
+    header-refused (paperOf f) (textOf f) _ _ (second-checked (paperOf f) (textOf f) (small f) (countOf f) (drop (secondAt f) (textOf f)) (first f .is) _
     (refused-by _ (second-refused k) (c .refusal2 .ensures)))
 
 bound-limit-requires : tie.Need-bound-limit-requires
@@ -141,21 +142,28 @@ refusal-requires-3 c κs = let f = third-refused c in (f .refusal, f .answered)
 
 returns-4 : tie.Need-returns-4
 returns-4 c = let l = c .before .before in let k = l .before .before .before in let f = k .before .before .before .before in
-    check-promised (paperOf f) (textOf f) _ (third-checked (paperOf f) (textOf f) (small f) (countOf f) (drop (secondAt f) (textOf f)) (first f .is)
+    header-refused (paperOf f) (textOf f) _ _ (third-checked (paperOf f) (textOf f) (small f) (countOf f) (drop (secondAt f) (textOf f)) (first f .is)
     (second k .members) (drop (thirdAt k) (textOf f)) (second k .is) _ (refused-by _ (third-refused (c .before)) (c .refusal3 .ensures)))
 
 check-rules-requires : tie.Need-check-rules-requires
-check-rules-requires c κs = let b = c .before .before .before .before .before in let k = b .before in let f = k .before .before .before .before in
-    (first f .high, rw (limit-is b) (limit-told (paperOf f) (countOf f) (setAt k) (first f .high)), third c .high)
+check-rules-requires c κs = let t = c .before in let b = t .before .before .before .before .before in let k = b .before in
+    let f = k .before .before .before .before in
+    (first f .low, first f .high, rw (limit-is b) (limit-told (paperOf f) (countOf f) (setAt k) (first f .high)), third t .high)
+
+same-length : tie.Need-same-length
+same-length c = search needs
 
 returns-5 : tie.Need-returns-5
-returns-5 c = let t = c .before in let b = t .before .before .before .before .before in let k = b .before in let f = k .before .before .before .before in
-    check-promised (paperOf f) (textOf f) _ (c .check-rules .ensures ∙ rw (limit-is b, second k .told)
-    (rules-checked (paperOf f) (textOf f) (small f) (countOf f) (drop (secondAt f) (textOf f)) (first f .is) (second k .members)
-    (drop (thirdAt k) (textOf f)) (second k .is) (rulesOf t) (bodyAt t) (third t .inside) (third t .is)))
+returns-5 c = let e = c .before in let t = e .before .before in let b = t .before .before .before .before .before in let k = b .before in
+    let f = k .before .before .before .before in
+    let p : RulesFilled (countOf f) (setAt k) (boundLimit (paperOf f) (countOf f) (setAt k)) (rulesOf t) (bodyAt t) (textOf f) _ _ _ =
+    rw (limit-is b) at (e .check-rules .ensures) in
+    text-filled (paperOf f) (textOf f) (countOf f) (setAt k) (rulesOf t) (bodyAt t) _ _ _ (first f .high) (p .reply
+    ∙ rules-checked (paperOf f) (textOf f) (small f) (countOf f) (drop (secondAt f) (textOf f)) (first f .is) (second k .members)
+    (drop (thirdAt k) (textOf f)) (second k .is) (setAt k) (rulesOf t) (bodyAt t) (second k .told) (third t .inside) (third t .is)) p
 
-pub check-spec : {M : Type 1} → statement M
-check-spec =
+pub check-filling-spec : {M : Type 1} → statement M
+check-filling-spec =
     tie.close
     (tie.spec
     returns
@@ -176,4 +184,5 @@ check-spec =
     refusal-requires-3
     returns-4
     check-rules-requires
+    same-length
     returns-5)

@@ -32,67 +32,29 @@ fn add_two(table: &mut [i64], at: usize, plus_x: i64, minus_x: i64, plus_y: i64,
     table[at] = integers::minimum(w, plus_x + minus_y);
 }
 
-// Puts the sums in at the four places of two quantities, `at` being the first, given the bounds of the literals of each.
-fn pair_four(
+// Puts them in either way: untested where `quick` tells that each of the bounds is a rule.
+fn put_two(
     table: &mut [i64],
     at: usize,
     plus_x: i64,
     minus_x: i64,
-    plus_not_x: i64,
-    minus_not_x: i64,
     plus_y: i64,
     minus_y: i64,
-    plus_not_y: i64,
-    minus_not_y: i64,
+    quick: bool,
 )
-    requires { ⌜ (at + 3 < length (now table)) × FourAddable «plus_x» «minus_x» «plus_not_x» «minus_not_x» × FourAddable «plus_y» «minus_y» «plus_not_y» «minus_not_y» ⌝ }
-    ensures { λ _. ⌜ now (table .exit) ≡ fourPaired (now (table .entry)) at «plus_x» «minus_x» «plus_not_x» «minus_not_x» «plus_y» «minus_y» «plus_not_y» «minus_not_y» ⌝ }
+    requires { ⌜ (at < length (now table)) × FourAddable «plus_x» «minus_x» «plus_y» «minus_y» ⌝ }
+    requires { ⌜ (quick ≡ true → allHeld «plus_x» «minus_x» «plus_y» «minus_y» ≡ true) ⌝ }
+    ensures { λ _. ⌜ now (table .exit) ≡ twoPaired (now (table .entry)) at «plus_x» «minus_x» «plus_y» «minus_y» ⌝ }
 {
+    if quick {
+        add_two(table, at, plus_x, minus_x, plus_y, minus_y);
+        return;
+    }
     pair_two(table, at, plus_x, minus_x, plus_y, minus_y);
-    pair_two(table, at + 1, plus_x, minus_x, plus_not_y, minus_not_y);
-    pair_two(table, at + 2, plus_not_x, minus_not_x, plus_y, minus_y);
-    pair_two(
-        table,
-        at + 3,
-        plus_not_x,
-        minus_not_x,
-        plus_not_y,
-        minus_not_y,
-    );
 }
 
-// The same where each of the bounds is a rule.
-fn add_four(
-    table: &mut [i64],
-    at: usize,
-    plus_x: i64,
-    minus_x: i64,
-    plus_not_x: i64,
-    minus_not_x: i64,
-    plus_y: i64,
-    minus_y: i64,
-    plus_not_y: i64,
-    minus_not_y: i64,
-)
-    requires { ⌜ (at + 3 < length (now table)) × FourAddable «plus_x» «minus_x» «plus_not_x» «minus_not_x» × FourAddable «plus_y» «minus_y» «plus_not_y» «minus_not_y» ⌝ }
-    requires { ⌜ (allHeld «plus_x» «minus_x» «plus_not_x» «minus_not_x» ≡ true) × (allHeld «plus_y» «minus_y» «plus_not_y» «minus_not_y» ≡ true) ⌝ }
-    ensures { λ _. ⌜ now (table .exit) ≡ fourPaired (now (table .entry)) at «plus_x» «minus_x» «plus_not_x» «minus_not_x» «plus_y» «minus_y» «plus_not_y» «minus_not_y» ⌝ }
-{
-    add_two(table, at, plus_x, minus_x, plus_y, minus_y);
-    add_two(table, at + 1, plus_x, minus_x, plus_not_y, minus_not_y);
-    add_two(table, at + 2, plus_not_x, minus_not_x, plus_y, minus_y);
-    add_two(
-        table,
-        at + 3,
-        plus_not_x,
-        minus_not_x,
-        plus_not_y,
-        minus_not_y,
-    );
-}
-
-// Puts the sums in at these four places; `full` tells whether each bound of the second quantity is a rule. In a table with many rules most are, and then only the bounds of the first one
-// are tested.
+// Puts the sums in at the four places of two quantities, `at` being the first, given the bounds of the literals of each; `full` tells whether each bound of the second quantity is a
+// rule. In a table with many rules most are, and then only the bounds of the first one are tested.
 fn put_four(
     table: &mut [i64],
     at: usize,
@@ -110,34 +72,34 @@ fn put_four(
     requires { ⌜ full ≡ allHeld «plus_y» «minus_y» «plus_not_y» «minus_not_y» ⌝ }
     ensures { λ _. ⌜ now (table .exit) ≡ fourPaired (now (table .entry)) at «plus_x» «minus_x» «plus_not_x» «minus_not_x» «plus_y» «minus_y» «plus_not_y» «minus_not_y» ⌝ }
 {
-    if full {
-        if word::are_all(plus_x, minus_x, plus_not_x, minus_not_x) {
-            add_four(
-                table,
-                at,
-                plus_x,
-                minus_x,
-                plus_not_x,
-                minus_not_x,
-                plus_y,
-                minus_y,
-                plus_not_y,
-                minus_not_y,
-            );
-            return;
-        }
-    }
-    pair_four(
+    let quick = full && word::are_all(plus_x, minus_x, plus_not_x, minus_not_x);
+    put_two(table, at, plus_x, minus_x, plus_y, minus_y, quick);
+    put_two(
         table,
-        at,
+        at + 1,
         plus_x,
         minus_x,
+        plus_not_y,
+        minus_not_y,
+        quick,
+    );
+    put_two(
+        table,
+        at + 2,
         plus_not_x,
         minus_not_x,
         plus_y,
         minus_y,
+        quick,
+    );
+    put_two(
+        table,
+        at + 3,
+        plus_not_x,
+        minus_not_x,
         plus_not_y,
         minus_not_y,
+        quick,
     );
 }
 

@@ -10,7 +10,6 @@ use Rattle.words.specs.Change.{wordAt}
 use Rattle.places.specs.Numbering.{blockStart, isOne, higherAt, lowerAt}
 use Rattle.places.proofs.Numbering.{at-lower, at-below}
 use Rattle.rules.specs.Literal.{negated}
-use Rattle.tables.proofs.Tests.{clash}
 use Rattle.elimination.specs.Hiding.{bareBelow, pairWord, loneWord, onOne, onTwo, liveAt, pairing, anyBare, paired, contradicts}
 use Rattle.elimination.proofs.PairedWords.{paired-at}
 use Rattle.elimination.proofs.Step.{negated-half}

@@ -1,6 +1,6 @@
 -- The integers that its rules leave a quantity are those that keep its bounds with live literals; so the integer chosen is one of them, where there
 -- is one, and none is nearer to 0. Assumes nothing.
-use mathlib.Core.Path.{_≡_, refl, sym, _∙_}
+use mathlib.Core.Path.{_≡_, refl, _∙_}
 use mathlib.Core.Bool.{Bool, true, false}
 use mathlib.Core.List.{List}
 use mathlib.Core.Logic.{_↔_, _⊎_, inl, inr, ⊎-elim}

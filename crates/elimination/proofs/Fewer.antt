@@ -1,9 +1,8 @@
 -- Fewer live quantities: a step changes the same words, and meets the same contradictions, where those left out are named by no rule. Assumes nothing.
-use mathlib.Core.Path.{_≡_, refl, sym}
+use mathlib.Core.Path.{_≡_, refl}
 use mathlib.Core.Bool.{Bool, true, false, cond, _&&_, _||_}
 use mathlib.Core.List.{List}
-use mathlib.Core.Logic.{_↔_}
-use Prim.Native.Nat.{ℕ, suc, _+_, _*_, _/_, _≤_, _<_}
+use Prim.Native.Nat.{ℕ, _+_, _*_, _/_, _≤_, _<_}
 use native.Mathlib.Omega.{arith}
 use lib.Dec.{eqb}
 use lib.IntN.{ℤ}
@@ -15,7 +14,7 @@ use Rattle.places.specs.Numbering.{blockStart, isOne, higherAt, lowerAt}
 use Rattle.places.proofs.Numbering.{at-lower, at-below}
 use Rattle.rules.specs.Literal.{negated}
 use Rattle.tables.specs.Tables.{hasRule}
-use Rattle.tables.proofs.Tests.{clash, neither}
+use Rattle.tables.proofs.Tests.{clash}
 use Rattle.elimination.specs.Hiding.{bareBelow, pairWord, loneWord, onOne, onTwo, liveAt, pairing, anyBare, paired, contradicts}
 use Rattle.elimination.specs.Magnitude.{Unnamed}
 use Rattle.elimination.proofs.TermWords.{pair-apart, pair-sym}

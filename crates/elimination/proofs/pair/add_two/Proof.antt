@@ -1,6 +1,4 @@
 -- `pair::add_two` meets its contract: where all bounds are rules, both sums are put in. Assumes nothing.
-use mathlib.Core.Bool.{true}
-use mathlib.Core.Path.{_≡_, refl}
 use lib.IntN.{ℤ, _+ℤ_}
 use mir.Syntax.{w64}
 use mir.Val.{SFits}

@@ -2,14 +2,14 @@
 use mathlib.Core.Path.{_≡_, refl, sym, _∙_, ap}
 use mathlib.Core.Bool.{true, false}
 use mathlib.Core.List.{List, [], _∷_}
-use mathlib.Core.Logic.{_↔_, _⊎_, inl, inr}
+use mathlib.Core.Logic.{_↔_, inl, inr}
 use Prim.Native.Nat.{ℕ}
 use native.Mathlib.Omega.{arith}
 use lib.IntN.{ℤ}
 use Rattle.rules.specs.declared.paper.Paper.{Paper}
 use Rattle.rules.specs.declared.paper.Paper.the-variants.{Sheet, Script}
 use Rattle.rules.specs.declared.refusal.Refusal.{Refusal}
-use Rattle.rules.specs.Refusal.{refusalNumber, Returned, refusedAs}
+use Rattle.rules.specs.Refusal.{refusalNumber, refusedAs}
 use Rattle.rules.specs.Refusing.{RefusedBy, AllMet}
 use Rattle.rules.proofs.Refusals.{same-refusal}
 use Rattle.tables.specs.declared.reply.Reply.{Reply}
@@ -20,7 +20,7 @@ use Rattle.marking.specs.declared.verdict.Verdict.{Verdict}
 use Rattle.marking.proofs.Carried.{verdict-from}
 use Rattle.lines.specs.Lines.{Judged, accepted, refused}
 use Rattle.reading.specs.Texts.{Contents}
-use Rattle.reading.specs.Meaning.{Reads, Readable, LineFails, malformed-at, outside-at, cancels-at, FailsFor}
+use Rattle.reading.specs.Meaning.{Reads, malformed-at, outside-at, cancels-at, FailsFor}
 use Rattle.reading.specs.Reading.{checkText}
 use Rattle.reading.proofs.Means.{text-means, reads-check, reads-same}
 use Rattle.reading.proofs.RuleLines.{not-accepted}

@@ -9,4 +9,5 @@ pub mod Alike
 pub mod Pairs
 pub mod Promised
 pub mod OwnRoom
+pub mod ReadOnce
 mod Frauds

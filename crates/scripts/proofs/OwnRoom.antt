@@ -1,6 +1,6 @@
 -- With tables and a workspace for every sheet, marking two texts is refused with 6 exactly for the assignment. Assumes nothing.
 use mathlib.Core.Path.{_≡_, refl, sym, _∙_, ap}
-use mathlib.Core.Bool.{Bool, true, false}
+use mathlib.Core.Bool.{Bool, true, false, cond}
 use mathlib.Core.Logic.{inl, inr}
 use mathlib.Core.List.{List}
 use Prim.Native.Nat.{ℕ, _≤_, _<_}
@@ -15,16 +15,18 @@ use Rattle.places.proofs.Numbering.{blockStart-mono}
 use Rattle.rules.specs.declared.paper.Paper.{Paper}
 use Rattle.rules.specs.declared.paper.Paper.the-variants.{Sheet, Script}
 use Rattle.rules.specs.declared.refusal.Refusal.{Refusal}
-use Rattle.rules.specs.declared.refusal.Refusal.the-variants.{TooShort}
-use Rattle.rules.specs.Limits.{maxQuantities}
+use Rattle.rules.specs.declared.refusal.Refusal.the-variants.{Size, TooShort}
+use Rattle.rules.specs.Hidden.{setOf}
+use Rattle.rules.specs.Limits.{maxQuantities, boundLimit, maxRules, maxText}
 use Rattle.rules.specs.Refusal.{refusalNumber, refusalValue}
 use Rattle.rules.specs.Refusing.{RefusedBy}
 use Rattle.tables.proofs.Sizes.{small-start}
 use Rattle.keys.proofs.Promised.{untouched}
 use Rattle.marking.specs.Meaning.{workspaceSize}
 use Rattle.marking.proofs.Carried.{verdict-from}
-use Rattle.lines.specs.Lines.{Judged, accepted, refused}
-use Rattle.reading.specs.Reading.{checkText}
+use Rattle.lines.specs.Spelling.{quantitiesKey, rulesKey}
+use Rattle.lines.specs.Lines.{Judged, accepted, refused, countJudged, hiddenJudged}
+use Rattle.reading.specs.Reading.{onward, rulesFrom, linesFrom, checkText}
 use Rattle.reading.specs.Texts.{Contents}
 use Rattle.reading.specs.Meaning.{Readable, malformed-at, outside-at, cancels-at, FailsFor}
 use Rattle.scripts.specs.declared.room.Lengths.{Lengths}
@@ -38,8 +40,8 @@ use Rattle.scripts.specs.declared.reply.TextMarking.{TextMarking}
 use Rattle.scripts.specs.declared.reply.TextMarking.the-variants.{Marked, Refused}
 use Rattle.scripts.specs.Replies.{textNumber, textValue, isTextShown}
 use Rattle.scripts.specs.Meaning.{lengthsOf, ownLengths, pairNeeds, AcceptedPair, RefusedPair}
-use Rattle.scripts.specs.Marking.{roomChecks, pairChecks, pairReply, textsReply, countIn}
-use Rattle.scripts.specs.Inner.{Room, PassedPair}
+use Rattle.scripts.specs.Marking.{roomChecks, pairChecks, pairReply, textsReply, sheetCount, countIn}
+use Rattle.scripts.specs.Inner.{Room, PassedPair, TablesRoom}
 use Rattle.scripts.specs.Promises.{TextsJudged, TextsMarked, MarkedInOwnRoom}
 use Rattle.scripts.proofs.Sheets.{fine-table}
 use Rattle.scripts.proofs.Rooms.{roomy-next}
@@ -57,7 +59,7 @@ counted-reads s h = go (checkText Sheet s) refl
     go (refused f) e = let z : countIn s ≡ 0 = rw e refl in absurd (omega arith)
 
 -- n is at most 32
-count-most : (s : List ℕ) → countIn s ≤ maxQuantities
+pub count-most : (s : List ℕ) → countIn s ≤ maxQuantities
 count-most s = go (ltb 0 (countIn s)) refl
   where
     go : (b : Bool) → ltb 0 (countIn s) ≡ b → countIn s ≤ maxQuantities
@@ -65,6 +67,38 @@ count-most s = go (ltb 0 (countIn s)) refl
         let t = counted-reads s (ltb-true 0 (countIn s) e) in
         rw (reads-count s (t .contents) (t .reads)) (fine-table Sheet (t .contents) (t .reads .spelled .fine) .most)
     go false e = omega (arith, ltb-false 0 (countIn s) e)
+
+-- and at most what the first line says alone, or 0 where that is refused
+abbrev pub countTold : Judged ℕ → ℕ
+countTold (accepted n u) = n
+countTold (refused f) = 0
+
+-- whatever reading goes on with
+onward-most : {A : Type 0} (n : ℕ) (j : Judged A) (next : A → List ℕ → Judged Contents) → ((a : A) (u : List ℕ) → sheetCount (next a u) ≤ n)
+    → sheetCount (onward j next) ≤ n
+unfolding onward
+onward-most n (accepted a u) next h = h a u
+onward-most n (refused f) next h = omega arith
+
+lines-most : (s : List ℕ) → sheetCount (linesFrom Sheet s) ≤ countTold (countJudged quantitiesKey 1 maxQuantities 1 s)
+unfolding linesFrom onward
+lines-most s = go (countJudged quantitiesKey 1 maxQuantities 1 s)
+  where
+    go : (j : Judged ℕ)
+        → sheetCount (onward j (λ n u. onward (hiddenJudged n 2 u) (λ qs v. onward (countJudged rulesKey 0 maxRules 3 v) (λ m w.
+        onward (rulesFrom n (boundLimit Sheet n (setOf qs)) m 4 w) (λ rs. accepted (record { count = n; hiddens = qs; written = rs })))))) ≤ countTold j
+    go (accepted n u) =
+        onward-most n (hiddenJudged n 2 u) _ (λ qs v. onward-most n (countJudged rulesKey 0 maxRules 3 v) _ (λ m w.
+        onward-most n (rulesFrom n (boundLimit Sheet n (setOf qs)) m 4 w) _ (λ rs z. omega arith)))
+    go (refused f) = omega arith
+
+pub first-most : (s : List ℕ) → countIn s ≤ countTold (countJudged quantitiesKey 1 maxQuantities 1 s)
+unfolding checkText
+first-most s = go (ltb maxText (length s))
+  where
+    go : (b : Bool) → sheetCount (cond b (refused Size) (linesFrom Sheet s)) ≤ countTold (countJudged quantitiesKey 1 maxQuantities 1 s)
+    go true = omega arith
+    go false = lines-most s
 
 -- ---- 6
 
@@ -173,16 +207,10 @@ module _ (sheet script : List ℕ) (k m : Lengths) (h : Room (countIn sheet) k) 
 
 -- ---- rooms
 
--- texts that passed may be marked in tables and a workspace for any number of quantities that is not below their n
-pub own-passed : {sheet script : List ℕ} {p : Pair} {lent : Lengths} (most : ℕ) → PassedPair sheet script (ownLengths (lent .values)) p → p .quantities ≤ most
-    → lent .sheet ≡ blockStart most → lent .script ≡ blockStart most → lent .workspace ≡ workspaceSize most → PassedPair sheet script lent p
-own-passed most x l e f g =
-    let m = blockStart-mono l in
-    record {
-      of-sheet = x .of-sheet;
-      of-script = x .of-script;
-      room = record { sheet-room = omega arith; script-room = omega arith; workspace-room = omega arith; values-room = x .room .values-room };
-    }
+-- tables and a workspace for so many quantities are long enough for a sheet's n that is not above
+pub own-room : (s : List ℕ) (most : ℕ) {a b w : ℕ} → countIn s ≤ most → a ≡ blockStart most → b ≡ blockStart most → w ≡ workspaceSize most
+    → TablesRoom (countIn s) a b w
+own-room s most l e f g = let m = blockStart-mono l in record { sheet-room = omega arith; script-room = omega arith; workspace-room = omega arith }
 
 -- a reply so judged promises this
 own-judged : (sheet script : List ℕ) (v : List ℤ) (r : TextMarking) (v' : List ℤ) → TextsJudged sheet script (ownLengths (length v)) r v'
@@ -197,14 +225,33 @@ own-judged sheet script v r v' j l =
       most = count-most sheet;
     }
 
--- so does marking texts that passed, in such a room
-pub own-marked : {sheet script : List ℕ} {a b w v : List ℤ} {p : Pair} {r : TextMarking} {a' b' w' v' : List ℤ} → TextsMarked sheet script a b w v r a' b' w' v'
-    → (most : ℕ) → PassedPair sheet script (ownLengths (length v)) p → p .quantities ≤ most
-    → length a ≡ blockStart most → length b ≡ blockStart most → length w ≡ workspaceSize most → MarkedInOwnRoom sheet script v r v'
-own-marked {sheet} {script} {a} {b} {w} {v} {p} {r} {v' = v'} m most x l e f g =
-    let n : countIn sheet ≡ p .quantities = reads-count sheet (x .of-sheet .contents) (x .of-sheet .reads) ∙ sym (x .of-sheet .counts) in
-    let y : PassedPair sheet script (lengthsOf a b w v) p = own-passed most x l e f g in
-    own-judged sheet script v r v' (roomy-judged sheet script (lengthsOf a b w v) (ownLengths (length v)) (rw n (y .room)) (rw n (x .room)) r v' (m .judged)) (m .written)
+-- the n of texts that passed
+passed-count : {sheet script : List ℕ} {lent : Lengths} {p : Pair} → PassedPair sheet script lent p → countIn sheet ≡ p .quantities
+passed-count {sheet} x = reads-count sheet (x .of-sheet .contents) (x .of-sheet .reads) ∙ sym (x .of-sheet .counts)
+
+-- so does marking them, in such a room
+module _ {sheet script : List ℕ} {p : Pair} (a b w v : List ℤ) (x : PassedPair sheet script (ownLengths (length v)) p)
+    (room : TablesRoom (countIn sheet) (length a) (length b) (length w)) where
+  pub own-passed : PassedPair sheet script (lengthsOf a b w v) p
+  own-passed =
+      let t : TablesRoom (p .quantities) (length a) (length b) (length w) = rw (passed-count x) at room in
+      record {
+        of-sheet = x .of-sheet;
+        of-script = x .of-script;
+        room = record {
+          sheet-room = t .sheet-room;
+          script-room = t .script-room;
+          workspace-room = t .workspace-room;
+          values-room = x .room .values-room;
+        };
+      }
+
+  pub own-marked : {r : TextMarking} {a' b' w' v' : List ℤ} → TextsMarked sheet script a b w v r a' b' w' v' → MarkedInOwnRoom sheet script v r v'
+  own-marked {r} {v' = v'} m =
+      let n = passed-count x in
+      own-judged sheet script v r v'
+      (roomy-judged sheet script (lengthsOf a b w v) (ownLengths (length v)) (rw n (own-passed .room)) (rw n (x .room)) r v' (m .judged))
+      (m .written)
 
 -- and a refusal, which changes no word
 pub own-refused : {sheet script : List ℕ} {v : List ℤ} {p : Subject} {f : Refusal} → PairTells sheet script (ownLengths (length v)) (NotPassed p f)

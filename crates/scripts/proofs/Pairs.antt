@@ -37,7 +37,7 @@ use Rattle.scripts.specs.declared.reply.TextMarking.the-variants.{Marked
 use Rattle.scripts.specs.Replies.{isTextShown}
 use Rattle.scripts.specs.Meaning.{lengthsOf, setIn, tableIn, AcceptedPair}
 use Rattle.scripts.specs.Marking.{pairChecks, markedOr, pairReply, textsReply}
-use Rattle.scripts.specs.Inner.{firstChecks, Room}
+use Rattle.scripts.specs.Inner.{firstChecks, Room, TablesFilled}
 use Rattle.scripts.specs.Promises.{PairJudged, TextsJudged, TextsMarked}
 use Rattle.scripts.proofs.Sheets.{FineTable, fine-table}
 use Rattle.scripts.proofs.Rooms.{first-tells, first-done}
@@ -55,6 +55,19 @@ fronted m front t t' e h f = record {
   size = rw f (omega (arith, length-append front (drop m t), length-drop m t));
   rest = rw f (rw (sym e) (drop-append-seam front (drop (length front) t)));
   kept = λ d. clash refl d;
+}
+
+-- ---- two tables
+
+-- tables that are filled from texts are accepted where the script names no hidden quantity
+pub filled-accepted : {n set : ℕ} {sheet script : List ℤ} {w v : ℕ} → TablesFilled n set sheet script w v
+    → tableNamesHidden (hiddenIn set) n script ≡ false → TablesAccepted n set sheet script w v
+filled-accepted {n} {set} {sheet} {script} t e = record {
+  sized = t .sized;
+  workspace-room = t .workspace-room;
+  values-room = t .values-room;
+  limits = t .limits;
+  visible = names-visible (hiddenIn set) n script (t .sized .script-room) .0 e;
 }
 
 -- ---- two contents
@@ -103,14 +116,14 @@ module _ (sheet script : List ℕ) (sheet-table script-table workspace values : 
   named-reply : named ≡ true → textsReply sheet script lent ≡ Refused Both Mismatch
   named-reply e = texts-reply ∙ rw e refl
 
-  -- tables that are filled from texts need no more checks
-  pub tables-accepted : named ≡ false → TablesAccepted (c .count) (setIn c) (tableIn c) (tableIn d) (length workspace) (length values)
-  tables-accepted e = record {
+  -- tables that are filled from texts need no more checks but of the script's names
+  pub tables-filled : TablesFilled (c .count) (setIn c) (tableIn c) (tableIn d) (length workspace) (length values)
+  tables-filled = record {
     sized = record {
       some = of-sheet .some;
       most = of-sheet .most;
       sheet-room = omega (arith, of-sheet .size);
-      script-room = script-long;
+      script-room = rw (of-script .size, counts) (omega arith);
     };
     workspace-room = room .workspace-room;
     values-room = room .values-room;
@@ -119,11 +132,7 @@ module _ (sheet script : List ℕ) (sheet-table script-table workspace values : 
       sheet-within = of-sheet .bounds;
       script-within = rw (← counts, ← sets) (of-script .bounds);
     };
-    visible = names-visible (hiddenIn (setIn c)) (c .count) (tableIn d) script-long .0 e;
   }
-    where
-      script-long : blockStart (c .count) ≤ length (tableIn d)
-      script-long = rw (of-script .size, counts) (omega arith)
 
   -- each table is as its rules
   sheet-alike : Alike (Satisfies (c .count) (tableIn c)) (rulesOf c)
@@ -165,7 +174,7 @@ module _ (sheet script : List ℕ) (sheet-table script-table workspace values : 
             sheet-table = rw s (of-sheet .held);
             script-table = rw i (of-script .held);
             means = rw (s, i) (alike-means (c .count) (setIn c) (tableIn c) (tableIn d) (verdictReturned x) values' sheet-alike script-alike
-                (verdict-told (c .count) (setIn c) (tableIn c) (tableIn d) workspace values x workspace' values' (tables-accepted hides-none) g));
+                (verdict-told (c .count) (setIn c) (tableIn c) (tableIn d) workspace values x workspace' values' (filled-accepted tables-filled hides-none) g));
           }
 
       -- the verdict on the tables is the texts'

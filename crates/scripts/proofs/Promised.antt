@@ -3,23 +3,19 @@ use mathlib.Core.Path.{_≡_, refl, sym, _∙_, ap, subst}
 use mathlib.Core.Bool.{Bool, true, false}
 use mathlib.Core.List.{List, _++_}
 use Prim.Native.Nat.{ℕ, _≤_}
-use native.Mathlib.Omega.{arith}
 use lib.IntN.{ℤ}
 use lib.ListN.{length, take, drop}
-use lib.Seq.{take-append-seam, length-take-le}
+use lib.Seq.{take-append-seam}
 use Rattle.places.specs.Numbering.{blockStart}
 use Rattle.rules.specs.declared.paper.Paper.{Paper}
 use Rattle.rules.specs.declared.paper.Paper.the-variants.{Sheet, Script}
 use Rattle.rules.specs.declared.refusal.Refusal.{Refusal}
-use Rattle.rules.specs.declared.refusal.Refusal.the-variants.{Mismatch}
 use Rattle.rules.specs.Hidden.{hiddenIn}
 use Rattle.rules.specs.Limits.{maxQuantities}
 use Rattle.tables.specs.declared.reply.Reply.{Reply}
 use Rattle.tables.specs.declared.reply.Reply.the-variants.{Done}
 use Rattle.tables.specs.declared.reply.Reply.the-variants.{Refused as NotDone}
-use Rattle.tables.specs.Tables.{tableSize, tableNamesHidden}
-use Rattle.tables.specs.Meaning.{TableSized}
-use Rattle.tables.proofs.Sizes.{size-known}
+use Rattle.tables.specs.Tables.{tableNamesHidden}
 use Rattle.keys.proofs.Promised.{untouched}
 use Rattle.lines.specs.Lines.{Judged, accepted, refused}
 use Rattle.reading.specs.declared.check.Checked.{Checked}
@@ -30,24 +26,22 @@ use Rattle.reading.specs.Reading.{checkText, checkedOf, filled}
 use Rattle.reading.specs.Promises.{TextChecked}
 use Rattle.reading.proofs.Means.{reads-check}
 use Rattle.reading.proofs.CheckedTexts.{checked-passes}
-use Rattle.marking.specs.declared.verdict.Verdict.{Verdict}
-use Rattle.marking.specs.Inner.{TablesAccepted, VerdictGiven}
 use Rattle.scripts.specs.declared.room.Lengths.{Lengths}
 use Rattle.scripts.specs.declared.pair.Pair.{Pair}
 use Rattle.scripts.specs.declared.pair.PairChecked.{PairChecked}
 use Rattle.scripts.specs.declared.pair.PairChecked.the-variants.{Passed as BothPassed}
 use Rattle.scripts.specs.declared.pair.PairChecked.the-variants.{Refused as NotPassed}
 use Rattle.scripts.specs.declared.reply.Subject.{Subject}
-use Rattle.scripts.specs.declared.reply.Subject.the-variants.{Both}
-use Rattle.scripts.specs.declared.reply.TextMarking.the-variants.{Marked, Refused}
+use Rattle.scripts.specs.declared.reply.TextMarking.{TextMarking}
+use Rattle.scripts.specs.declared.reply.TextMarking.the-variants.{Refused}
 use Rattle.scripts.specs.Meaning.{lengthsOf, setIn, tableIn}
 use Rattle.scripts.specs.Marking.{pairReply, textsReply}
-use Rattle.scripts.specs.Inner.{firstChecks, passedOr, checkedPair, PassedPair}
+use Rattle.scripts.specs.Inner.{firstChecks, passedOr, checkedPair, PassedPair, TablesFilled, FilledMarked}
 use Rattle.scripts.specs.Promises.{TextsMarked}
 use Rattle.scripts.proofs.Sheets.{fine-table}
 use Rattle.scripts.proofs.Rooms.{room-roomy, headers-same, first-tells, first-refused}
 use Rattle.scripts.proofs.Judging.{accepted-reads, refused-accepted, texts-judged}
-use Rattle.scripts.proofs.Pairs.{pair-reply, tables-accepted, tables-marked, named-marked}
+use Rattle.scripts.proofs.Pairs.{pair-reply, tables-filled, tables-marked, named-marked}
 
 -- a text that passed has an n in its range
 pub passed-range : (paper : Paper) {s : List ℕ} {r : Checked} {n set m body : ℕ} → TextChecked paper s r → r ≡ Passed n set m body
@@ -137,29 +131,19 @@ module _ {sheet script : List ℕ} {lent : Lengths} {p : Pair} (x : PassedPair s
       let t = fine-table Sheet (c .contents) (c .reads .spelled .fine) in
       rw (c .counts) (t .some, t .most)
 
-  -- the size of a table at n
-  pub passed-size : {k : ℕ} → k ≡ tableSize (p .quantities) → k ≡ blockStart (p .quantities)
-  passed-size e = size-known (p .quantities) _ (passed-sized .1) e
-
-  -- the front of so many words of a longer list is a table's
-  pub passed-front : (t : List ℤ) {k : ℕ} → k ≤ length t → k ≡ tableSize (p .quantities) → TableSized (p .quantities) (length (take k t))
-  passed-front t {k} l e =
-      record { some = passed-sized .0; most = passed-sized .1; room = omega (arith, length-take-le k t l, passed-size e) }
-
   -- the checks before the tables are filled are done
   passed-first : firstChecks (x .of-sheet .contents .count) (setIn (x .of-sheet .contents)) (x .of-script .contents .count) (setIn (x .of-script .contents)) lent ≡ Done
   passed-first =
       rw (← x .of-sheet .counts, ← x .of-sheet .hides, ← x .of-script .counts, ← x .of-script .hides)
       (sym (headers-same (p .quantities) lent (p .hidden) (p .quantities) (p .hidden) Done (room-roomy (p .quantities) lent (x .room)) refl refl refl))
 
--- texts that passed, with both tables filled, and the size of a table at their n
-pub record FilledPair (sheet script : List ℕ) (a b w v : List ℤ) (p : Pair) (a' b' : List ℤ) (k : ℕ) : Type 0 where
+-- texts that passed, with both tables filled
+pub record FilledPair (sheet script : List ℕ) (a b w v : List ℤ) (p : Pair) (a' b' : List ℤ) : Type 0 where
   pub passed : PassedPair sheet script (lengthsOf a b w v) p
   pub sheet-filled : a' ≡ filled (checkText Sheet sheet) a
   pub script-filled : b' ≡ filled (checkText Script script) b
-  pub size : k ≡ tableSize (p .quantities)
 
-module _ {sheet script : List ℕ} {a b w v : List ℤ} {p : Pair} {a' b' : List ℤ} {k : ℕ} (x : FilledPair sheet script a b w v p a' b' k) where
+module _ {sheet script : List ℕ} {a b w v : List ℤ} {p : Pair} {a' b' : List ℤ} (x : FilledPair sheet script a b w v p a' b') where
   -- what the texts write
   abbrev c : Contents
   c = x .passed .of-sheet .contents
@@ -168,41 +152,39 @@ module _ {sheet script : List ℕ} {a b w v : List ℤ} {p : Pair} {a' b' : List
   d = x .passed .of-script .contents
 
   -- the front of each table
-  sheet-front : (a' ≡ tableIn c ++ drop (blockStart (c .count)) a) × (take k a' ≡ tableIn c)
+  sheet-front : (a' ≡ tableIn c ++ drop (blockStart (c .count)) a) × (take (blockStart (c .count)) a' ≡ tableIn c)
   sheet-front =
       let t = x .passed .of-sheet in
-      filled-front Sheet sheet c a a' k (t .reads) (x .sheet-filled)
-      (fine-table Sheet c (t .reads .spelled .fine) .size ∙ sym (passed-size (x .passed) (x .size) ∙ ap blockStart (t .counts)))
+      filled-front Sheet sheet c a a' (blockStart (c .count)) (t .reads) (x .sheet-filled) (fine-table Sheet c (t .reads .spelled .fine) .size)
 
-  script-front : (b' ≡ tableIn d ++ drop (blockStart (d .count)) b) × (take k b' ≡ tableIn d)
+  script-front : (b' ≡ tableIn d ++ drop (blockStart (d .count)) b) × (take (blockStart (c .count)) b' ≡ tableIn d)
   script-front =
       let t = x .passed .of-script in
-      filled-front Script script d b b' k (t .reads) (x .script-filled)
-      (fine-table Script d (t .reads .spelled .fine) .size ∙ sym (passed-size (x .passed) (x .size) ∙ ap blockStart (t .counts)))
+      filled-front Script script d b b' (blockStart (c .count)) (t .reads) (x .script-filled)
+      (fine-table Script d (t .reads .spelled .fine) .size ∙ ap blockStart (sym (t .counts) ∙ x .passed .of-sheet .counts))
 
-  module _ {named : Bool} (h : named ≡ tableNamesHidden (hiddenIn (p .hidden)) (p .quantities) (take k b')) where
-    -- whether the script names a hidden quantity, by what the texts write
-    names-same : named ≡ tableNamesHidden (hiddenIn (setIn c)) (c .count) (tableIn d)
-    names-same = rw (x .passed .of-sheet .counts, x .passed .of-sheet .hides, script-front .1) at h
+  -- they need no more checks but of the script's names
+  pub filled-tables : TablesFilled (p .quantities) (p .hidden) (take (blockStart (p .quantities)) a') (take (blockStart (p .quantities)) b') (length w) (length v)
+  filled-tables =
+      rw (x .passed .of-sheet .counts, x .passed .of-sheet .hides, sheet-front .1, script-front .1)
+      (tables-filled sheet script a b w v c d (x .passed .of-sheet .reads) (x .passed .of-script .reads) (passed-first (x .passed)))
 
-    -- it does
-    pub filled-named : named ≡ true → TextsMarked sheet script a b w v (Refused Both Mismatch) a' b' w v
-    filled-named e =
-        named-marked sheet script a b w v c d (x .passed .of-sheet .reads) (x .passed .of-script .reads) (passed-first (x .passed)) a' b'
-        (sheet-front .0) (script-front .0) (sym names-same ∙ e)
-
-    module _ (e : named ≡ false) where
-      -- it does not: the tables are accepted
-      pub filled-accepted : TablesAccepted (p .quantities) (p .hidden) (take k a') (take k b') (length w) (length v)
-      filled-accepted =
-          rw (x .passed .of-sheet .counts, x .passed .of-sheet .hides, sheet-front .1, script-front .1)
-          (tables-accepted sheet script a b w v c d (x .passed .of-sheet .reads) (x .passed .of-script .reads) (passed-first (x .passed)) (sym names-same ∙ e))
-
-      -- and their verdict is the texts'
-      pub filled-marked : {w' v' : List ℤ} {r : Verdict} → VerdictGiven (p .quantities) (p .hidden) (take k a') (take k b') w v r w' v'
-          → TextsMarked sheet script a b w v (Marked (p .quantities) r) a' b' w' v'
-      filled-marked {w'} {v'} {r} g =
-          rw (x .passed .of-sheet .counts)
+  -- and how they are marked is how the texts are
+  pub filled-marked : {r : TextMarking} {w' v' : List ℤ} → FilledMarked (p .quantities) (p .hidden) (take (blockStart (p .quantities)) a') (take (blockStart (p .quantities)) b') w v r w' v'
+      → TextsMarked sheet script a b w v r a' b' w' v'
+  filled-marked {r} {w'} {v'} g =
+      go (tableNamesHidden (hiddenIn (setIn c)) (c .count) (tableIn d)) refl
+      (rw (x .passed .of-sheet .counts, x .passed .of-sheet .hides, sheet-front .1, script-front .1) at g)
+    where
+      go : (named : Bool) → tableNamesHidden (hiddenIn (setIn c)) (c .count) (tableIn d) ≡ named
+          → FilledMarked (c .count) (setIn c) (tableIn c) (tableIn d) w v r w' v' → TextsMarked sheet script a b w v r a' b' w' v'
+      go true e m =
+          let z = m .named e in
+          rw (z .reply, z .workspace-kept, z .values-kept)
+          (named-marked sheet script a b w v c d (x .passed .of-sheet .reads) (x .passed .of-script .reads) (passed-first (x .passed)) a' b'
+          (sheet-front .0) (script-front .0) e)
+      go false e m =
+          let z = m .visible e in
+          rw (z .reply)
           (tables-marked sheet script a b w v c d (x .passed .of-sheet .reads) (x .passed .of-script .reads) (passed-first (x .passed)) a' b'
-          (sheet-front .0) (script-front .0) w' v' (sym names-same ∙ e) r
-          (rw (x .passed .of-sheet .counts, x .passed .of-sheet .hides, sheet-front .1, script-front .1) at g))
+          (sheet-front .0) (script-front .0) w' v' e (z .verdict) (z .given))

@@ -1,14 +1,22 @@
 -- What the functions inside ask and answer; no promise of marking two texts rests on it.
+use mathlib.Core.Path.{_≡_}
+use mathlib.Core.Bool.{true, false}
 use mathlib.Core.List.{List}
 use Prim.Native.Nat.{ℕ, _≤_}
+use lib.IntN.{ℤ}
+use lib.ListN.{length}
 use Rattle.places.specs.Numbering.{blockStart}
 use Rattle.rules.specs.declared.paper.Paper.the-variants.{Sheet, Script}
 use Rattle.rules.specs.declared.refusal.Refusal.the-variants.{Mismatch}
+use Rattle.rules.specs.Hidden.{hiddenIn}
 use Rattle.tables.specs.declared.reply.Reply.{Reply}
 use Rattle.tables.specs.declared.reply.Reply.the-variants.{Done}
 use Rattle.tables.specs.declared.reply.Reply.the-variants.{Refused as NotDone}
 use Rattle.tables.specs.Replies.{check}
+use Rattle.tables.specs.Tables.{tableNamesHidden}
+use Rattle.marking.specs.declared.verdict.Verdict.{Verdict}
 use Rattle.marking.specs.Meaning.{workspaceSize}
+use Rattle.marking.specs.Inner.{Sized, InLimits, VerdictGiven}
 use Rattle.reading.specs.declared.check.Checked.{Checked}
 use Rattle.reading.specs.declared.check.Checked.the-variants.{Passed}
 use Rattle.reading.specs.declared.check.Checked.the-variants.{Refused as Failed}
@@ -21,6 +29,8 @@ use Rattle.scripts.specs.declared.pair.PairChecked.the-variants.{Refused
 use Rattle.scripts.specs.declared.reply.Subject.the-variants.{Both}
 use Rattle.scripts.specs.declared.reply.Subject.the-variants.{Sheet as OfSheet}
 use Rattle.scripts.specs.declared.reply.Subject.the-variants.{Script as OfScript}
+use Rattle.scripts.specs.declared.reply.TextMarking.{TextMarking}
+use Rattle.scripts.specs.declared.reply.TextMarking.the-variants.{Marked, Refused}
 use Rattle.scripts.specs.Marking.{roomChecks, sameHeaders}
 
 -- the checks before the tables are filled: 6, and 7 for a script whose n or hidden set is not the sheet's
@@ -61,7 +71,38 @@ pub record PassedPair (sheet script : List ℕ) (lent : Lengths) (p : Pair) : Ty
   pub of-script : Passes Script script (p .quantities) (p .hidden) (p .«script_rules») (p .«script_body»)
   pub room : Room (p .quantities) lent
 
+-- ---- tables filled from two texts that fit but for the script's names
+
+-- their sizes and numbers are in their limits, and there is room for a verdict
+pub record TablesFilled (n set : ℕ) (sheet script : List ℤ) (w v : ℕ) : Type 0 where
+  pub sized : Sized n (length sheet) (length script)
+  pub workspace-room : workspaceSize n ≤ w
+  pub values-room : n ≤ v
+  pub limits : InLimits n set sheet script
+
+-- 7 where a rule of the script names a hidden quantity, which changes no word
+pub record NamesRefused (workspace values : List ℤ) (r : TextMarking) (workspace' values' : List ℤ) : Type 0 where
+  pub reply : r ≡ Refused Both Mismatch
+  pub workspace-kept : workspace' ≡ workspace
+  pub values-kept : values' ≡ values
+
+-- and else the verdict
+pub record TablesJudged (n set : ℕ) (sheet script workspace values : List ℤ) (r : TextMarking) (workspace' values' : List ℤ) : Type 0 where
+  pub verdict : Verdict
+  pub reply : r ≡ Marked n verdict
+  pub given : VerdictGiven n set sheet script workspace values verdict workspace' values'
+
+pub record FilledMarked (n set : ℕ) (sheet script workspace values : List ℤ) (r : TextMarking) (workspace' values' : List ℤ) : Type 0 where
+  pub named : tableNamesHidden (hiddenIn set) n script ≡ true → NamesRefused workspace values r workspace' values'
+  pub visible : tableNamesHidden (hiddenIn set) n script ≡ false → TablesJudged n set sheet script workspace values r workspace' values'
+
 -- ---- rooms of its own
+
+-- tables and a workspace have words enough for n quantities
+pub record TablesRoom (n sheet script workspace : ℕ) : Type 0 where
+  pub sheet-room : blockStart n ≤ sheet
+  pub script-room : blockStart n ≤ script
+  pub workspace-room : workspaceSize n ≤ workspace
 
 -- the most quantities of the small room and of the middle one
 abbrev pub smallCount : ℕ
@@ -69,3 +110,5 @@ smallCount = 8
 
 abbrev pub middleCount : ℕ
 middleCount = 16
+
+-- ---- a text checked and its table filled at once

@@ -1,4 +1,6 @@
 // Scripts marked against sheets, both as texts.
+mod filled;
+mod once;
 pub mod own;
 pub mod pair;
 pub mod reply;

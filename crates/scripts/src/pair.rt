@@ -31,7 +31,13 @@ pub enum PairChecked {
 }
 
 // The first refusal of two texts that are fine by themselves, or done: what is lent for the sheet's n, then a script whose n or hidden set is not the sheet's.
-fn check_fit(n: usize, hidden: Set, script_n: usize, script_hidden: Set, lent: Lengths) -> Reply
+pub(crate) fn check_fit(
+    n: usize,
+    hidden: Set,
+    script_n: usize,
+    script_hidden: Set,
+    lent: Lengths,
+) -> Reply
     requires { ⌜ (1 ≤ n) × (n ≤ maxQuantities) ⌝ }
     ensures { λ r. ⌜ r ≡ firstChecks n hidden «script_n» «script_hidden» lent ⌝ }
 {

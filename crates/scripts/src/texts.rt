@@ -1,22 +1,18 @@
 // Marking two texts: both are checked before anything lent is, then their tables are filled and marked.
+use crate::filled;
 use crate::pair;
 use crate::pair::Pair;
 use crate::pair::PairChecked;
-use crate::reply::Subject;
 use crate::reply::TextMarking;
 use crate::room::Lengths;
-use marking::mark;
 use reading::fill;
 use rules::paper::Paper;
-use rules::refusal::Refusal;
-use tables::names;
-use tables::table;
 ghost use Rattle.scripts.specs.Meaning.{lengthsOf};
 ghost use Rattle.scripts.specs.Inner.{PassedPair};
 ghost use Rattle.scripts.specs.Promises.{TextsMarked};
 
-// Marks two texts that passed, with words enough lent: fills both tables, refuses a script that names a hidden quantity, and else gives the verdict.
-pub(crate) fn mark_passed(
+// Marks two texts that passed, with words enough lent: fills both tables and marks them.
+fn mark_passed(
     sheet: &[u8],
     script: &[u8],
     pair: Pair,
@@ -50,24 +46,7 @@ pub(crate) fn mark_passed(
         pair.script_body,
         script_table,
     );
-    let m = table::size(n);
-    if names::any_names_hidden(n, hidden, &script_table[..m]) {
-        return TextMarking::Refused {
-            paper: Subject::Both,
-            refusal: Refusal::Mismatch,
-        };
-    }
-    TextMarking::Marked {
-        quantities: n,
-        verdict: mark::verdict(
-            n,
-            hidden,
-            &sheet_table[..m],
-            &script_table[..m],
-            workspace,
-            values,
-        ),
-    }
+    filled::mark_filled(n, hidden, sheet_table, script_table, workspace, values)
 }
 
 // Marks the script's text against the sheet's. What is lent gets its words by the sheet's n: two tables, a workspace, and an assignment that shows a loose or

@@ -87,7 +87,7 @@ uint32_t acornsled_write(size_t n, uint32_t hidden, const int64_t *table, size_t
 
 /*
  * Makes the key: 0, or 1, 3, 5, 6. The workspace needs 2n^2 words. With 0 the table's first 2n^2 words have become the key,
- * and the workspace's are free.
+ * and the workspace's are free. The call takes some 27 KiB of the stack.
  */
 uint32_t acornsled_key(size_t n, uint32_t hidden, int64_t *table, size_t table_length, int64_t *workspace,
                        size_t workspace_length, size_t *value);

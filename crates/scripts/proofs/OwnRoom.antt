@@ -59,8 +59,8 @@ counted-reads s h = go (checkText Sheet s) refl
     go (refused f) e = let z : countIn s ≡ 0 = rw e refl in absurd (omega arith)
 
 -- n is at most 32
-pub count-most : (s : List ℕ) → countIn s ≤ maxQuantities
-count-most s = go (ltb 0 (countIn s)) refl
+pub sheet-most : (s : List ℕ) → countIn s ≤ maxQuantities
+sheet-most s = go (ltb 0 (countIn s)) refl
   where
     go : (b : Bool) → ltb 0 (countIn s) ≡ b → countIn s ≤ maxQuantities
     go true e =
@@ -222,7 +222,7 @@ own-judged sheet script v r v' j l =
       written = l;
       short = (λ x. let s = six x in (s .0, s .1), λ s. short-six sheet script (length v) r (j .reply) (s .0) (s .1));
       needed = λ x. six x .2;
-      most = count-most sheet;
+      most = sheet-most sheet;
     }
 
 -- the n of texts that passed

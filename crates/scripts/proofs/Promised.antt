@@ -124,13 +124,6 @@ filled-front paper s c t t' k p e f =
     (g, rw (g, sym f) (take-append-seam (tableIn c) (drop (blockStart (c .count)) t)))
 
 module _ {sheet script : List ℕ} {lent : Lengths} {p : Pair} (x : PassedPair sheet script lent p) where
-  -- n is in its range
-  pub passed-sized : (1 ≤ p .quantities) × (p .quantities ≤ maxQuantities)
-  passed-sized =
-      let c = x .of-sheet in
-      let t = fine-table Sheet (c .contents) (c .reads .spelled .fine) in
-      rw (c .counts) (t .some, t .most)
-
   -- the checks before the tables are filled are done
   passed-first : firstChecks (x .of-sheet .contents .count) (setIn (x .of-sheet .contents)) (x .of-script .contents .count) (setIn (x .of-script .contents)) lent ≡ Done
   passed-first =
@@ -164,13 +157,15 @@ module _ {sheet script : List ℕ} {a b w v : List ℤ} {p : Pair} {a' b' : List
       (fine-table Script d (t .reads .spelled .fine) .size ∙ ap blockStart (sym (t .counts) ∙ x .passed .of-sheet .counts))
 
   -- they need no more checks but of the script's names
-  pub filled-tables : TablesFilled (p .quantities) (p .hidden) (take (blockStart (p .quantities)) a') (take (blockStart (p .quantities)) b') (length w) (length v)
+  pub filled-tables : TablesFilled (p .quantities) (p .hidden) (take (blockStart (p .quantities)) a') (take (blockStart (p .quantities)) b')
+      (length w) (length v)
   filled-tables =
       rw (x .passed .of-sheet .counts, x .passed .of-sheet .hides, sheet-front .1, script-front .1)
       (tables-filled sheet script a b w v c d (x .passed .of-sheet .reads) (x .passed .of-script .reads) (passed-first (x .passed)))
 
   -- and how they are marked is how the texts are
-  pub filled-marked : {r : TextMarking} {w' v' : List ℤ} → FilledMarked (p .quantities) (p .hidden) (take (blockStart (p .quantities)) a') (take (blockStart (p .quantities)) b') w v r w' v'
+  pub filled-marked : {r : TextMarking} {w' v' : List ℤ}
+      → FilledMarked (p .quantities) (p .hidden) (take (blockStart (p .quantities)) a') (take (blockStart (p .quantities)) b') w v r w' v'
       → TextsMarked sheet script a b w v r a' b' w' v'
   filled-marked {r} {w'} {v'} g =
       go (tableNamesHidden (hiddenIn (setIn c)) (c .count) (tableIn d)) refl

@@ -3,7 +3,7 @@ use native.Mathlib.Omega.{arith}
 use borrow.Author.Needs.{needs}
 use Rattle.places.specs.Numbering.{blockStart}
 use Rattle.rules.specs.Limits.{maxQuantities}
-use Rattle.scripts.proofs.OwnRoom.{count-most, own-room}
+use Rattle.scripts.proofs.OwnRoom.{sheet-most, own-room}
 use Rattle.scripts.proofs.stack.mark_large.Statement.{statement}
 use Rattle.scripts.proofs.stack.mark_large.Tie as tie
 
@@ -18,7 +18,7 @@ slice-aggregate-mark-once-3 c = search needs
 
 mark-once-requires : tie.Need-mark-once-requires
 unfolding blockStart
-mark-once-requires c κs = own-room _ maxQuantities (count-most _) (omega arith) (omega arith) (omega arith)
+mark-once-requires c κs = own-room _ maxQuantities (sheet-most _) (omega arith) (omega arith) (omega arith)
 
 same-length : tie.Need-same-length
 same-length c = search needs

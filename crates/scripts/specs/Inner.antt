@@ -104,7 +104,7 @@ pub record TablesRoom (n sheet script workspace : ℕ) : Type 0 where
   pub script-room : blockStart n ≤ script
   pub workspace-room : workspaceSize n ≤ workspace
 
--- the most quantities of the small room and of the middle one
+-- the most quantities of the small room and of the middle one, as in `keys::room`
 abbrev pub smallCount : ℕ
 smallCount = 8
 

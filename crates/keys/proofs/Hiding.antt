@@ -91,7 +91,7 @@ module _ (n set : ℕ) (t : List ℤ) (f : Fits n t) where
 
     pub set-clash : r ≡ true → SetHidden n set t true v
     set-clash d = record {
-      met = λ c. member-met d;
+      met = (λ c. member-met d, λ c. refl);
       none = λ c. met-none (hiddenIn set) n t (hide-ample (hiddenIn set) n t f) (member-met d);
       key = λ c. clash refl c;
       some = λ c. clash refl c;
@@ -105,7 +105,7 @@ module _ (n set : ℕ) (t : List ℤ) (f : Fits n t) where
   -- with none met to the end, what is left has an assignment only where the table has
   pub set-hidden : (u : List ℤ) → u ≡ hideUpTo (hiddenIn set) n n t → NoneMet (hiddenIn set) n n t → SetHidden n set t false u
   set-hidden u e c = record {
-    met = λ d. clash d refl;
+    met = (λ d. clash d refl, λ m. clash (m .met) (c (m .turn) (m .inside) (m .member)));
     none = λ d. clash d refl;
     key = λ d. e ∙ hide-all (hiddenIn set) n t;
     some = λ d s. left (rw e at s);

@@ -219,7 +219,7 @@ pub record MemberHidden (n set j : ℕ) (before : List ℤ) (r : Bool) (after : 
 
 -- all of the set hidden, and whether a contradiction is met: then no integers satisfy the table, and its words are free. With none, the key has an assignment only where the table has
 pub record SetHidden (n set : ℕ) (before : List ℤ) (r : Bool) (after : List ℤ) : Type 0 where
-  pub met : r ≡ true → ContradictionMet (hiddenIn set) n before
+  pub met : (r ≡ true) ↔ ContradictionMet (hiddenIn set) n before
   pub none : r ≡ true → Unsatisfiable n before
   pub key : r ≡ false → after ≡ keyOf (hiddenIn set) n before
   pub some : r ≡ false → Satisfiable n after → Satisfiable n before

@@ -8,26 +8,19 @@ use lib.IntN.{ℤ}
 use lib.ListN.{length, drop}
 use Rattle.places.specs.Numbering.{blockStart}
 use Rattle.numerals.specs.Decimal.{cap}
-use Rattle.rules.specs.declared.paper.Paper.{Paper}
 use Rattle.rules.specs.declared.refusal.Refusal.{Refusal}
 use Rattle.rules.specs.declared.rule.Rule.{Rule}
-use Rattle.rules.specs.Limits.{boundLimit}
 use Rattle.rules.specs.Steps.{halvedOf}
 use Rattle.tables.specs.declared.reply.Reply.{Reply}
 use Rattle.tables.specs.declared.reply.Reply.the-variants.{Done}
 use Rattle.tables.specs.Tables.{serves, emptyTable, ruleReply, putReply, putRule, putAll}
 use Rattle.tables.specs.Promises.{Emptied, Put}
-use Rattle.tables.proofs.Sizes.{long-serves}
 use Rattle.lines.specs.Spelling.{Written, lineWithin, writtenRule, writtenRules}
 use Rattle.lines.specs.Lines.{accepted, refused, ruleJudged}
 use Rattle.lines.proofs.Found.{RuleFound}
-use Rattle.reading.specs.Reading.{rulesFrom, checkText, filled}
-use Rattle.reading.specs.Meaning.{Passes}
+use Rattle.reading.specs.Reading.{rulesFrom}
 use Rattle.reading.proofs.FineRules.{fine-accepted}
 use Rattle.reading.proofs.RuleLines.{not-accepted, Next, rules-next, rules-none}
-use Rattle.reading.proofs.Means.{reads-check}
-use Rattle.reading.proofs.Headers.{Opened, passed-opened}
-use Rattle.reading.proofs.Fronts.{filled-from}
 
 -- ---- what the calls on the table do
 
@@ -99,26 +92,3 @@ module _ (limit : ℕ) (s : List ℕ) (n count body : ℕ) (t₀ t : List ℤ) (
   pub filling-over : count ≤ i → t ≡ putAll t₀ (writtenRules (f .all))
   unfolding putAll
   filling-over h = rw (rules-none n limit count i (drop at s) (f .left) h (f .lines)) at (f .goal)
-
--- ---- the table at the end
-
--- from a table that is emptied first, it is the one that is asked for
-pub filled-emptied : (paper : Paper) (s : List ℕ) (n set count body : ℕ) (p : Passes paper s n set count body) (t : List ℤ) (r : Reply) (u : List ℤ)
-    → blockStart n ≤ length t → Emptied n t r u → (v : List ℤ) (at i : ℕ) → Filling (boundLimit paper n set) s n count body u v at i → count ≤ i
-    → v ≡ filled (checkText paper s) t
-filled-emptied paper s n set count body p t r u l e v at i f h =
-    filling-over (boundLimit paper n set) s n count body u v at i f h
-    ∙ rw (emptied, same, passed) (filled-from n (p .contents) [] t (p .counts) (o .rules))
-  where
-    -- the text is accepted, and what it has
-    passed : checkText paper s ≡ accepted (p .contents) []
-    passed = reads-check paper s (p .contents) (p .reads)
-
-    o : Opened (boundLimit paper n set) s n count body (p .contents .written)
-    o = passed-opened paper s n set count body p
-
-    same : f .all ≡ p .contents .written
-    same = cc (f .begun, o .rest)
-
-    emptied : u ≡ emptyTable n ++ drop (blockStart n) t
-    emptied = emptied-table n t r u (long-serves n (length t) (o .some) (o .most) l) e

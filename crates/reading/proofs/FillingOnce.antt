@@ -139,26 +139,33 @@ past-largest n t u h e =
 
 -- where the header is refused, the table stays
 pub header-refused : (paper : Paper) (s : List ℕ) (t : List ℤ) (g : Refusal) → Failed g ≡ checkedOf (checkText paper s) → TextFilled paper s t (Failed g) t
-header-refused paper s t g e = record { checked = check-promised paper s (Failed g) e; filled = λ n set m body q. not-failed (sym q); rest = refl }
+header-refused paper s t g e =
+    record { checked = check-promised paper s (Failed g) e; filled = λ n set m body q. not-failed (sym q); short = λ n set m body q l. refl; rest = refl }
 
--- its rule lines fill the table that the text asks for
+-- the rule lines of a text that passed fill the table that it asks for
+pub rules-fill : (paper : Paper) (s : List ℕ) (n set m body : ℕ) (before : List ℤ) (r : Checked) (after : List ℤ) → Passes paper s n set m body
+    → blockStart n ≤ length before → RulesFilled n set (boundLimit paper n set) m body s before r after → after ≡ filled (checkText paper s) before
+rules-fill paper s n set m body before r after p l f =
+    let o : Opened (boundLimit paper n set) s n m body (p .contents .written) = passed-opened paper s n set m body p in
+    f .filled l (p .contents .written) (o .rest)
+    ∙ rw (reads-check paper s (p .contents) (p .reads)) (filled-from n (p .contents) [] before (p .counts) (o .rules))
+
+-- so do those of a text that is checked
 pub text-filled : (paper : Paper) (s : List ℕ) (n set m body : ℕ) (before : List ℤ) (r : Checked) (after : List ℤ) → n ≤ maxQuantities
     → r ≡ checkedOf (checkText paper s) → RulesFilled n set (boundLimit paper n set) m body s before r after → TextFilled paper s before r after
 unfolding checkedRules
 text-filled paper s n set m body before r after most e f = record {
   checked = check-promised paper s r e;
-  filled = λ n' set' m' body' q l. go (rulesFrom n (boundLimit paper n set) m 4 (drop body s)) (f .reply) n' set' m' body' q l;
+  filled = λ n' set' m' body' q l. let z = same n' set' m' body' q in
+      rules-fill paper s n set m body before r after (checked-passes paper s r e n set m body (z .1)) (rw (z .0) at l) f;
+  short = λ n' set' m' body' q l. f .short (rw (same n' set' m' body' q .0) at l);
   rest = past-largest n before after most (f .rest);
 }
   where
-    done : blockStart n ≤ length before → r ≡ Passed n set m body → after ≡ filled (checkText paper s) before
-    done l q =
-        let p : Passes paper s n set m body = checked-passes paper s r e n set m body q in
-        let o : Opened (boundLimit paper n set) s n m body (p .contents .written) = passed-opened paper s n set m body p in
-        f .filled l (p .contents .written) (o .rest)
-        ∙ rw (reads-check paper s (p .contents) (p .reads)) (filled-from n (p .contents) [] before (p .counts) (o .rules))
-
-    go : (j : Judged (List Written)) → r ≡ checkedRules n set m body j → (n' set' m' body' : ℕ) → r ≡ Passed n' set' m' body'
-        → blockStart n' ≤ length before → after ≡ filled (checkText paper s) before
-    go (accepted rs u) d n' set' m' body' q l = let z : n' ≡ n = cc (d, q) in done (rw z at l) d
-    go (refused g) d n' set' m' body' q l = not-failed (sym q ∙ d)
+    -- where it passed, its n is that of the lines
+    same : (n' set' m' body' : ℕ) → r ≡ Passed n' set' m' body' → (n' ≡ n) × (r ≡ Passed n set m body)
+    same n' set' m' body' q = go (rulesFrom n (boundLimit paper n set) m 4 (drop body s)) (f .reply)
+      where
+        go : (j : Judged (List Written)) → r ≡ checkedRules n set m body j → (n' ≡ n) × (r ≡ Passed n set m body)
+        go (accepted rs u) d = (cc (d, q), d)
+        go (refused g) d = not-failed (sym q ∙ d)

@@ -18,7 +18,7 @@ unfoldable pub checkedRules : ℕ → ℕ → ℕ → ℕ → Judged (List Writt
 checkedRules n set m body (accepted rs u) = Passed n set m body
 checkedRules n set m body (refused r) = Failed r
 
--- the rule lines checked, and a table that is long enough filled with the rules of lines that are fine; no other word changes
+-- the rule lines checked, and a table that is long enough filled with their rules where all are fine; where one is not, its first 2n² words are free. No other word changes
 pub record RulesFilled (n set limit m body : ℕ) (s : List ℕ) (before : List ℤ) (r : Checked) (after : List ℤ) : Type 0 where
   pub reply : r ≡ checkedRules n set m body (rulesFrom n limit m 4 (drop body s))
   pub filled : blockStart n ≤ length before → (rs : List Written) → rulesFrom n limit m 4 (drop body s) ≡ accepted rs []

@@ -31,10 +31,11 @@ pub record TextChecked (paper : Paper) (s : List ℕ) (r : Checked) : Type 0 whe
   pub passed : (n set m body : ℕ)
       → (checkedReturned r ≡ record { number = 0; values = pos n ∷ pos set ∷ pos m ∷ pos body ∷ [] }) ↔ Passes paper s n set m body
 
--- a text checked, and a table that is long enough for its n filled where it passed; where it is refused, the first words of the table are free
+-- a text checked, and a table that is long enough for its n filled where it passed, a shorter one left. Where it is refused, the words that the largest table has are free; words past them stay
 pub record TextFilled (paper : Paper) (s : List ℕ) (table : List ℤ) (r : Checked) (table' : List ℤ) : Type 0 where
   pub checked : TextChecked paper s r
   pub filled : (n set m body : ℕ) → r ≡ Passed n set m body → blockStart n ≤ length table → table' ≡ fill (checkText paper s) table
+  pub short : (n set m body : ℕ) → r ≡ Passed n set m body → length table < blockStart n → table' ≡ table
   pub rest : drop (blockStart maxQuantities) table' ≡ drop (blockStart maxQuantities) table
 
 -- a table holds what contents write: at each place the smallest bound that rules have there, in whatever order they stand; so what satisfies it meets the rules

@@ -31,7 +31,7 @@ pub enum Checked {
 
 // Checks the lines of `count` rules from the cursor `body` on, the first being line 4, and that nothing follows them; `n` and `hidden` go into the answer. A table that is long enough is
 // filled with the rules meanwhile, and its words are free where a line is refused; a shorter one stays.
-fn check_rules(
+pub(crate) fn check_rules(
     s: &[u8],
     n: usize,
     hidden: Set,

@@ -1,10 +1,8 @@
 // A table filled from a text that passed its check.
-use lines::answer::Answer;
-use lines::rule;
+use crate::check;
 use rules::hidden::Set;
 use rules::paper;
 use rules::paper::Paper;
-use tables::table;
 ghost use mathlib.Core.Path.{_≡_};
 ghost use Prim.Native.Nat.{_≤_};
 ghost use lib.ListN.{length};
@@ -12,7 +10,8 @@ ghost use Rattle.places.specs.Numbering.{blockStart};
 ghost use Rattle.reading.specs.Reading.{checkText, filled};
 ghost use Rattle.reading.specs.Meaning.{Passes};
 
-// Fills the first 2n² words of the table with the rules of a text over `n` quantities with a hidden set, whose `count` rule lines begin at the cursor `body`.
+// Fills the first 2n² words of the table with the rules of a text over `n` quantities with a hidden set, whose `count` rule lines begin at the cursor `body`. They are read as in the check,
+// and none is refused.
 pub fn fill(
     s: &[u8],
     paper: Paper,
@@ -26,16 +25,5 @@ pub fn fill(
     ensures { λ _. ⌜ now (table .exit) ≡ filled (checkText paper (now (s .entry))) (now (table .entry)) ⌝ }
 {
     let limit = paper::bound_limit(paper, n, hidden) as u64;
-    table::empty(n, table);
-    let mut at = body;
-    let mut i = 0;
-    while i < count {
-        let got = rule::rule_line(s, at, n, limit, i + 4);
-        let Answer::Rule { rule, next } = got else {
-            return;
-        };
-        table::put(n, table, rule);
-        at = next;
-        i = i + 1;
-    }
+    check::check_rules(s, n, hidden, limit, count, body, table);
 }

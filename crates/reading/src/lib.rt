@@ -1,4 +1,4 @@
-// Texts read: checked line by line without a table, and a table filled from a text that passed.
+// Texts read: checked line by line, with a table filled meanwhile where it may be; and a table filled from a text that passed.
 pub mod check;
 pub mod fill;
 pub mod read;

@@ -33,7 +33,7 @@ use Rattle.scripts.specs.declared.reply.TextMarking.{TextMarking}
 use Rattle.scripts.specs.declared.reply.TextMarking.the-variants.{Marked, Refused}
 use Rattle.scripts.specs.Marking.{roomChecks, sameHeaders}
 
--- the checks before the tables are filled: 6, and 7 for a script whose n or hidden set is not the sheet's
+-- the checks of two texts that are fine but for the script's names: 6, and 7 for a script whose n or hidden set is not the sheet's
 unfoldable pub firstChecks : ℕ → ℕ → ℕ → ℕ → Lengths → Reply
 firstChecks n set script-n script-set lent = roomChecks n lent (check (sameHeaders n set script-n script-set) Mismatch Done)
 
@@ -110,5 +110,3 @@ smallCount = 8
 
 abbrev pub middleCount : ℕ
 middleCount = 16
-
--- ---- a text checked and its table filled at once

@@ -59,7 +59,7 @@ pub record TextsMarked (sheet script : List ℕ) (sheet-table script-table works
   pub workspace-lent : Lent (workspaceSize (countIn sheet)) true workspace workspace'
   pub written : Lent (countIn sheet) (isTextShown r) values values'
 
--- two texts marked in tables and a workspace that are long enough for every sheet, the assignment alone being lent by the caller
+-- two texts marked as if in tables and a workspace that are long enough for every sheet; of what is lent, the assignment alone is promised
 pub record MarkedInOwnRoom (sheet script : List ℕ) (values : List ℤ) (r : TextMarking) (values' : List ℤ) : Type 0 where
   pub judged : TextsJudged sheet script (ownLengths (length values)) r values'
   pub written : Lent (countIn sheet) (isTextShown r) values values'

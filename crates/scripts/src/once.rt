@@ -1,4 +1,4 @@
-// Marking two texts that are each read once: a table is filled while its text is checked, so its words are free where a text is refused.
+// Marking two texts that are each read once: a table is filled while its text is checked, as it may be where the tables are the program's own.
 use crate::filled;
 use crate::pair;
 use crate::reply::Subject;
@@ -13,7 +13,8 @@ ghost use Rattle.scripts.specs.Marking.{countIn};
 ghost use Rattle.scripts.specs.Inner.{TablesRoom};
 ghost use Rattle.scripts.specs.Promises.{MarkedInOwnRoom};
 
-// Marks the script's text against the sheet's, in tables and a workspace with words enough for the sheet's n; a script with another n is refused, so its table need not be filled.
+// Marks the script's text against the sheet's, in tables and a workspace with words enough for the sheet's n; a script with another n is refused, so its table need not be filled. Their
+// words are free after every reply.
 pub(crate) fn mark_once(
     sheet: &[u8],
     script: &[u8],

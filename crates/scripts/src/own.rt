@@ -1,4 +1,4 @@
-// Marking two texts in tables and a workspace of its own, no longer than the sheet's first line asks for, since all of them are cleared.
+// Marking two texts in tables and a workspace of its own, in the first of three sizes that is long enough for the n of the sheet's first line, since all of them are cleared.
 use crate::reply::TextMarking;
 use crate::stack;
 use keys::room;
@@ -20,8 +20,8 @@ fn count_at_most(sheet: &[u8]) -> usize
     value
 }
 
-// Marks the script's text against the sheet's; the caller lends the assignment alone. Each text is read once, in the first room that is long enough for the
-// sheet's n, and refused as if the largest were lent.
+// Marks the script's text against the sheet's; the caller lends the assignment alone. Each rule line is read once, in the first room that is long enough for
+// the sheet's n, and texts are refused as if the largest were lent.
 pub fn mark_in_own_room(sheet: &[u8], script: &[u8], values: &mut [i64]) -> TextMarking
     ensures { λ r. ⌜ MarkedInOwnRoom (now (sheet .entry)) (now (script .entry)) (now (values .entry)) r (now (values .exit)) ⌝ }
 {

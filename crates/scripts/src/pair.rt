@@ -1,4 +1,4 @@
-// Two texts checked before their tables are filled: each by itself, the sheet's first, then what is lent, then their headers.
+// Two texts checked: each by itself, the sheet's first, then what is lent, then their headers.
 use crate::reply::Subject;
 use crate::room;
 use crate::room::Lengths;

@@ -1,8 +1,9 @@
--- The limits as document 01 has them ('Sheet limits', 'The table'), so that one which is changed in code and definition together is refused here. Assumes nothing.
+-- The limits as document 01 has them ('Sheet limits', 'The table') and document 02 the script's, so that one which is changed in code and definition together is refused here. Assumes nothing.
 use mathlib.Core.Path.{_≡_, refl}
-use Prim.Native.Nat.{ℕ, _-_, _^_}
+use Prim.Native.Nat.{ℕ, _-_, _*_, _^_}
 use lib.IntN.{pos}
-use Rattle.rules.specs.declared.paper.Paper.{Paper}
+use Rattle.rules.specs.declared.paper.Paper.the-variants.{Sheet, Script}
+use Rattle.rules.specs.Hidden.{hiddenIn, hiddenCount}
 use Rattle.rules.specs.Limits.{maxQuantities, maxBound, boundLimit, maxRules, noRule, maxText}
 
 -- 'n quantities, 1 to 32'
@@ -13,10 +14,15 @@ quantities = refl
 bound : maxBound ≡ 1000000000
 bound = refl
 
--- 'Scripts have the same limits'
-bound-of-paper : (p : Paper) (n set : ℕ) → boundLimit p n set ≡ 1000000000
+-- 'Sheets keep their range'
+bound-of-sheet : (n set : ℕ) → boundLimit Sheet n set ≡ 1000000000
 unfolding boundLimit
-bound-of-paper p n set = refl
+bound-of-sheet n set = refl
+
+-- 'With k hidden quantities in its header a script may hold bounds up to 1,000,000,000 multiplied by 2 to the power k'
+bound-of-script : (n set k : ℕ) → hiddenCount (hiddenIn set) n ≡ k → boundLimit Script n set ≡ 1000000000 * 2 ^ k
+unfolding boundLimit
+bound-of-script n set k e = rw e
 
 -- 'at most 2,048 rule lines'
 rules : maxRules ≡ 2048

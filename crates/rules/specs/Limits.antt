@@ -1,7 +1,9 @@
 -- The limits of papers, each named once. `rules::sheet::constants` ties the constants to those of `rules::sheet::Sheet`.
-use Prim.Native.Nat.{ℕ}
+use Prim.Native.Nat.{ℕ, _*_, _^_}
 use lib.IntN.{ℤ, pos}
 use Rattle.rules.specs.declared.paper.Paper.{Paper}
+use Rattle.rules.specs.declared.paper.Paper.the-variants.{Sheet, Script}
+use Rattle.rules.specs.Hidden.{hiddenIn, hiddenCount}
 
 -- quantities are numbered from 1 to at most this
 abbrev pub maxQuantities : ℕ
@@ -11,10 +13,10 @@ maxQuantities = 32
 abbrev pub maxBound : ℕ
 maxBound = 1000000000
 
--- a bound is at most this in magnitude on a paper, sheet or script, over n quantities with this hidden set in its header. Document 01 has one limit for all ("Scripts have
--- the same limits"); document 02 lets a script's depend on how many are hidden and a sheet's on n, so it is a function of these
+-- a bound is at most this in magnitude on a paper over n quantities with this hidden set in its header. A script with k hidden quantities may state what a key can: the sheet's limit, doubled k times
 unfoldable pub boundLimit : Paper → ℕ → ℕ → ℕ
-boundLimit paper n set = maxBound
+boundLimit Sheet n set = maxBound
+boundLimit Script n set = maxBound * 2 ^ hiddenCount (hiddenIn set) n
 
 -- rule lines of a text
 abbrev pub maxRules : ℕ

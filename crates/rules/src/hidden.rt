@@ -1,7 +1,7 @@
 // The hidden set, a number with bit q - 1 for quantity q, decoded here alone.
 ghost use mathlib.Core.Path.{_≡_};
 ghost use Prim.Native.Nat.{_≤_};
-ghost use Rattle.rules.specs.Hidden.{hiddenIn, bitOf};
+ghost use Rattle.rules.specs.Hidden.{hiddenIn, hiddenCount, bitOf};
 ghost use Rattle.rules.specs.Limits.{maxQuantities};
 ghost use Rattle.rules.specs.Promises.{InRange};
 
@@ -42,4 +42,22 @@ pub fn is_within(set: Set, n: usize) -> bool
         return true;
     }
     (set >> n) == 0
+}
+
+// How many of the quantities 1 to `n` the set has.
+pub fn count(set: Set, n: usize) -> usize
+    ensures { λ r. ⌜ r ≡ hiddenCount (hiddenIn set) n ⌝ }
+{
+    let mut members = 0;
+    let mut q = 0;
+    while q < n {
+        if BITS <= q {
+            return members;
+        }
+        q = q + 1;
+        if is_hidden(set, q) {
+            members = members + 1;
+        }
+    }
+    members
 }

@@ -32,7 +32,7 @@ use Rattle.keys.specs.Keys.{refuted, boundsInLimit, lentChecks, keyReply
 use Rattle.keys.specs.Inner.{Fits, KeyChecked, AssignmentChecked}
 use Rattle.keys.specs.Meaning.{BoundsWithin, NumbersWithin, keyNeeds, assignmentNeeds}
 use Rattle.keys.proofs.Several.{refuted-false}
-use Rattle.keys.proofs.Fitting.{paper-fits, hide-ample}
+use Rattle.keys.proofs.Fitting.{sheet-fits, hide-ample}
 use Rattle.keys.proofs.Deciding.{refuted-exactly}
 
 -- ---- the tests, and what they mean
@@ -57,7 +57,7 @@ bounds-test paper n set m limit t r s l i = sym (rw (s, l) at (i .reply))
 -- 'no assignment' is decided
 module _ (n set : ℕ) (t : List ℤ) (s : TableSized n (length t)) (b : BoundsWithin Sheet n set t) where
   pub checked-fits : Fits n t
-  checked-fits = paper-fits Sheet n set t (s .most) (s .room) b
+  checked-fits = sheet-fits n set t (s .most) (s .room) b
 
   pub decided-none : (refuted n t ≡ true) ↔ Unsatisfiable n t
   decided-none = refuted-exactly n t checked-fits

@@ -14,9 +14,10 @@ use lib.Pow.{pow-mono}
 use borrow.Author.Tests.{ltb-true, ltb-false, le-leb}
 use Rattle.integers.proofs.Within.{within-mono}
 use Rattle.places.specs.Numbering.{blockStart}
-use Rattle.rules.specs.declared.paper.Paper.{Paper}
+use Rattle.rules.specs.declared.paper.Paper.the-variants.{Sheet}
 use Rattle.rules.specs.Limits.{maxQuantities, maxBound, boundLimit}
 use Rattle.rules.specs.Hidden.{hiddenIn, hiddenCount}
+use Rattle.rules.proofs.Counts.{count-most}
 use Rattle.tables.specs.Meaning.{WordsWithin}
 use Rattle.tables.proofs.Tests.{clash}
 use Rattle.elimination.specs.Hiding.{every, eliminated}
@@ -109,16 +110,6 @@ limit-rises members L a (suc b) h = go (ltb b a) refl (limit-rises members L a b
     go true e ih = let d : a ≡ suc b = omega (arith, ltb-true b a e) in rw d (omega arith)
     go false e ih = omega (arith, ih (ltb-false b a e), limit-more members L b)
 
--- no more are counted than there are
-pub count-most : (members : ℕ → Bool) (n : ℕ) → hiddenCount members n ≤ n
-unfolding hiddenCount
-count-most members zero = omega arith
-count-most members (suc j) = go (members (suc j)) (count-most members j)
-  where
-    go : (b : Bool) → hiddenCount members j ≤ j → cond b (suc (hiddenCount members j)) (hiddenCount members j) ≤ suc j
-    go true h = omega arith
-    go false h = omega arith
-
 -- hiding what is a member, or named by no rule, keeps a table within the members' limit
 pub hidden-within : (hidden members : ℕ → Bool) (n m L : ℕ) (t : List ℤ) → m ≤ n → blockStart n ≤ length t → WordsWithin (blockStart n) (pos L) t
     → ((j : ℕ) → j < n → hidden (suc j) ≡ true → (members (suc j) ≡ true) ⊎ Unnamed n j t)
@@ -173,44 +164,44 @@ hide-ample hidden n t f j h =
 pub set-ready : (members : ℕ → Bool) (n j : ℕ) (t : List ℤ) → SetFits members n t → j < n → Ready n j (hideUpTo members n j t)
 set-ready members n j t f h = let a = set-ample members n t f j h in record { most = f .most; one = h; room = a .room; words = a .words }
 
--- ---- a paper's limit
+-- ---- a sheet's limit
 
--- the one fact about numbers: one more than the limit of a paper, doubled once for each quantity, is below 2 ^ 62
-pub limit-doubled : (paper : Paper) (n set : ℕ) → n ≤ maxQuantities → (boundLimit paper n set + 1) * 2 ^ n < 2 ^ 62
+-- the one fact about numbers: one more than the limit of a sheet, doubled once for each quantity, is below 2 ^ 62
+pub limit-doubled : (n set : ℕ) → n ≤ maxQuantities → (boundLimit Sheet n set + 1) * 2 ^ n < 2 ^ 62
 unfolding boundLimit
-limit-doubled paper n set h =
+limit-doubled n set h =
     let one : maxBound + 1 ≤ maxBound + 1 = omega arith in
     omega (arith, mul-le-mul one (pow-mono {i = n} {j = maxQuantities} h))
 
--- so sums fit in the table of a paper, whichever quantities are eliminated
-pub paper-sums : (paper : Paper) (members : ℕ → Bool) (n set : ℕ) (t : List ℤ) → n ≤ maxQuantities → blockStart n ≤ length t
-    → WordsWithin (blockStart n) (pos (boundLimit paper n set)) t → SetFits members n t
-paper-sums paper members n set t h l w = record {
+-- so sums fit in the table of a sheet, whichever quantities are eliminated
+pub sheet-sums : (members : ℕ → Bool) (n set : ℕ) (t : List ℤ) → n ≤ maxQuantities → blockStart n ≤ length t
+    → WordsWithin (blockStart n) (pos (boundLimit Sheet n set)) t → SetFits members n t
+sheet-sums members n set t h l w = record {
   most = h;
   room = l;
-  limit = boundLimit paper n set;
+  limit = boundLimit Sheet n set;
   within = w;
-  last = let one : boundLimit paper n set ≤ boundLimit paper n set = omega arith in
+  last = let one : boundLimit Sheet n set ≤ boundLimit Sheet n set = omega arith in
       omega (
         arith,
         mul-le-mul one (pow-mono {i = hiddenCount members n} {j = n} (count-most members n)),
-        add-mul (boundLimit paper n set) 1 (2 ^ n),
-        limit-doubled paper n set h,
+        add-mul (boundLimit Sheet n set) 1 (2 ^ n),
+        limit-doubled n set h,
       );
 }
 
-pub paper-fits : (paper : Paper) (n set : ℕ) (t : List ℤ) → n ≤ maxQuantities → blockStart n ≤ length t
-    → WordsWithin (blockStart n) (pos (boundLimit paper n set)) t → Fits n t
-paper-fits paper n set t h l w = record { members = every; sums = paper-sums paper every n set t h l w; rest = λ j g e. clash refl e }
+pub sheet-fits : (n set : ℕ) (t : List ℤ) → n ≤ maxQuantities → blockStart n ≤ length t
+    → WordsWithin (blockStart n) (pos (boundLimit Sheet n set)) t → Fits n t
+sheet-fits n set t h l w = record { members = every; sums = sheet-sums every n set t h l w; rest = λ j g e. clash refl e }
 
 -- and with none left out in particular
 none-set : (q : ℕ) → hiddenIn 0 q ≡ false
 none-set zero = refl
 none-set (suc j) = let z : 0 / 2 ^ j ≡ 0 = zero-div (2 ^ j) in rw z
 
-pub whole-fits : (paper : Paper) (n set : ℕ) (t : List ℤ) → n ≤ maxQuantities → blockStart n ≤ length t
-    → WordsWithin (blockStart n) (pos (boundLimit paper n set)) t → RestFits n 0 t
-whole-fits paper n set t h l w = record {
-  sums = paper-sums paper (outside 0) n set t h l w;
+pub whole-fits : (n set : ℕ) (t : List ℤ) → n ≤ maxQuantities → blockStart n ≤ length t
+    → WordsWithin (blockStart n) (pos (boundLimit Sheet n set)) t → RestFits n 0 t
+whole-fits n set t h l w = record {
+  sums = sheet-sums (outside 0) n set t h l w;
   alone = λ i g e. clash (rw (none-set (suc i), le-leb 0 i (omega arith))) e;
 }

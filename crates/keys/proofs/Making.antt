@@ -23,7 +23,7 @@ use Rattle.keys.specs.Keys.{keyOf}
 use Rattle.keys.specs.Meaning.{BoundsWithin, keyNeedsThen}
 use Rattle.keys.specs.Inner.{Fits, RestFits, Decided, SetHidden, KeyTried}
 use Rattle.keys.proofs.Several.{key-exact, allows-own, refuted-false, rest-key, key-length}
-use Rattle.keys.proofs.Fitting.{hide-ample, paper-fits}
+use Rattle.keys.proofs.Fitting.{hide-ample, sheet-fits}
 use Rattle.keys.proofs.Parts.{back-word}
 use Rattle.keys.proofs.Copying.{SameTable, copied, same-back, same-satisfies, same-within, same-key}
 use Rattle.keys.proofs.Deciding.{copy-whole, rest-fits, decides-refuted}
@@ -51,10 +51,10 @@ module _ (n set m : ℕ) (t w u : List ℤ) (p : AllMet (keyNeedsThen n set t (l
   within = same-within n (boundLimit Sheet n set) t u same (p .1 .1 .0 .1)
 
   pub copy-fits : Fits n u
-  copy-fits = paper-fits Sheet n set u (p .0 .most) (same .theirs) within
+  copy-fits = sheet-fits n set u (p .0 .most) (same .theirs) within
 
   fits : Fits n t
-  fits = paper-fits Sheet n set t (p .0 .most) (p .0 .room) (p .1 .1 .0 .1)
+  fits = sheet-fits n set t (p .0 .most) (p .0 .room) (p .1 .1 .0 .1)
 
   none : Unsatisfiable n u → Unsatisfiable n t
   none x σ s = x σ (same-satisfies n t u σ same s)

@@ -125,7 +125,7 @@ pub assignment-fits : (n : ℕ) (t : List ℤ) (w v : ℕ) → AllMet (assignmen
 assignment-fits n t w v (s, (l, (k, (b, u)))) = checked-fits n 0 t s b
 
 pub assignment-rest : (n : ℕ) (t : List ℤ) (w v : ℕ) → AllMet (assignmentNeedsThen n t w v passed) → RestFits n 0 t
-assignment-rest n t w v (s, (l, (k, (b, u)))) = whole-fits Sheet n 0 t (s .most) (s .room) b
+assignment-rest n t w v (s, (l, (k, (b, u)))) = whole-fits n 0 t (s .most) (s .room) b
 
 assignment-none : (n : ℕ) (t : List ℤ) (w v : ℕ) (r : Reply) → r ≡ assignmentReply n t w v → AllMet (assignmentNeedsThen n t w v passed)
     → (replyNumber r ≡ 5) ↔ Unsatisfiable n t

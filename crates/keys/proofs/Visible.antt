@@ -126,4 +126,4 @@ key-like n set B t l w = record {
 
 -- so sums fit in it
 pub key-rest : (n set : ℕ) (t : List ℤ) → n ≤ maxQuantities → blockStart n ≤ length t → BoundsWithin Sheet n set t → RestFits n set (keyOf (hiddenIn set) n t)
-key-rest n set t m l w = like-rest n set (boundLimit Sheet n set) (keyOf (hiddenIn set) n t) (limit-doubled Sheet n set m) m (key-like n set (boundLimit Sheet n set) t l w)
+key-rest n set t m l w = like-rest n set (boundLimit Sheet n set) (keyOf (hiddenIn set) n t) (limit-doubled n set m) m (key-like n set (boundLimit Sheet n set) t l w)

@@ -29,7 +29,7 @@ use Rattle.keys.specs.Keys.{keyOf}
 use Rattle.keys.specs.Meaning.{BoundsWithin}
 use Rattle.keys.specs.Inner.{outside, SetFits, Fits, RestFits}
 use Rattle.keys.specs.Breaking.{RuleBreakable}
-use Rattle.keys.proofs.Fitting.{words-mono, limit-doubled, paper-fits}
+use Rattle.keys.proofs.Fitting.{words-mono, limit-doubled, sheet-fits}
 use Rattle.keys.proofs.Deciding.{rest-fits}
 use Rattle.keys.proofs.Visible.{count-both, visible-unnamed, visible-rest, visible-limit, keyLimit, key-fits, key-word, values-small, LikeKey, like-rest}
 use Rattle.keys.proofs.Visible.{key-like as like-key}
@@ -105,11 +105,11 @@ module _ (n set : ℕ) (sheet script : List ℤ) (w v : ℕ) (m : TablesAccepted
   key = keyOf (hiddenIn set) n sheet
 
   limit-small : (limit + 1) * 2 ^ n < 2 ^ 62
-  limit-small = limit-doubled Sheet n set (m .sized .most)
+  limit-small = limit-doubled n set (m .sized .most)
 
   -- sums fit in the sheet, whatever is eliminated
   pub sheet-fitting : Fits n sheet
-  sheet-fitting = paper-fits Sheet n set sheet (m .sized .most) (m .sized .sheet-room) (m .limits .sheet-within)
+  sheet-fitting = sheet-fits n set sheet (m .sized .most) (m .sized .sheet-room) (m .limits .sheet-within)
 
   pub sheet-hides : SetFits (hiddenIn set) n sheet
   sheet-hides = record {

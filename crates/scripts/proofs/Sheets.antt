@@ -26,7 +26,7 @@ use Rattle.keys.specs.Keys.{keyOf, refuted}
 use Rattle.keys.specs.Meaning.{BoundsWithin}
 use Rattle.keys.specs.Inner.{Fits}
 use Rattle.keys.proofs.Several.{hideUpTo-length, key-exact, key-visible}
-use Rattle.keys.proofs.Fitting.{limit-doubled, paper-fits, hide-ample, key-within}
+use Rattle.keys.proofs.Fitting.{limit-doubled, sheet-fits, hide-ample, key-within}
 use Rattle.keys.proofs.Deciding.{refuted-exactly}
 use Rattle.numerals.specs.Decimal.{signedDecimal}
 use Rattle.numerals.proofs.Decimals.{signed-width}
@@ -74,7 +74,7 @@ fine-table paper c f =
       members = list-members (c .count) (c .hiddens) (f .1 .0 .formed) (f .1 .0 .within);
       size = s;
       bounds = l;
-      fits = paper-fits paper (c .count) (setIn c) (tableIn c) (n .1) (omega arith) l;
+      fits = sheet-fits paper (c .count) (setIn c) (tableIn c) (n .1) (omega arith) l;
       held = rules-held paper c f;
     }
 
@@ -143,7 +143,7 @@ limit-most c s =
       arith,
       mul-le-mul-left (contentsLimit Sheet c) (pow-mono {i = length (c .hiddens)} {j = c .count} most),
       add-mul (contentsLimit Sheet c) 1 (2 ^ c .count),
-      limit-doubled Sheet (c .count) (setIn c) (s .most),
+      limit-doubled (c .count) (setIn c) (s .most),
     )
 
 -- so the numeral of each has at most 20 bytes

@@ -6,9 +6,10 @@ use Prim.Native.Nat.{ℕ}
 use lib.IntN.{ℤ, pos, negsuc}
 use Rattle.places.specs.declared.Place.the-variants.{At, Nowhere}
 use Rattle.places.specs.Numbering.{blockStart, placeOfOne, placeOfPair, placeOfTwo, findTwo, blockUpTo, blockOf, offsetOf, isOne, higherAt, lowerAt}
-use Rattle.rules.specs.declared.paper.Paper.{Paper}
+use Rattle.rules.specs.declared.paper.Paper.the-variants.{Sheet, Script}
 use Rattle.rules.specs.declared.rule.Rule.{Rule}
 use Rattle.rules.specs.declared.rule.Rule.the-variants.{Nothing}
+use Rattle.rules.specs.Hidden.{hiddenCount}
 use Rattle.rules.specs.Limits.{boundLimit, noRule}
 use Rattle.rules.specs.Refusal.{Returned}
 use Rattle.rules.specs.Steps.{ruleOf, halvedOf}
@@ -28,15 +29,28 @@ served : (serves 32 2048 ≡ true) × (serves 32 2047 ≡ false) × (serves 33 1
 unfolding serves tableSize blockStart
 served = (refl, refl, refl, refl)
 
--- 1,000,000,000 is in the limit of every paper and 1,000,000,001 is not, on either side of 0
-largest-in : (p : Paper) (n set : ℕ) → (inLimit (pos (boundLimit p n set)) (pos 1000000000) && inLimit (pos (boundLimit p n set)) (negsuc 999999999)) ≡ true
+-- 1,000,000,000 is in the limit of a sheet and 1,000,000,001 is not, on either side of 0, whatever is hidden
+largest-in : (n set : ℕ) → (inLimit (pos (boundLimit Sheet n set)) (pos 1000000000) && inLimit (pos (boundLimit Sheet n set)) (negsuc 999999999)) ≡ true
 unfolding inLimit boundLimit
-largest-in p n set = refl
+largest-in n set = refl
 
-larger-out : (p : Paper) (n set : ℕ)
-    → (inLimit (pos (boundLimit p n set)) (pos 1000000001) ≡ false) × (inLimit (pos (boundLimit p n set)) (negsuc 1000000000) ≡ false)
+larger-out : (n set : ℕ)
+    → (inLimit (pos (boundLimit Sheet n set)) (pos 1000000001) ≡ false) × (inLimit (pos (boundLimit Sheet n set)) (negsuc 1000000000) ≡ false)
 unfolding inLimit boundLimit
-larger-out p n set = (refl, refl)
+larger-out n set = (refl, refl)
+
+-- in a script over 3 quantities 2,000,000,000 is in the limit where quantity 2 is hidden, and one more is not; where none is hidden, the limit is a sheet's
+script-largest : (inLimit (pos (boundLimit Script 3 2)) (pos 2000000000) ≡ true) × (inLimit (pos (boundLimit Script 3 2)) (pos 2000000001) ≡ false)
+    × (inLimit (pos (boundLimit Script 3 0)) (pos 1000000000) ≡ true) × (inLimit (pos (boundLimit Script 3 0)) (pos 1000000001) ≡ false)
+unfolding inLimit boundLimit hiddenCount
+script-largest = (refl, refl, refl, refl)
+
+-- with 31 hidden it is 2,147,483,648,000,000,000, on either side of 0
+script-widest : (inLimit (pos (boundLimit Script 32 2147483647)) (pos 2147483648000000000) ≡ true)
+    × (inLimit (pos (boundLimit Script 32 2147483647)) (negsuc 2147483647999999999) ≡ true)
+    × (inLimit (pos (boundLimit Script 32 2147483647)) (pos 2147483648000000001) ≡ false)
+unfolding inLimit boundLimit hiddenCount
+script-widest = (refl, refl, refl)
 
 -- the no-rule word is no bound and so in every limit; the word before it is a bound
 no-rule-in : (hasRule (pos 9223372036854775807) ≡ false) × (inLimit (pos 0) (pos 9223372036854775807) ≡ true) × (hasRule (pos 9223372036854775806) ≡ true)

@@ -3,7 +3,7 @@
 use mathlib.Core.Path.{_≡_}
 use mathlib.Core.Bool.{Bool, true, false, cond}
 use mathlib.Core.List.{List, [], _∷_}
-use Prim.Native.Nat.{ℕ, zero, suc, _≤_, _<_, _*_, _^_}
+use Prim.Native.Nat.{ℕ, zero, suc, _≤_, _<_}
 use lib.IntN.{ℤ, pos}
 use lib.ListN.{length}
 use Rattle.integers.specs.Bound.{Within}
@@ -15,8 +15,8 @@ use Rattle.rules.specs.Limits.{maxQuantities, boundLimit}
 use Rattle.rules.specs.Literal.{negated}
 use Rattle.rules.specs.Meaning.{Assignment, Meets, boundOf, names}
 use Rattle.rules.specs.Steps.{halvedOf}
-use Rattle.rules.specs.declared.paper.Paper.the-variants.{Sheet}
-use Rattle.rules.specs.Hidden.{hiddenIn, hiddenCount}
+use Rattle.rules.specs.declared.paper.Paper.the-variants.{Script}
+use Rattle.rules.specs.Hidden.{hiddenIn}
 use Rattle.tables.specs.Places.{ruleAt}
 use Rattle.tables.specs.Tables.{hasRule}
 
@@ -128,8 +128,8 @@ SameVisible n hidden σ τ = (q : ℕ) → 1 ≤ q → q ≤ n → hidden q ≡ 
 pub record WordsWithin (m : ℕ) (B : ℤ) (t : List ℤ) : Type 0 where
   pub each : (k : ℕ) → k < m → k < length t → hasRule (wordAt t k) ≡ true → Within B (wordAt t k)
 
--- a table is like a key: its rules name visible quantities alone, and its bounds are a sheet's, doubled at most with each hidden quantity (document 01: "One hiding step at
+-- a table is like a key: its rules name visible quantities alone, and its bounds are in a script's limit, which is a sheet's, doubled with each hidden quantity (document 01: "One hiding step at
 -- most doubles the largest magnitude of a bound")
 pub record KeyLike (n set : ℕ) (table : List ℤ) : Type 0 where
   pub visible : NamesVisible n (hiddenIn set) table
-  pub growth : WordsWithin (blockStart n) (pos (boundLimit Sheet n set * 2 ^ hiddenCount (hiddenIn set) n)) table
+  pub growth : WordsWithin (blockStart n) (pos (boundLimit Script n set)) table

@@ -14,7 +14,7 @@ use lib.Pow.{pow-mono}
 use borrow.Author.Tests.{ltb-true, ltb-false, le-leb}
 use Rattle.integers.proofs.Within.{within-mono}
 use Rattle.places.specs.Numbering.{blockStart}
-use Rattle.rules.specs.declared.paper.Paper.the-variants.{Sheet}
+use Rattle.rules.specs.declared.paper.Paper.the-variants.{Sheet, Script}
 use Rattle.rules.specs.Limits.{maxQuantities, maxBound, boundLimit}
 use Rattle.rules.specs.Hidden.{hiddenIn, hiddenCount}
 use Rattle.rules.proofs.Counts.{count-most}
@@ -172,6 +172,11 @@ unfolding boundLimit
 limit-doubled n set h =
     let one : maxBound + 1 ≤ maxBound + 1 = omega arith in
     omega (arith, mul-le-mul one (pow-mono {i = n} {j = maxQuantities} h))
+
+-- a script's is the limit of a key
+pub script-limit : (n set : ℕ) → boundLimit Sheet n set * 2 ^ hiddenCount (hiddenIn set) n ≡ boundLimit Script n set
+unfolding boundLimit
+script-limit n set = refl
 
 -- so sums fit in the table of a sheet, whichever quantities are eliminated
 pub sheet-sums : (members : ℕ → Bool) (n set : ℕ) (t : List ℤ) → n ≤ maxQuantities → blockStart n ≤ length t

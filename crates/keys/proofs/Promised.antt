@@ -29,7 +29,7 @@ use Rattle.keys.specs.Keys.{keyOf, refuted, lentChecks, keyReply, assign
 use Rattle.keys.specs.Inner.{Fits, RestFits, Decided, Reduced, Filled, KeyTried}
 use Rattle.keys.specs.Promises.{KeyMade, Keyed, AssignmentFound, Assigned}
 use Rattle.keys.proofs.Several.{rest-key, key-exact, key-visible, refuted-false}
-use Rattle.keys.proofs.Fitting.{hide-ample, key-within, whole-fits}
+use Rattle.keys.proofs.Fitting.{hide-ample, key-within, script-limit, whole-fits}
 use Rattle.keys.proofs.Filling.{filled-range}
 use Rattle.keys.proofs.Deciding.{refuted-exactly}
 use Rattle.keys.proofs.Checking.{bounds, checked-fits, key-tied, assignment-tied}
@@ -95,7 +95,7 @@ key-made n set t f b s = record {
   steps = key-turns (hiddenIn set) n t (s .assignment) (f .sums .room) (hide-ample (hiddenIn set) n t f) (s .satisfies);
   like = record {
     visible = key-visible (hiddenIn set) n t (f .sums .room);
-    growth = key-within (hiddenIn set) n (boundLimit Sheet n set) t (f .sums .room) b;
+    growth = rw (script-limit n set) at (key-within (hiddenIn set) n (boundLimit Sheet n set) t (f .sums .room) b);
   };
 }
 

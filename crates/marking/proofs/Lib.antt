@@ -11,6 +11,7 @@ pub mod Reducing
 pub mod Broken
 pub mod Demand
 pub mod Showing
+pub mod OwnKeys
 pub mod Promised
 pub mod Frauds
 mod FraudCalls

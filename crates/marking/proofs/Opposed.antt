@@ -8,13 +8,13 @@ use native.Mathlib.Nat.{add-mul, mul-le-mul}
 use native.Mathlib.Omega.{arith}
 use lib.IntN.{ℤ, pos}
 use lib.ListN.{length}
-use lib.Pow.{pow-mono, pow-pos}
+use lib.Pow.{pow-mono}
 use Rattle.integers.specs.Bound.{Within, oppositeBound}
 use Rattle.integers.proofs.Within.{within-opposite}
 use Rattle.words.specs.Change.{wordAt}
 use Rattle.places.specs.Numbering.{blockStart}
 use Rattle.rules.specs.declared.rule.Rule.{Rule}
-use Rattle.rules.specs.declared.paper.Paper.the-variants.{Sheet, Script}
+use Rattle.rules.specs.declared.paper.Paper.the-variants.{Sheet}
 use Rattle.rules.specs.Hidden.{hiddenIn, hiddenCount}
 use Rattle.rules.specs.Limits.{maxQuantities, boundLimit}
 use Rattle.rules.specs.Steps.{oppositeOf}
@@ -26,10 +26,9 @@ use Rattle.tables.proofs.Lists.{put-length}
 use Rattle.elimination.specs.Magnitude.{Unnamed}
 use Rattle.elimination.proofs.Step.{within-rule}
 use Rattle.keys.specs.Keys.{keyOf}
-use Rattle.keys.specs.Meaning.{BoundsWithin}
 use Rattle.keys.specs.Inner.{outside, SetFits, Fits, RestFits}
 use Rattle.keys.specs.Breaking.{RuleBreakable}
-use Rattle.keys.proofs.Fitting.{words-mono, limit-doubled, sheet-fits}
+use Rattle.keys.proofs.Fitting.{words-mono, limit-doubled, script-limit, sheet-fits}
 use Rattle.keys.proofs.Deciding.{rest-fits}
 use Rattle.keys.proofs.Visible.{count-both, visible-unnamed, visible-rest, visible-limit, keyLimit, key-fits, key-word, values-small, LikeKey, like-rest}
 use Rattle.keys.proofs.Visible.{key-like as like-key}
@@ -91,11 +90,6 @@ module _ (n set B : ℕ) (rules t : List ℤ) (k : ℕ) (h : (B + 1) * 2 ^ n < 2
 
 -- ---- tables that are marked
 
--- scripts have a sheet's limit
-script-limit : (n set : ℕ) (t : List ℤ) → BoundsWithin Script n set t → BoundsWithin Sheet n set t
-unfolding boundLimit
-script-limit n set t w = w
-
 module _ (n set : ℕ) (sheet script : List ℤ) (w v : ℕ) (m : TablesAccepted n set sheet script w v) where
   -- the sheet's limit, and that it is small
   abbrev limit : ℕ
@@ -129,13 +123,11 @@ module _ (n set : ℕ) (sheet script : List ℤ) (w v : ℕ) (m : TablesAccepted
   pub key-room : blockStart n ≤ length (keyOf (hiddenIn set) n sheet)
   key-room = key-like .room
 
-  -- and so is the script
+  -- and so is the script, whose bounds may be as large
   script-like : LikeKey n set limit script
   script-like = record {
     room = m .sized .script-room;
-    within = let one : limit ≤ limit = omega arith in
-        words-mono (blockStart n) limit (keyLimit n set limit) script (omega (arith, mul-le-mul one (pow-pos (hiddenCount (hiddenIn set) n))))
-        (script-limit n set script (m .limits .script-within));
+    within = rw (script-limit n set) (m .limits .script-within);
     visible = m .visible;
   }
 

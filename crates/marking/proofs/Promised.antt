@@ -44,7 +44,7 @@ use Rattle.marking.specs.declared.verdict.Verdict.{Verdict}
 use Rattle.marking.specs.declared.verdict.Verdict.the-variants.{Equal, Loose, Tight}
 use Rattle.marking.specs.declared.verdict.Marking.the-variants.{Marked, Refused}
 use Rattle.marking.specs.declared.verdict.Marking.{Marking}
-use Rattle.marking.specs.Verdicts.{verdictNumber, carriedRule, verdictReturned, markingReturned, isMarked}
+use Rattle.marking.specs.Verdicts.{verdictNumber, carriedRule, verdictReturned, markingReturned, isMarked, isMarkingShown}
 use Rattle.marking.specs.Marking.{firstBroken, orElse, verdictOf, markChecks, markedAs, markReply}
 use Rattle.marking.specs.Meaning.{FirstAt, LooseShown, TightShown, VerdictMeans, workspaceSize, markNeeds}
 use Rattle.marking.specs.Promises.{TablesMarked}
@@ -57,6 +57,7 @@ use Rattle.marking.proofs.Opposed.{key-room, sheet-fitting, sheet-hides
 use Rattle.marking.proofs.Finding.{below-seen, Found, seen-found}
 use Rattle.marking.proofs.Lending.{lent-again, decided-lent}
 use Rattle.marking.proofs.Reducing.{visible-alone, same-front}
+use Rattle.marking.proofs.OwnKeys.{own-equal}
 use Rattle.marking.proofs.Demand.{KeyExact, key-allows, some-satisfy, key-exactly, script-exactly, verdict-demand, verdict-loose, verdict-tight}
 use Rattle.marking.proofs.Showing.{zero-words, loose-shows, tight-shows}
 
@@ -420,33 +421,30 @@ pub checked-accepted : (n set : ℕ) (sheet script : List ℤ) (w v : ℕ) (a : 
     → TablesAccepted n set sheet script w v
 checked-accepted n set sheet script w v a e d = met-accepted n set sheet script w v (mark-tied n set sheet script w v .accepted .0 (sym e ∙ d))
 
+-- every reply has the promise, with its words and its meaning
+tables-marked : (n set : ℕ) (sheet script w v : List ℤ) (r : Marking) (w' v' : List ℤ) → r ≡ markReply n set sheet script (length w) (length v)
+    → Lent (workspaceSize n) (isMarked r) w w' → Lent n (isMarkingShown r) v v'
+    → (isMarked r ≡ true → VerdictMeans n set (Satisfies n sheet) (Satisfies n script) sheet script (markingReturned r) v') → TablesMarked n set sheet script w v r w' v'
+tables-marked n set sheet script w v r w' v' e l k m = let d = reply-decided n set sheet script (length w) (length v) r e in record {
+  reply = e;
+  lent = l;
+  written = k;
+  decided = d;
+  means = m;
+  own-key = λ o. own-equal n set sheet script o w v r v' d m;
+}
+
 -- a refusal: no word is changed
 pub mark-refused : (n set : ℕ) (sheet script w v : List ℤ) (a : Reply) (f : Refusal) → a ≡ markChecks n set sheet script (length w) (length v) → a ≡ NotDone f
     → TablesMarked n set sheet script w v (Refused f) w v
 unfolding markReply
-mark-refused n set sheet script w v a f e d = record {
-  reply = reply;
-  lent = untouched (workspaceSize n) false w;
-  written = untouched n false v;
-  decided = reply-decided n set sheet script (length w) (length v) (Refused f) reply;
-  means = λ c. clash {b = false} c refl;
-}
-  where
-    reply : Refused f ≡ markReply n set sheet script (length w) (length v)
-    reply = rw (← e, d)
+mark-refused n set sheet script w v a f e d =
+    tables-marked n set sheet script w v (Refused f) w v (rw (← e, d)) (untouched (workspaceSize n) false w) (untouched n false v) (λ c. clash {b = false} c refl)
 
 -- a verdict
 pub mark-given : (n set : ℕ) (sheet script w v : List ℤ) (a : Reply) (r : Verdict) (w' v' : List ℤ)
     → a ≡ markChecks n set sheet script (length w) (length v) → a ≡ Done → VerdictTold n set sheet script w v r w' v'
     → TablesMarked n set sheet script w v (Marked r) w' v'
 unfolding markReply
-mark-given n set sheet script w v a r w' v' e d g = record {
-  reply = reply;
-  lent = g .given .lent;
-  written = g .given .written;
-  decided = reply-decided n set sheet script (length w) (length v) (Marked r) reply;
-  means = λ c. g .means;
-}
-  where
-    reply : Marked r ≡ markReply n set sheet script (length w) (length v)
-    reply = rw (← e, d, ← g .given .reply)
+mark-given n set sheet script w v a r w' v' e d g =
+    tables-marked n set sheet script w v (Marked r) w' v' (rw (← e, d, ← g .given .reply)) (g .given .lent) (g .given .written) (λ c. g .means)

@@ -6,7 +6,7 @@ use mathlib.Core.Logic.{_↔_, _⊎_}
 use mathlib.Core.List.{List}
 use Prim.Native.Nat.{ℕ, _*_, _≤_, _<_}
 use lib.IntN.{ℤ, pos}
-use lib.ListN.{length}
+use lib.ListN.{length, take}
 use Rattle.places.specs.Numbering.{blockStart}
 use Rattle.rules.specs.declared.rule.Rule.{Rule}
 use Rattle.rules.specs.declared.rule.Rule.the-variants.{One, Two, Nothing}
@@ -135,3 +135,13 @@ markNeeds n set sheet script w v =
     (NumbersWithin n set sheet × BoundsWithin Script n set script) or OutOfLimit 0 then
     NamesVisible n (hiddenIn set) script or Mismatch then
     passed
+
+-- ---- a sheet's own key
+
+-- the script is the plain key of its sheet, one that the key call accepts: its first words are those of the table that the call leaves
+pub record OwnKey (n set : ℕ) (sheet script : List ℤ) : Type 0 where
+  pub sheet-sized : TableSized n (length sheet)
+  pub script-sized : TableSized n (length script)
+  pub within : NumbersWithin n set sheet
+  pub some : Satisfiable n sheet
+  pub same : take (blockStart n) script ≡ take (blockStart n) (keyOf (hiddenIn set) n sheet)

@@ -1,19 +1,17 @@
 -- A sheet's own key is accepted as its script and found equal: its bounds are in a script's limit, it names visible quantities alone, and by demand 2 it allows what the sheet
 -- allows. Assumes nothing.
-use mathlib.Core.Path.{_≡_, refl, sym, _∙_, ap}
+use mathlib.Core.Path.{_≡_, refl}
 use mathlib.Core.Bool.{true, false}
 use mathlib.Core.List.{List}
-use mathlib.Core.Logic.{_↔_}
 use Prim.Native.Nat.{ℕ, _≤_}
 use native.Mathlib.Omega.{arith}
 use lib.IntN.{ℤ}
 use lib.ListN.{length}
 use Rattle.places.specs.Numbering.{blockStart}
-use Rattle.rules.specs.declared.paper.Paper.the-variants.{Sheet, Script}
+use Rattle.rules.specs.declared.paper.Paper.the-variants.{Script}
 use Rattle.rules.specs.Hidden.{hiddenIn}
 use Rattle.rules.specs.Limits.{boundLimit}
-use Rattle.rules.specs.Meaning.{names}
-use Rattle.rules.specs.Refusal.{Returned, refusedAs}
+use Rattle.rules.specs.Refusal.{refusedAs}
 use Rattle.rules.specs.Refusing.{AllMet, DecidedBy}
 use Rattle.tables.specs.Meaning.{Satisfies, NamesVisible}
 use Rattle.keys.specs.Keys.{keyOf}
@@ -30,10 +28,10 @@ use Rattle.marking.specs.declared.verdict.Verdict.the-variants.{Equal, L
 use Rattle.marking.specs.declared.verdict.Marking.{Marking}
 use Rattle.marking.specs.declared.verdict.Marking.the-variants.{Marked, Refused}
 use Rattle.marking.specs.Verdicts.{verdictNumber, verdictReturned, markingReturned, isMarked}
-use Rattle.marking.specs.Meaning.{AllowSame, ByDemand, VerdictMeans, workspaceSize, markNeeds, OwnKey}
+use Rattle.marking.specs.Meaning.{AllowSame, VerdictMeans, workspaceSize, markNeeds, OwnKey}
 
 -- the number tells equal
-is-equal : (v : Verdict) → verdictNumber v ≡ 100 → verdictReturned v ≡ verdictReturned Equal
+pub is-equal : (v : Verdict) → verdictNumber v ≡ 100 → verdictReturned v ≡ verdictReturned Equal
 is-equal Equal e = refl
 is-equal (Loose r) e = absurd (omega arith)
 is-equal (Tight r) e = absurd (omega arith)

@@ -3,7 +3,7 @@ use mathlib.Core.Path.{_≡_, refl, ap, subst}
 use mathlib.Core.Bool.{false}
 use mathlib.Core.List.{List}
 use mathlib.Core.Logic.{inl, inr, ⊎-elim}
-use Prim.Native.Nat.{ℕ, _+_, _*_, _^_, _≤_, _<_}
+use Prim.Native.Nat.{ℕ, _+_, _^_, _≤_, _<_}
 use native.Mathlib.Omega.{arith}
 use lib.IntN.{ℤ, pos}
 use lib.ListN.{length, take}
@@ -33,13 +33,13 @@ use Rattle.scripts.specs.declared.reply.Subject.{Subject}
 use Rattle.scripts.specs.declared.reply.Subject.the-variants.{Sheet as OfSheet, Script as OfScript, Both as OfBoth}
 use Rattle.scripts.specs.declared.reply.TextMarking.{TextMarking}
 use Rattle.scripts.specs.declared.reply.TextMarking.the-variants.{Marked, Refused}
-use Rattle.scripts.specs.Replies.{textsReturned, textNumber, textSubjects, isTextMarked, textCounts}
+use Rattle.scripts.specs.Replies.{textsReturned, textSubjects, isTextMarked, textCounts}
 use Rattle.scripts.specs.Meaning.{setIn, tableIn, Matches, pairNeeds, AcceptedPair, RefusedPair, ownLengths}
 use Rattle.scripts.specs.Promises.{MarkedInOwnRoom}
-use Rattle.scripts.proofs.Sheets.{FineTable, FineSheet, fine-table, key-bounds}
+use Rattle.scripts.proofs.Sheets.{FineTable, FineSheet, fine-table, key-like}
 use Rattle.reports.specs.Marks.{verdictKey, wordText, shownText, verdictName, carriedText, verdictText, refusedMarkText}
 use Rattle.reports.proofs.RefusalLengths.{refused-line}
-use Rattle.reports.proofs.MarkTexts.{maxValues, word-length, values-short, shown-length, broken-short, key-words, verdict-length, refused-short}
+use Rattle.reports.proofs.MarkTexts.{maxValues, word-length, values-short, shown-length, broken-short, verdict-length, refused-short}
 
 -- the first line of a verdict, and the bytes of the output that *mark* lends, `ROOM`: the proof of `print_mark` finds no room where that is less
 abbrev verdictLine : ℕ
@@ -61,7 +61,9 @@ loose-line : (c : Contents) → FineSheet c → {paper : Solutions} {r : Rule} �
     → length (ruleLineText r) ≤ maxLine
 loose-line c s {paper} {r} =
     ⊎-elim (λ a. bare-line r (a .1))
-    (λ b. broken-short (contentsLimit Sheet c * 2 ^ length (c .hiddens)) (b .1) (s .most) (key-words c s) (key-bounds c s))
+    (λ b.
+    let small : contentsLimit Script c < 2 ^ 63 = omega (arith, limit-told Script (c .count) (setIn c) (s .most)) in
+    broken-short (contentsLimit Script c) (b .1) (s .most) small (key-like c s .growth))
 
 -- the line of a tight verdict's rule
 tight-line : (c d : Contents) → FineSheet c → FineTable Script d → d .count ≡ c .count → {paper : Solutions} {r : Rule}

@@ -16,7 +16,6 @@ use Rattle.numerals.specs.Bytes.{newline, comma}
 use Rattle.numerals.specs.Decimal.{signedDecimal}
 use Rattle.rules.specs.declared.rule.Rule.{Rule}
 use Rattle.rules.specs.declared.refusal.Refusal.{Refusal}
-use Rattle.rules.specs.declared.paper.Paper.the-variants.{Sheet}
 use Rattle.rules.specs.Limits.{maxQuantities}
 use Rattle.rules.specs.Refusal.{refusalLine}
 use Rattle.tables.specs.Meaning.{ruleIn, Solutions, WordsWithin}
@@ -24,14 +23,11 @@ use Rattle.tables.proofs.Places.{ruleAt-bound, ruleAt-hasPlace}
 use Rattle.elimination.specs.Magnitude.{ValuesWithin}
 use Rattle.marking.specs.declared.verdict.Verdict.{Verdict}
 use Rattle.marking.specs.Meaning.{FirstBroken}
-use Rattle.reading.specs.Texts.{Contents}
-use Rattle.reading.specs.Meaning.{contentsLimit}
 use Rattle.writing.specs.Writing.{ruleLineText}
 use Rattle.writing.specs.Promises.{maxLine}
 use Rattle.writing.proofs.Lines.{wordWidth, word-short, line-short}
 use Rattle.scripts.specs.declared.reply.Subject.{Subject}
 use Rattle.scripts.specs.declared.reply.Subject.the-variants.{Sheet as OfSheet, Script as OfScript, Both as OfBoth}
-use Rattle.scripts.proofs.Sheets.{FineSheet, limit-most}
 use Rattle.reports.specs.Refusals.{numberText, whereText}
 use Rattle.reports.specs.Marks.{
   verdictKey,
@@ -203,10 +199,6 @@ broken-short {n} {rules} {paper} {r} B f h g w =
     let p = f .at .holds in
     let width = word-short (wordAt rules k) (within-word g (w .each k (p .inside) (p .there) (p .rule))) in
     rw (f .is) (line-short n wordWidth (ruleIn rules k) h (ruleAt-hasPlace n k (wordAt rules k) (p .inside)) (rw (ruleAt-bound k (wordAt rules k)) width))
-
--- the bounds of a sheet's key are words
-pub key-words : (c : Contents) → FineSheet c → contentsLimit Sheet c * 2 ^ length (c .hiddens) < 2 ^ 63
-key-words c s = omega (arith, limit-most c s)
 
 -- the name of a paper has at most 6 bytes
 name-short : (p : Subject) → length (paperName p) ≤ 6

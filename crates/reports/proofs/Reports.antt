@@ -21,15 +21,14 @@ use Rattle.reading.specs.Meaning.{Reads, rulesOf, FailsFor}
 use Rattle.reading.specs.Reading.{checkText}
 use Rattle.writing.specs.Writing.{tableRules, writtenText}
 use Rattle.writing.specs.Promises.{maxWritten}
-use Rattle.writing.proofs.Meanings.{table-meaning}
 use Rattle.reports.specs.Refusals.{refusalText}
 use Rattle.reports.specs.Reports.{tableReport, reportOf, keyReport}
 use Rattle.reports.specs.Meaning.{KeyText, Unmet}
 use Rattle.reports.specs.Promises.{KeyPrinted}
 use Rattle.reading.proofs.Means.{Means, text-means, reads-check}
-use Rattle.scripts.specs.Meaning.{setIn, tableIn}
-use Rattle.scripts.proofs.Sheets.{keyIn, FineSheet, fine-table, sheet-refuted, sheet-unmet, sheet-met, key-length, key-meaning, key-text-length, key-text-short}
-use Rattle.reports.proofs.KeyTexts.{key-spells, key-spares}
+use Rattle.scripts.specs.Meaning.{setIn, tableIn, keyIn}
+use Rattle.scripts.proofs.OwnKeys.{key-reads, key-spares, key-rules}
+use Rattle.scripts.proofs.Sheets.{FineSheet, fine-table, sheet-refuted, sheet-unmet, sheet-met, key-text-short}
 use Rattle.reports.proofs.RefusalLengths.{refusal-width}
 use Rattle.reports.proofs.PrintedReplies.{refusal-same, fails-number, text-unlike}
 
@@ -53,7 +52,7 @@ table-length c s = go (refuted (c .count) (tableIn c))
   where
     go : (b : Bool) → length (cond b (refusalText NoAssignment) (writtenText (c .count) (setIn c) (keyIn c))) ≤ maxWritten
     go true = omega (arith, refusal-width 0 NoAssignment (omega arith))
-    go false = key-text-length c s
+    go false = omega (arith, key-text-short c s)
 
 -- ---- of a text
 
@@ -80,13 +79,9 @@ report-some s c p σ₀ m =
     let e = report-accepted s c p ∙ report-key c (sheet-met c t σ₀ m) in
     record {
       key = tableRules (c .count) (keyIn c);
-      spelled = rw e (key-spells c t);
+      reads = rw e (key-reads c t);
       visible = λ q h. key-spares c t q (t .members q ∙ h);
-      meaning = λ σ.
-          let w = table-meaning (c .count) (keyIn c) (omega (arith, key-length c t)) σ in
-          let k = key-meaning c t σ₀ m σ in
-          (λ a. k .0 (w .1 a), λ a. w .0 (k .1 a));
-      short = rw e (key-text-short c t);
+      meaning = key-rules c t σ₀ m;
     }
 
 -- what is printed is a refusal's text: it is the text's own, or 5 and no integers meet its rules

@@ -4,17 +4,16 @@ use mathlib.Core.Path.{_≡_}
 use mathlib.Core.Bool.{true}
 use mathlib.Core.Logic.{_↔_}
 use mathlib.Core.List.{List}
-use Prim.Native.Nat.{ℕ, _*_, _^_, _≤_}
+use Prim.Native.Nat.{ℕ}
 use lib.IntN.{ℤ}
 use lib.ListN.{length}
 use Rattle.rules.specs.Hidden.{hiddenIn, setOf, isListed}
-use Rattle.rules.specs.declared.paper.Paper.the-variants.{Sheet}
-use Rattle.rules.specs.Limits.{maxText}
+use Rattle.rules.specs.declared.paper.Paper.the-variants.{Sheet, Script}
 use Rattle.rules.specs.Meaning.{Assignment}
 use Rattle.tables.specs.Meaning.{MeetsAll, NoneNames, SheetAllows}
 use Rattle.lines.specs.Spelling.{Written, writtenRules}
 use Rattle.reading.specs.Texts.{Contents}
-use Rattle.reading.specs.Meaning.{Spells, contentsLimit, Reads, rulesOf}
+use Rattle.reading.specs.Meaning.{Reads, rulesOf}
 use Rattle.marking.specs.declared.verdict.Verdict.{Verdict}
 use Rattle.marking.specs.Verdicts.{verdictReturned}
 use Rattle.scripts.specs.declared.room.Lengths.{Lengths}
@@ -27,15 +26,13 @@ use Rattle.reports.specs.Marks.{verdictText}
 -- the text is that of a key of these contents, with document 01's words of it
 pub record KeyText (c : Contents) (text : List ℕ) : Type 0 where
   pub key : List Written
-  -- it has their n and hidden list, and every line is fine: quantity numbers of 1 to n, no `+q-q`, and bounds up to the sheet's limit doubled once for each
-  -- hidden quantity ("One hiding step at most doubles the largest magnitude of a bound")
-  pub spelled : Spells (contentsLimit Sheet c * 2 ^ length (c .hiddens)) text (record { count = c .count; hiddens = c .hiddens; written = key })
+  -- it has their n and hidden list, and is fine as a script: not too long, and every line has quantity numbers of 1 to n, no `+q-q`, and bounds up to the sheet's limit
+  -- doubled once for each hidden quantity ("One hiding step at most doubles the largest magnitude of a bound")
+  pub reads : Reads Script text (record { count = c .count; hiddens = c .hiddens; written = key })
   -- no rule names a hidden quantity ("then all places that name q become no rule")
   pub visible : (q : ℕ) → isListed q (c .hiddens) ≡ true → NoneNames q (writtenRules key)
   -- its rules allow integers for the visible quantities exactly when some integers for the hidden ones satisfy the whole sheet with them (demand 2)
   pub meaning : (σ : Assignment) → MeetsAll σ (writtenRules key) ↔ SheetAllows (hiddenIn (setOf (c .hiddens))) (rulesOf c) σ
-  -- it is never too long to be read
-  pub short : length text ≤ maxText
 
 -- the text is accepted, and no integers satisfy its rules
 pub record Unmet (s : List ℕ) : Type 0 where

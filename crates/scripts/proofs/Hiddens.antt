@@ -1,5 +1,4 @@
--- The hidden list of a fine text, as a set in a number and back: the set is in its range, and the list written of it is the list read, with as many numbers
--- as quantities are hidden. Assumes nothing.
+-- The hidden list of a fine text, as a set in a number and back: the set is in its range, and the list written of it is the list read. Assumes nothing.
 use mathlib.Core.Path.{_≡_, refl, sym, _∙_, ap}
 use mathlib.Core.Bool.{Bool, true, false, cond}
 use mathlib.Core.List.{List, [], _∷_}
@@ -7,15 +6,13 @@ use Prim.Native.Nat.{ℕ, zero, suc, _+_, _-_, _*_, _/_, _%_, _^_, _≤_, _<_}
 use native.Mathlib.Nat.{div-div-eq-div-mul, pow-suc, two-pow-succ, div-one, zero-add}
 use native.Mathlib.Omega.{arith}
 use lib.Dec.{eqb}
-use lib.ListN.{length, length-append}
 use lib.Pow.{pow-mono}
 use borrow.Author.Tests.{eqb-true, eqb-false, eq-eqb, ne-eqb, lt-ltb}
-use Rattle.rules.specs.Hidden.{hiddenIn, setWithin, setOf, hiddenCount}
+use Rattle.rules.specs.Hidden.{hiddenIn, setWithin, setOf}
 use Rattle.tables.proofs.Tests.{both-true}
 use Rattle.lines.specs.Spelling.{IncreasingFrom, quantityWithin, allWithin}
 use Rattle.lines.proofs.Bits.{within-range}
 use Rattle.writing.specs.Writing.{hiddenFrom, hiddenList}
-use Rattle.writing.proofs.ListTexts.{hidden-last}
 
 -- numbers of 1 to n that increase, the first being above p
 abbrev Above : ℕ → ℕ → List ℕ → Type 0
@@ -110,28 +107,3 @@ walk (suc k) p set (q ∷ qs) a e = go (walk k (suc p) set) (eqb q (suc p)) refl
 pub list-back : (n : ℕ) (qs : List ℕ) → IncreasingFrom 0 qs → allWithin n qs ≡ true → hiddenList n (setOf qs) ≡ qs
 list-back n qs i w =
     walk n 0 (setOf qs) qs (rw (zero-add n) (increasing-above n qs i w)) (div-one (setOf qs) ∙ shifted-none qs)
-
--- ---- how many are hidden
-
--- the list of the hidden ones has so many numbers
-pub list-count : (hidden : ℕ → Bool) (n : ℕ) → length (hiddenFrom hidden 1 n) ≡ hiddenCount hidden n
-unfolding hiddenFrom hiddenCount
-list-count hidden zero = refl
-list-count hidden (suc j) =
-    ap length (hidden-last hidden 1 j) ∙ length-append (hiddenFrom hidden 1 j) (cond (hidden (1 + j)) ((1 + j) ∷ []) [])
-    ∙ (let e : 1 + j ≡ suc j = omega arith in rw e (go (hidden (suc j)) (list-count hidden j)))
-  where
-    go : (b : Bool) → length (hiddenFrom hidden 1 j) ≡ hiddenCount hidden j
-        → length (hiddenFrom hidden 1 j) + length (cond b (suc j ∷ []) []) ≡ cond b (suc (hiddenCount hidden j)) (hiddenCount hidden j)
-    go true h = omega arith
-    go false h = omega arith
-
--- which is at most n
-pub count-most : (hidden : ℕ → Bool) (n : ℕ) → hiddenCount hidden n ≤ n
-unfolding hiddenCount
-count-most hidden zero = omega arith
-count-most hidden (suc j) = go (count-most hidden j) (hidden (suc j))
-  where
-    go : hiddenCount hidden j ≤ j → (b : Bool) → cond b (suc (hiddenCount hidden j)) (hiddenCount hidden j) ≤ suc j
-    go h true = omega arith
-    go h false = omega arith

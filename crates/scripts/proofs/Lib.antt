@@ -3,6 +3,7 @@ pub mod Rules
 pub mod Hiddens
 pub mod Sheets
 pub mod Matching
+pub mod OwnKeys
 pub mod Rooms
 pub mod Judging
 pub mod Alike

@@ -39,9 +39,9 @@ use Rattle.scripts.specs.declared.reply.Subject.the-variants.{Script as 
 use Rattle.scripts.specs.declared.reply.TextMarking.{TextMarking}
 use Rattle.scripts.specs.declared.reply.TextMarking.the-variants.{Marked, Refused}
 use Rattle.scripts.specs.Replies.{textNumber, textValue, isTextShown}
-use Rattle.scripts.specs.Meaning.{lengthsOf, ownLengths, pairNeeds, AcceptedPair, RefusedPair}
+use Rattle.scripts.specs.Meaning.{lengthsOf, ownLengths, pairNeeds, AcceptedPair, RefusedPair, Room}
 use Rattle.scripts.specs.Marking.{roomChecks, pairChecks, pairReply, textsReply, sheetCount, countIn}
-use Rattle.scripts.specs.Inner.{Room, PassedPair, TablesRoom}
+use Rattle.scripts.specs.Inner.{PassedPair, TablesRoom}
 use Rattle.scripts.specs.Promises.{TextsJudged, TextsMarked, MarkedInOwnRoom}
 use Rattle.scripts.proofs.Sheets.{fine-table}
 use Rattle.scripts.proofs.Rooms.{roomy-next}

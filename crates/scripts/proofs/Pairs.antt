@@ -35,9 +35,9 @@ use Rattle.scripts.specs.declared.reply.Subject.the-variants.{Both}
 use Rattle.scripts.specs.declared.reply.TextMarking.{TextMarking}
 use Rattle.scripts.specs.declared.reply.TextMarking.the-variants.{Marked, Refused}
 use Rattle.scripts.specs.Replies.{isTextShown}
-use Rattle.scripts.specs.Meaning.{lengthsOf, setIn, tableIn, AcceptedPair}
+use Rattle.scripts.specs.Meaning.{lengthsOf, setIn, tableIn, AcceptedPair, Room}
 use Rattle.scripts.specs.Marking.{pairChecks, markedOr, pairReply, textsReply}
-use Rattle.scripts.specs.Inner.{firstChecks, Room, TablesFilled}
+use Rattle.scripts.specs.Inner.{firstChecks, TablesFilled}
 use Rattle.scripts.specs.Promises.{PairJudged, TextsJudged, TextsMarked}
 use Rattle.scripts.proofs.Sheets.{FineTable, fine-table}
 use Rattle.scripts.proofs.Rooms.{first-tells, first-done}

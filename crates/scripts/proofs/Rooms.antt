@@ -22,9 +22,9 @@ use Rattle.marking.specs.Meaning.{workspaceSize}
 use Rattle.reading.specs.Texts.{Contents}
 use Rattle.reading.specs.Meaning.{FineLines, contentsLimit}
 use Rattle.scripts.specs.declared.room.Lengths.{Lengths}
-use Rattle.scripts.specs.Meaning.{setIn, tableIn, pairNeeds}
+use Rattle.scripts.specs.Meaning.{setIn, tableIn, pairNeeds, Room}
 use Rattle.scripts.specs.Marking.{roomChecks, sameHeaders, pairChecks}
-use Rattle.scripts.specs.Inner.{firstChecks, Room}
+use Rattle.scripts.specs.Inner.{firstChecks}
 use Rattle.scripts.proofs.Matching.{fits-matches}
 
 module _ (n : ℕ) (lent : Lengths) where

@@ -1,35 +1,25 @@
 -- The sheet that a fine text writes: its table meets the key call's needs, 'no assignment' is decided by its rules as written, and its key means what
 -- demand 2 says. Assumes nothing.
-use mathlib.Core.Path.{_≡_, refl, sym, _∙_, ap}
+use mathlib.Core.Path.{_≡_, refl, _∙_}
 use mathlib.Core.Bool.{Bool, true, false}
-use mathlib.Core.List.{List}
 use mathlib.Core.Logic.{_↔_}
-use Prim.Native.Nat.{ℕ, _*_, _^_, _≤_, _<_}
-use native.Mathlib.Nat.{mul-le-mul-left, add-mul}
+use Prim.Native.Nat.{ℕ, _≤_}
 use native.Mathlib.Omega.{arith}
-use lib.IntN.{ℤ, pos, negsuc}
 use lib.ListN.{length}
-use lib.Pow.{pow-mono}
-use Rattle.integers.specs.Bound.{Within}
-use Rattle.integers.proofs.Parts.{positivePart, negativePart}
-use Rattle.integers.proofs.Within.{within-to}
-use Rattle.words.specs.Change.{wordAt}
 use Rattle.places.specs.Numbering.{blockStart}
 use Rattle.rules.specs.declared.paper.Paper.{Paper}
 use Rattle.rules.specs.declared.paper.Paper.the-variants.{Sheet}
-use Rattle.rules.specs.Hidden.{hiddenIn, setWithin, isListed, hiddenCount}
+use Rattle.rules.specs.Hidden.{hiddenIn, setWithin, isListed}
 use Rattle.rules.specs.Limits.{maxQuantities, maxText}
 use Rattle.rules.specs.Meaning.{Assignment}
-use Rattle.tables.specs.Meaning.{TableSized, Satisfies, SheetAllows, joined, WordsWithin}
+use Rattle.tables.specs.Meaning.{TableSized, Satisfies, SheetAllows, joined, KeyLike}
 use Rattle.tables.proofs.Lists.{tableOf-length}
 use Rattle.keys.specs.Keys.{keyOf, refuted}
 use Rattle.keys.specs.Meaning.{BoundsWithin}
 use Rattle.keys.specs.Inner.{Fits}
 use Rattle.keys.proofs.Several.{hideUpTo-length, key-exact, key-visible}
-use Rattle.keys.proofs.Fitting.{limit-doubled, sheet-fits, hide-ample, key-within}
+use Rattle.keys.proofs.Fitting.{sheet-fits, hide-ample, key-within, script-limit}
 use Rattle.keys.proofs.Deciding.{refuted-exactly}
-use Rattle.numerals.specs.Decimal.{signedDecimal}
-use Rattle.numerals.proofs.Decimals.{signed-width}
 use Rattle.lines.specs.Spelling.{lineWithin, writtenRules}
 use Rattle.lines.proofs.Bits.{within-range}
 use Rattle.lines.proofs.SetMembers.{list-members}
@@ -37,16 +27,10 @@ use Rattle.reading.specs.Texts.{Contents}
 use Rattle.reading.specs.Meaning.{FineLines, contentsLimit, rulesOf}
 use Rattle.reading.specs.Promises.{TableHolds}
 use Rattle.writing.specs.Writing.{hiddenList, writtenText}
-use Rattle.writing.specs.Promises.{maxWritten}
-use Rattle.writing.proofs.Lengths.{longest}
 use Rattle.writing.proofs.KeyLengths.{key-short}
-use Rattle.scripts.specs.Meaning.{setIn, tableIn}
+use Rattle.scripts.specs.Meaning.{setIn, tableIn, keyIn}
 use Rattle.scripts.proofs.Rules.{rules-held, read-within}
-use Rattle.scripts.proofs.Hiddens.{set-range, list-back, list-count, count-most}
-
--- the key of contents
-abbrev pub keyIn : Contents → List ℤ
-keyIn c = keyOf (hiddenIn (setIn c)) (c .count) (tableIn c)
+use Rattle.scripts.proofs.Hiddens.{set-range, list-back}
 
 -- what it tells that every line of contents is fine
 pub record FineTable (paper : Paper) (c : Contents) : Type 0 where
@@ -57,7 +41,6 @@ pub record FineTable (paper : Paper) (c : Contents) : Type 0 where
   pub members : (q : ℕ) → hiddenIn (setIn c) q ≡ isListed q (c .hiddens)
   pub size : length (tableIn c) ≡ blockStart (c .count)
   pub bounds : BoundsWithin paper (c .count) (setIn c) (tableIn c)
-  pub fits : Fits (c .count) (tableIn c)
   pub held : TableHolds c (tableIn c)
 
 pub fine-table : (paper : Paper) (c : Contents) → FineLines (contentsLimit paper c) c → FineTable paper c
@@ -74,13 +57,16 @@ fine-table paper c f =
       members = list-members (c .count) (c .hiddens) (f .1 .0 .formed) (f .1 .0 .within);
       size = s;
       bounds = l;
-      fits = sheet-fits paper (c .count) (setIn c) (tableIn c) (n .1) (omega arith) l;
       held = rules-held paper c f;
     }
 
 -- of a sheet
 abbrev pub FineSheet : Contents → Type 0
 FineSheet c = FineTable Sheet c
+
+-- sums fit in it
+pub sheet-ample : (c : Contents) → FineSheet c → Fits (c .count) (tableIn c)
+sheet-ample c s = sheet-fits (c .count) (setIn c) (tableIn c) (s .most) (omega (arith, s .size)) (s .bounds)
 
 -- ---- the key call's needs
 
@@ -91,11 +77,11 @@ table-sized paper c s = record { some = s .some; most = s .most; room = rw (s .s
 
 -- where no integers meet the rules as written
 pub sheet-refuted : (c : Contents) → FineSheet c → ((σ : Assignment) → rulesOf c σ → ⊥) → refuted (c .count) (tableIn c) ≡ true
-sheet-refuted c s none = refuted-exactly (c .count) (tableIn c) (s .fits) .1 (λ σ m. none σ (s .held .meaning σ .0 m))
+sheet-refuted c s none = refuted-exactly (c .count) (tableIn c) (sheet-ample c s) .1 (λ σ m. none σ (s .held .meaning σ .0 m))
 
 -- only there
 pub sheet-unmet : (c : Contents) → FineSheet c → refuted (c .count) (tableIn c) ≡ true → (σ : Assignment) → rulesOf c σ → ⊥
-sheet-unmet c s e σ m = refuted-exactly (c .count) (tableIn c) (s .fits) .0 e σ (s .held .meaning σ .1 m)
+sheet-unmet c s e σ m = refuted-exactly (c .count) (tableIn c) (sheet-ample c s) .0 e σ (s .held .meaning σ .1 m)
 
 -- and where some do
 pub sheet-met : (c : Contents) → FineSheet c → (σ : Assignment) → rulesOf c σ → refuted (c .count) (tableIn c) ≡ false
@@ -124,43 +110,16 @@ key-meaning c s σ₀ m σ = (
     hidden = hiddenIn (setIn c)
 
     exact : Satisfies (c .count) (keyIn c) σ ↔ SheetAllows hidden (Satisfies (c .count) (tableIn c)) σ
-    exact = key-exact hidden (c .count) (tableIn c) σ₀ (hide-ample hidden (c .count) (tableIn c) (s .fits)) (s .held .meaning σ₀ .1 m) σ
+    exact = key-exact hidden (c .count) (tableIn c) σ₀ (hide-ample hidden (c .count) (tableIn c) (sheet-ample c s)) (s .held .meaning σ₀ .1 m) σ
 
--- as many quantities are hidden as the list has
-hidden-count : (c : Contents) → FineSheet c → hiddenCount (hiddenIn (setIn c)) (c .count) ≡ length (c .hiddens)
-hidden-count c s = sym (list-count (hiddenIn (setIn c)) (c .count)) ∙ ap length (s .back)
-
--- its bounds are at most this in magnitude
-pub key-bounds : (c : Contents) → FineSheet c → WordsWithin (blockStart (c .count)) (pos (contentsLimit Sheet c * 2 ^ length (c .hiddens))) (keyIn c)
-key-bounds c s =
-    rw (hidden-count c s) at (key-within (hiddenIn (setIn c)) (c .count) (contentsLimit Sheet c) (tableIn c) (omega (arith, s .size)) (s .bounds))
-
--- whatever is hidden, below 2 ^ 62
-pub limit-most : (c : Contents) → FineSheet c → contentsLimit Sheet c * 2 ^ length (c .hiddens) < 2 ^ 62
-limit-most c s =
-    let most : length (c .hiddens) ≤ c .count = omega (arith, hidden-count c s, count-most (hiddenIn (setIn c)) (c .count)) in
-    omega (
-      arith,
-      mul-le-mul-left (contentsLimit Sheet c) (pow-mono {i = length (c .hiddens)} {j = c .count} most),
-      add-mul (contentsLimit Sheet c) 1 (2 ^ c .count),
-      limit-doubled (c .count) (setIn c) (s .most),
-    )
-
--- so the numeral of each has at most 20 bytes
-bound-width : (B : ℕ) (w : ℤ) → B < 2 ^ 62 → Within (pos B) w → length (signedDecimal w) ≤ 20
-unfolding positivePart negativePart
-bound-width B (pos v) l h = signed-width 18 (pos v) (omega (arith, within-to h))
-bound-width B (negsuc v) l h = signed-width 18 (negsuc v) (omega (arith, within-to h))
-
--- and its text has no more than the longest that can be written
-pub key-text-length : (c : Contents) → FineSheet c → length (writtenText (c .count) (setIn c) (keyIn c)) ≤ maxWritten
-key-text-length c s =
-    longest (c .count) (setIn c) (keyIn c) 20 (s .most)
-    (λ k h l e. bound-width (contentsLimit Sheet c * 2 ^ length (c .hiddens)) (wordAt (keyIn c) k) (limit-most c s) (key-bounds c s .each k h l e))
-
--- and is never too long for the reader
-pub key-text-short : (c : Contents) → FineSheet c → length (writtenText (c .count) (setIn c) (keyIn c)) ≤ maxText
-key-text-short c s = key-short (c .count) (setIn c) (keyIn c) (s .most) (omega (arith, key-length c s)) (record {
+-- it is like a key: it names visible quantities alone, and its bounds are in a script's limit
+pub key-like : (c : Contents) → FineSheet c → KeyLike (c .count) (setIn c) (keyIn c)
+key-like c s = record {
   visible = key-visible (hiddenIn (setIn c)) (c .count) (tableIn c) (omega (arith, s .size));
-  growth = key-within (hiddenIn (setIn c)) (c .count) (contentsLimit Sheet c) (tableIn c) (omega (arith, s .size)) (s .bounds);
-})
+  growth = rw (script-limit (c .count) (setIn c))
+      at (key-within (hiddenIn (setIn c)) (c .count) (contentsLimit Sheet c) (tableIn c) (omega (arith, s .size)) (s .bounds));
+}
+
+-- its text is never too long for the reader
+pub key-text-short : (c : Contents) → FineSheet c → length (writtenText (c .count) (setIn c) (keyIn c)) ≤ maxText
+key-text-short c s = key-short (c .count) (setIn c) (keyIn c) (s .most) (omega (arith, key-length c s)) (key-like c s)

@@ -31,6 +31,7 @@ use Rattle.scripts.specs.declared.reply.Subject.the-variants.{Sheet as O
 use Rattle.scripts.specs.declared.reply.Subject.the-variants.{Script as OfScript}
 use Rattle.scripts.specs.declared.reply.TextMarking.{TextMarking}
 use Rattle.scripts.specs.declared.reply.TextMarking.the-variants.{Marked, Refused}
+use Rattle.scripts.specs.Meaning.{Room}
 use Rattle.scripts.specs.Marking.{roomChecks, sameHeaders}
 
 -- the checks of two texts that are fine but for the script's names: 6, and 7 for a script whose n or hidden set is not the sheet's
@@ -57,13 +58,6 @@ checkedPair (Passed n set m body) (Passed script-n script-set script-m script-bo
     })
 
 -- ---- what marking asks of texts that passed
-
--- what is lent has words enough for n quantities
-pub record Room (n : ℕ) (lent : Lengths) : Type 0 where
-  pub sheet-room : blockStart n ≤ lent .sheet
-  pub script-room : blockStart n ≤ lent .script
-  pub workspace-room : workspaceSize n ≤ lent .workspace
-  pub values-room : n ≤ lent .values
 
 -- both texts are fine, with this n and hidden set, so many rules each, and rule lines that begin there; and there is room for them
 pub record PassedPair (sheet script : List ℕ) (lent : Lengths) (p : Pair) : Type 0 where

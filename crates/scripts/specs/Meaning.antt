@@ -9,14 +9,17 @@ use Rattle.places.specs.Numbering.{blockStart}
 use Rattle.rules.specs.declared.paper.Paper.the-variants.{Sheet, Script}
 use Rattle.rules.specs.declared.refusal.Refusal.{Refusal}
 use Rattle.rules.specs.declared.refusal.Refusal.the-variants.{TooShort, Mismatch}
-use Rattle.rules.specs.Hidden.{setOf, isListed}
+use Rattle.rules.specs.Hidden.{hiddenIn, setOf, isListed}
 use Rattle.rules.specs.Limits.{maxQuantities}
+use Rattle.rules.specs.Meaning.{Assignment}
 use Rattle.rules.specs.Refusing.{Needs, passed, _or_then_, RefusedBy, AllMet}
 use Rattle.tables.specs.Tables.{tableOf}
 use Rattle.tables.specs.Meaning.{NoneNames}
 use Rattle.lines.specs.Spelling.{writtenRules}
 use Rattle.reading.specs.Texts.{Contents}
-use Rattle.reading.specs.Meaning.{Reads, Readable, FailsFor}
+use Rattle.reading.specs.Meaning.{Reads, Readable, rulesOf, FailsFor}
+use Rattle.writing.specs.Writing.{writtenText}
+use Rattle.keys.specs.Keys.{keyOf}
 use Rattle.marking.specs.Meaning.{workspaceSize}
 use Rattle.scripts.specs.declared.room.Lengths.{Lengths}
 use Rattle.scripts.specs.declared.reply.Subject.{Subject}
@@ -24,12 +27,15 @@ use Rattle.scripts.specs.declared.reply.Subject.the-variants.{Both}
 use Rattle.scripts.specs.declared.reply.Subject.the-variants.{Sheet as OfSheet}
 use Rattle.scripts.specs.declared.reply.Subject.the-variants.{Script as OfScript}
 
--- the hidden set and the table of contents
+-- the hidden set, the table and its plain key, of contents
 abbrev pub setIn : Contents → ℕ
 setIn c = setOf (c .hiddens)
 
 abbrev pub tableIn : Contents → List ℤ
 tableIn c = tableOf (c .count) (writtenRules (c .written))
+
+abbrev pub keyIn : Contents → List ℤ
+keyIn c = keyOf (hiddenIn (setIn c)) (c .count) (tableIn c)
 
 -- a script fits a sheet: it has its n and its hidden list, and no rule names a hidden quantity
 pub record Matches (sheet script : Contents) : Type 0 where
@@ -86,3 +92,20 @@ abbrev pub RefusedPair : List ℕ → List ℕ → Lengths → Subject → Refus
 RefusedPair sheet script lent OfSheet f = FailsFor Sheet sheet f
 RefusedPair sheet script lent OfScript f = Readable Sheet sheet × FailsFor Script script f
 RefusedPair sheet script lent Both f = PairFails sheet script lent f
+
+-- ---- a sheet's own key
+
+-- what is lent has words enough for n quantities
+pub record Room (n : ℕ) (lent : Lengths) : Type 0 where
+  pub sheet-room : blockStart n ≤ lent .sheet
+  pub script-room : blockStart n ≤ lent .script
+  pub workspace-room : workspaceSize n ≤ lent .workspace
+  pub values-room : n ≤ lent .values
+
+-- the script is the writer's text of the plain key of its sheet, a fine text whose rules some integers satisfy
+pub record OwnKeyText (sheet script : List ℕ) : Type 0 where
+  pub contents : Contents
+  pub reads : Reads Sheet sheet contents
+  pub integers : Assignment
+  pub satisfied : rulesOf contents integers
+  pub text : script ≡ writtenText (contents .count) (setIn contents) (keyIn contents)

@@ -13,6 +13,8 @@ use Rattle.rules.specs.declared.refusal.Refusal.{Refusal}
 use Rattle.rules.specs.Hidden.{hiddenIn, isListed}
 use Rattle.rules.specs.Limits.{maxQuantities}
 use Rattle.rules.specs.Refusal.{Returned, refusedAs}
+use Rattle.marking.specs.declared.verdict.Verdict.the-variants.{Equal}
+use Rattle.marking.specs.Verdicts.{verdictReturned}
 use Rattle.marking.specs.Meaning.{VerdictMeans, workspaceSize}
 use Rattle.reading.specs.Texts.{Contents}
 use Rattle.reading.specs.Meaning.{Reads, Readable, rulesOf}
@@ -21,7 +23,7 @@ use Rattle.scripts.specs.declared.room.Lengths.{Lengths}
 use Rattle.scripts.specs.declared.reply.Subject.{Subject}
 use Rattle.scripts.specs.declared.reply.TextMarking.{TextMarking}
 use Rattle.scripts.specs.Replies.{textsReturned, textNumber, textValue, textCounts, textSubjects, isTextMarked, isTextShown}
-use Rattle.scripts.specs.Meaning.{lengthsOf, ownLengths, setIn, tableIn, AcceptedPair, RefusedPair}
+use Rattle.scripts.specs.Meaning.{lengthsOf, ownLengths, setIn, tableIn, AcceptedPair, RefusedPair, Room, OwnKeyText}
 use Rattle.scripts.specs.Marking.{textsReply, countIn}
 
 -- what is promised of two texts that are accepted: the hidden set and the tables are what the texts write, and a verdict that is returned so, with these
@@ -48,6 +50,8 @@ pub record TextsJudged (sheet script : List ℕ) (lent : Lengths) (r : TextMarki
   pub counts : (t : AcceptedPair sheet script lent) → textCounts r ≡ t .of-sheet .count ∷ []
   -- demand 3, with the rule and the assignment
   pub judged : (t : AcceptedPair sheet script lent) → PairJudged t (textsReturned r) values
+  -- the text of a sheet's own key, with the lent words there, is accepted and found equal
+  pub own-key : (k : OwnKeyText sheet script) → Room (k .contents .count) lent → textsReturned r ≡ verdictReturned Equal
 
 -- two texts marked. The words that the sheet's n needs of the tables and the workspace are free after every reply; the assignment is written for loose and
 -- tight alone; no word past these changes, and none at all where the sheet's text is refused, whose n is not known

@@ -1,0 +1,125 @@
+-- The text of a sheet's own key, read as its script, is accepted and found equal: every line of it is fine in a script's limit, it is not too long, it names no hidden quantity,
+-- and by demand 2 its rules allow what the sheet allows. Assumes nothing.
+use mathlib.Core.Path.{_≡_, refl, _∙_}
+use mathlib.Core.Bool.{Bool, true, false, cond}
+use mathlib.Core.List.{List, [], _∷_}
+use Prim.Native.Nat.{ℕ, suc, _+_, _<_}
+use native.Mathlib.Nat.{add-zero, zero-add, add-suc, suc-add}
+use native.Mathlib.Omega.{arith}
+use lib.IntN.{ℤ}
+use lib.ListN.{length, take}
+use Rattle.words.specs.Change.{wordAt}
+use Rattle.places.specs.Numbering.{blockStart}
+use Rattle.rules.specs.declared.paper.Paper.the-variants.{Sheet, Script}
+use Rattle.rules.specs.Hidden.{hiddenIn}
+use Rattle.rules.specs.Limits.{boundLimit}
+use Rattle.rules.specs.Meaning.{Assignment, names}
+use Rattle.tables.specs.Places.{ruleAt}
+use Rattle.tables.specs.Tables.{hasRule}
+use Rattle.tables.specs.Meaning.{HoldsRule, ruleIn, NamesVisible, NoneNames}
+use Rattle.tables.proofs.Tests.{clash}
+use Rattle.lines.specs.Spelling.{writtenRules}
+use Rattle.reading.specs.Texts.{Contents}
+use Rattle.reading.specs.Meaning.{Reads, rulesOf}
+use Rattle.writing.specs.Writing.{writtenOf, rulesAt, tableRules, writtenText}
+use Rattle.writing.proofs.Meanings.{written-rule, front-word, table-meaning}
+use Rattle.writing.proofs.Back.{spells-within}
+use Rattle.marking.specs.declared.verdict.Verdict.the-variants.{Equal}
+use Rattle.marking.specs.Verdicts.{verdictReturned}
+use Rattle.marking.specs.Meaning.{AllowSame}
+use Rattle.marking.proofs.OwnKeys.{is-equal}
+use Rattle.scripts.specs.declared.room.Lengths.{Lengths}
+use Rattle.scripts.specs.declared.reply.TextMarking.{TextMarking}
+use Rattle.scripts.specs.declared.reply.TextMarking.the-variants.{Marked, Refused}
+use Rattle.scripts.specs.Replies.{textsReturned, isTextMarked}
+use Rattle.scripts.specs.Meaning.{setIn, keyIn, Matches, AcceptedPair, Room, OwnKeyText}
+use Rattle.scripts.specs.Promises.{PairJudged}
+use Rattle.scripts.proofs.Sheets.{FineSheet, fine-table, key-length, key-meaning, key-like, key-text-short}
+
+-- ---- it is fine as a script
+
+-- the contents that a key's text has
+abbrev pub keyContents : Contents → Contents
+keyContents c = record { count = c .count; hiddens = c .hiddens; written = tableRules (c .count) (keyIn c) }
+
+pub key-reads : (c : Contents) → FineSheet c → Reads Script (writtenText (c .count) (setIn c) (keyIn c)) (keyContents c)
+key-reads c s = record {
+  small = key-text-short c s;
+  spelled = rw (s .back) at (spells-within (c .count) (setIn c) (keyIn c) (s .some) (s .most) (boundLimit Script (c .count) (setIn c)) (key-like c s .growth));
+}
+
+-- ---- no rule names a hidden quantity
+
+-- no word that holds a rule has one that names q, the first being the word of place k
+abbrev EachSpares : ℕ → ℕ → List ℤ → Type 0
+EachSpares q k t = (j : ℕ) → j < length t → hasRule (wordAt t j) ≡ true → names q (ruleAt (k + j) (wordAt t j)) ≡ false
+
+-- then none of the rules that words hold names it
+words-spare : (q k : ℕ) (t : List ℤ) → EachSpares q k t → NoneNames q (writtenRules (rulesAt k t))
+unfolding rulesAt
+words-spare q k [] f = tt
+words-spare q k (w ∷ t) f = go (words-spare q (suc k) t (λ j l e. rw (suc-add k j, ← add-suc k j) (f (suc j) (omega arith) e))) (hasRule w) refl
+  where
+    go : NoneNames q (writtenRules (rulesAt (suc k) t)) → (b : Bool) → hasRule w ≡ b
+        → NoneNames q (writtenRules (cond b (writtenOf (ruleAt k w) ∷ rulesAt (suc k) t) (rulesAt (suc k) t)))
+    go ih true e = (rw (written-rule (ruleAt k w), ← add-zero k) (f 0 (omega arith) e), ih)
+    go ih false e = ih
+
+-- the rules of a table that names visible quantities alone name no hidden one
+table-spares : (n : ℕ) (hidden : ℕ → Bool) (t : List ℤ) → NamesVisible n hidden t → (q : ℕ) → hidden q ≡ true
+    → NoneNames q (writtenRules (tableRules n t))
+table-spares n hidden t v q h = words-spare q 0 (take (blockStart n) t) each
+  where
+    spared : (k : ℕ) → HoldsRule n t k → (b : Bool) → names q (ruleIn t k) ≡ b → b ≡ false
+    spared k p true e = clash h (v .each k p q e)
+    spared k p false e = refl
+
+    each : EachSpares q 0 (take (blockStart n) t)
+    each k l e =
+        let w = front-word (blockStart n) t k l in
+        rw (zero-add k, w .2) (spared k (record { inside = w .0; there = w .1; rule = rw (w .2) at e }) (names q (ruleIn t k)) refl)
+
+-- so none of a key's does
+pub key-spares : (c : Contents) → FineSheet c → (q : ℕ) → hiddenIn (setIn c) q ≡ true → NoneNames q (writtenRules (tableRules (c .count) (keyIn c)))
+key-spares c s = table-spares (c .count) (hiddenIn (setIn c)) (keyIn c) (key-like c s .visible)
+
+-- so it fits its sheet
+key-matches : (c : Contents) → FineSheet c → Matches c (keyContents c)
+key-matches c s = record { count = refl; hiddens = refl; visible = λ q e. key-spares c s q (s .members q ∙ e) }
+
+-- ---- what it allows
+
+-- demand 2, of the rules that it writes
+pub key-rules : (c : Contents) → FineSheet c → (σ₀ : Assignment) → rulesOf c σ₀ → AllowSame (hiddenIn (setIn c)) (rulesOf c) (rulesOf (keyContents c))
+key-rules c s σ₀ m σ =
+    let w = table-meaning (c .count) (keyIn c) (omega (arith, key-length c s)) σ in
+    let k = key-meaning c s σ₀ m σ in
+    (λ a. k .0 (w .1 a), λ a. w .0 (k .1 a))
+
+-- ---- the reply
+
+-- its number tells equal
+reply-equal : (r : TextMarking) → isTextMarked r ≡ true → textsReturned r .number ≡ 100 → textsReturned r ≡ verdictReturned Equal
+reply-equal (Marked n v) m e = is-equal v e
+reply-equal (Refused p f) m e = clash {b = false} m refl
+
+module _ (sheet script : List ℕ) (lent : Lengths) (k : OwnKeyText sheet script) (room : Room (k .contents .count) lent) where
+  abbrev c : Contents
+  c = k .contents
+
+  fine : FineSheet c
+  fine = fine-table Sheet c (k .reads .spelled .fine)
+
+  own-accepted : AcceptedPair sheet script lent
+  own-accepted = record {
+    of-sheet = c;
+    of-script = keyContents c;
+    sheet-reads = k .reads;
+    script-reads = rw (k .text) (key-reads c fine);
+    met = (room .sheet-room, (room .script-room, (room .workspace-room, (room .values-room, (key-matches c fine, tt)))));
+  }
+
+  pub own-equal : (r : TextMarking) (values : List ℤ) → (AcceptedPair sheet script lent → isTextMarked r ≡ true)
+      → ((t : AcceptedPair sheet script lent) → PairJudged t (textsReturned r) values) → textsReturned r ≡ verdictReturned Equal
+  own-equal r values marked judged =
+      reply-equal r (marked own-accepted) (judged own-accepted .means .demand .equal .1 (key-rules c fine (k .integers) (k .satisfied)))

@@ -16,10 +16,10 @@ use Rattle.integers.proofs.Parts.{linear}
 use Rattle.words.specs.Change.{wordAt, lowered}
 use Rattle.places.specs.Numbering.{blockStart, placeOfOne, placeOfPair, placeOfTwo, findTwo}
 use Rattle.rules.specs.declared.paper.Paper.{Paper}
-use Rattle.rules.specs.declared.paper.Paper.the-variants.{Sheet}
+use Rattle.rules.specs.declared.paper.Paper.the-variants.{Sheet, Script}
 use Rattle.rules.specs.declared.refusal.Refusal.{Refusal}
 use Rattle.rules.specs.declared.refusal.Refusal.the-variants.{Malformed, OutOfLimit, Cancelling, TooShort}
-use Rattle.rules.specs.Hidden.{setOf}
+use Rattle.rules.specs.Hidden.{setOf, hiddenCount}
 use Rattle.rules.specs.Limits.{boundLimit, noRule}
 use Rattle.rules.specs.Refusal.{Returned}
 use Rattle.rules.specs.Steps.{ruleOf, halvedOf}
@@ -37,7 +37,7 @@ use Rattle.reading.specs.declared.check.Checked.the-variants.{Refused as
 use Rattle.reading.specs.declared.read.Reading.{Reading}
 use Rattle.reading.specs.declared.read.Reading.the-variants.{Accepted, Refused}
 use Rattle.reading.specs.Texts.{Contents, linesText, headerText, sheetText}
-use Rattle.reading.specs.Meaning.{Fine, Reads, OutsideAt, CancelsAt, outside-at, cancels-at, FailsFor, AcceptedAs}
+use Rattle.reading.specs.Meaning.{Fine, contentsLimit, FineLines, Reads, OutsideAt, CancelsAt, outside-at, cancels-at, FailsFor, AcceptedAs}
 use Rattle.reading.specs.Reading.{onward, rulesFrom, linesFrom, checkText, checkedOf, replyTo, readReply, filled, readTable, readingNumber, readingValue}
 use Rattle.reading.specs.Promises.{TextChecked, ReadInto}
 use Rattle.reading.proofs.Means.{text-means, reads-check, reads-same}
@@ -61,7 +61,7 @@ putting = tt
 
 unfoldable pub reading : Unit {0}
 unfolding
-    andThen expect digitsFrom numeralOf cancelling setOf boundLimit
+    andThen expect digitsFrom numeralOf cancelling setOf hiddenCount boundLimit
     ended countLine membersAfter membersFrom listOf hiddenLine termOf boundAt boundLine afterTerm ruleLine judged countJudged hiddenJudged ruleJudged
     onward rulesFrom linesFrom checkText replyTo readReply filled readTable
 reading = tt
@@ -93,15 +93,12 @@ meets f w u = record { formed = f; within = w; uncancelled = u }
 
 -- it is spelled so, and every line is fine, on either paper
 pub sheetA-reads : (paper : Paper) → Reads paper textA contentsA
-unfolding spelling lineWithin cancelling boundLimit
-sheetA-reads paper = record {
-  small = lit≤ tt;
-  spelled = record {
-    text = refl;
-    fine =
-        (meets tt refl refl, (meets (lit≤ tt, tt) refl refl, (meets tt refl refl, (meets tt refl refl, (meets tt refl refl, (meets tt refl refl, tt))))));
-  };
-}
+unfolding spelling lineWithin cancelling setOf hiddenCount boundLimit
+sheetA-reads paper = record { small = lit≤ tt; spelled = record { text = refl; fine = fine paper } }
+  where
+    fine : (paper : Paper) → FineLines (contentsLimit paper contentsA) contentsA
+    fine Sheet = (meets tt refl refl, (meets (lit≤ tt, tt) refl refl, (meets tt refl refl, (meets tt refl refl, (meets tt refl refl, (meets tt refl refl, tt))))))
+    fine Script = (meets tt refl refl, (meets (lit≤ tt, tt) refl refl, (meets tt refl refl, (meets tt refl refl, (meets tt refl refl, (meets tt refl refl, tt))))))
 
 -- so it passes: 3 quantities, hidden 2, 3 rules whose lines begin at byte 30
 pub sheetA-passed : (paper : Paper) → TextChecked paper textA (Passed 3 2 3 30)

@@ -1,9 +1,11 @@
 -- The limit of a paper's bounds: the reader tells every number up to it, and none is the no-rule word. Assumes nothing.
 use mathlib.Core.Path.{_≡_}
-use Prim.Native.Nat.{ℕ, _<_, _≤_}
+use Prim.Native.Nat.{ℕ, _*_, _^_, _<_, _≤_}
+use native.Mathlib.Nat.{mul-le-mul-left}
 use native.Mathlib.Omega.{arith}
 use lib.Dec.{T, leb}
 use lib.IntN.{ℤ, pos, natAbs}
+use lib.Pow.{pow-mono}
 use lib.Signed.{nonNeg}
 use mir.Syntax.{w64}
 use mir.Val.{toZ, ofZ, Fits}
@@ -11,7 +13,10 @@ use borrow.Author.Tests.{leb-true}
 use Rattle.integers.proofs.Parts.{word-value}
 use Rattle.numerals.specs.Decimal.{cap}
 use Rattle.rules.specs.declared.paper.Paper.{Paper}
-use Rattle.rules.specs.Limits.{maxQuantities, boundLimit}
+use Rattle.rules.specs.declared.paper.Paper.the-variants.{Sheet, Script}
+use Rattle.rules.specs.Hidden.{hiddenIn, hiddenCount}
+use Rattle.rules.specs.Limits.{maxQuantities, maxBound, boundLimit}
+use Rattle.rules.proofs.Counts.{count-most}
 use Rattle.tables.proofs.Tests.{both-true}
 use Rattle.lines.specs.Spelling.{lineWithin}
 use Rattle.lines.proofs.CappedIntegers.{cap-word}
@@ -21,7 +26,10 @@ use Rattle.reading.specs.Meaning.{contentsLimit, FineLines}
 -- with n in its range it is below what numerals are told to
 pub limit-told : (paper : Paper) (n set : ℕ) → n ≤ maxQuantities → boundLimit paper n set < cap
 unfolding boundLimit
-limit-told paper n set h = omega arith
+limit-told Sheet n set h = omega arith
+limit-told Script n set h =
+    let few : hiddenCount (hiddenIn set) n ≤ maxQuantities = omega (arith, count-most (hiddenIn set) n) in
+    omega (arith, mul-le-mul-left maxBound (pow-mono {i = hiddenCount (hiddenIn set) n} {j = maxQuantities} few))
 
 -- as it is in contents that are fine
 pub fine-count : (limit : ℕ) (c : Contents) → FineLines limit c → (1 ≤ c .count) × (c .count ≤ maxQuantities)

@@ -16,3 +16,4 @@ pub mod SignedNumbers
 pub mod RuleForms
 pub mod RuleLimits
 pub mod SetMembers
+pub mod SetCounts

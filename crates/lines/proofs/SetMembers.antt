@@ -26,8 +26,8 @@ pub set-more : (j : ℕ) (qs : List ℕ) → setOf (suc j ∷ qs) ≡ 2 ^ j + se
 unfolding setOf
 set-more j qs = ap (λ (i : ℕ). 2 ^ i + setOf qs) (omega arith)
 
--- not where the list is past it
-member-none : (q least : ℕ) (ps : List ℕ) → q < least → IncreasingFrom least ps → isListed q ps ≡ false
+-- a number that the list is past is not in it
+pub member-none : (q least : ℕ) (ps : List ℕ) → q < least → IncreasingFrom least ps → isListed q ps ≡ false
 unfolding isListed
 member-none q least [] h i = refl
 member-none q least (p ∷ ps) h i = rw (ne-eqb q p (omega (arith, i .0))) (member-none q (suc p) ps (omega (arith, i .0)) (i .1))

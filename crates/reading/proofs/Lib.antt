@@ -23,3 +23,4 @@ pub mod Checking
 pub mod ReadTexts
 pub mod Frauds
 pub mod Edges
+pub mod Ranges

@@ -1,5 +1,5 @@
--- What a written text means to the reader: every line of it is fine, so within the sheet's limit it is accepted with n, the hidden set and the table's
--- words. Assumes nothing.
+-- What a written text means to the reader: every line of it is fine, so within a paper's limit it is accepted as that paper with n, the hidden set and the
+-- table's words. Assumes nothing.
 use mathlib.Core.Path.{_≡_, refl}
 use mathlib.Core.Bool.{Bool, true, false, cond}
 use mathlib.Core.List.{List, [], _∷_}
@@ -17,13 +17,14 @@ use Rattle.places.specs.Numbering.{blockStart}
 use Rattle.rules.specs.declared.rule.Rule.{Rule}
 use Rattle.rules.specs.declared.rule.Rule.the-variants.{One, Two, Nothing}
 use Rattle.rules.specs.Hidden.{setWithin}
-use Rattle.rules.specs.declared.paper.Paper.the-variants.{Sheet}
-use Rattle.rules.specs.Limits.{boundLimit, maxQuantities, maxRules}
+use Rattle.rules.specs.declared.paper.Paper.{Paper}
+use Rattle.rules.specs.declared.paper.Paper.the-variants.{Sheet, Script}
+use Rattle.rules.specs.Limits.{boundLimit, maxQuantities, maxRules, maxText}
 use Rattle.rules.specs.Literal.{quantityOf}
 use Rattle.rules.specs.Meaning.{boundOf}
 use Rattle.tables.specs.Places.{ruleAt, HasPlace}
 use Rattle.tables.specs.Tables.{hasRule}
-use Rattle.tables.specs.Meaning.{WordsWithin}
+use Rattle.tables.specs.Meaning.{WordsWithin, KeyLike}
 use Rattle.tables.proofs.Places.{ruleAt-bound, ruleAt-hasPlace}
 use Rattle.lines.specs.Spelling.{Written, rule, quantityWithin, lineWithin, cancelling}
 use Rattle.lines.specs.Lines.{accepted}
@@ -33,10 +34,11 @@ use Rattle.reading.specs.Meaning.{ruled, linesOf, Fine, AllFine, Spells, Reads}
 use Rattle.reading.proofs.Means.{reads-check}
 use Rattle.reading.specs.Reading.{checkText, replyTo, readReply, filled, readTable}
 use Rattle.writing.specs.Writing.{writtenOf, rulesAt, tableRules, hiddenList, contentsOf, writtenText}
-use Rattle.writing.specs.Promises.{ReadBack}
+use Rattle.writing.specs.Promises.{ReadBack, ReadAsScript}
 use Rattle.writing.proofs.Meanings.{front-word, Clean, table-back, AreWords}
 use Rattle.writing.proofs.Members.{hidden-increasing, hidden-within, hidden-back}
 use Rattle.writing.proofs.Lengths.{rules-most, sheet-limit, longest-sheet}
+use Rattle.writing.proofs.KeyLengths.{key-short}
 
 -- ---- rules
 
@@ -125,12 +127,19 @@ module _ (n set : ℕ) (t : List ℤ) (some : 1 ≤ n) (most : n ≤ maxQuantiti
   pub spells-within : (limit : ℕ) → WordsWithin (blockStart n) (pos limit) t → Spells limit (writtenText n set t) (contentsOf n set t)
   spells-within limit words = written-spells limit (λ k b c e. bound-magnitude limit (wordAt t k) (words .each k b c e))
 
-  -- of words in the sheet's limit, with a hidden set in its range; such a text is fine, and these are its contents
-  pub written-reads : setWithin n set ≡ true → WordsWithin (blockStart n) (pos (boundLimit Sheet n set)) t → Reads Sheet (writtenText n set t) (contentsOf n set t)
-  written-reads within words = record {
-    small = longest-sheet n set t most (rw (sheet-limit n set) at words);
-    spelled = rw (hidden-back n set within) (spells-within (boundLimit Sheet n set) words);
+  -- of words in a paper's limit, with a hidden set in its range: where it is not too long, such a text is fine, and these are its contents
+  pub written-reads : (paper : Paper) → setWithin n set ≡ true → WordsWithin (blockStart n) (pos (boundLimit paper n set)) t
+      → length (writtenText n set t) ≤ maxText → Reads paper (writtenText n set t) (contentsOf n set t)
+  written-reads paper within words short = record {
+    small = short;
+    spelled = rw (hidden-back n set within) (spells-within (boundLimit paper n set) words);
   }
+
+  -- ---- as a sheet
+
+  -- it is never too long
+  pub sheet-reads : setWithin n set ≡ true → WordsWithin (blockStart n) (pos (boundLimit Sheet n set)) t → Reads Sheet (writtenText n set t) (contentsOf n set t)
+  sheet-reads within words = written-reads Sheet within words (longest-sheet n set t most (rw (sheet-limit n set) at words))
 
   -- read into any table that is long enough, it gives n, the hidden set and the table's words back
   pub written-back : setWithin n set ≡ true → WordsWithin (blockStart n) (pos (boundLimit Sheet n set)) t → blockStart n ≤ length t
@@ -139,7 +148,22 @@ module _ (n set : ℕ) (t : List ℤ) (some : 1 ≤ n) (most : n ≤ maxQuantiti
   written-back within words room clean u enough = record { reply = reply; words = rw (reply, checked, table-back n t room clean) }
     where
       checked : checkText Sheet (writtenText n set t) ≡ accepted (contentsOf n set t) []
-      checked = reads-check Sheet (writtenText n set t) (contentsOf n set t) (written-reads within words)
+      checked = reads-check Sheet (writtenText n set t) (contentsOf n set t) (sheet-reads within words)
 
       reply : readReply (writtenText n set t) (length u) ≡ Accepted n set
       reply = rw (checked, le-ltb (length u) (blockStart n) enough, hidden-back n set within)
+
+  -- ---- as a script
+
+  -- a key's text is in the script's limit and not too long
+  pub key-reads : setWithin n set ≡ true → blockStart n ≤ length t → KeyLike n set t → Reads Script (writtenText n set t) (contentsOf n set t)
+  key-reads within room key = written-reads Script within (key .growth) (key-short n set t most room key)
+
+  -- with n, the hidden set and rules that make the table's words again
+  pub written-script : setWithin n set ≡ true → WordsWithin (blockStart n) (pos (boundLimit Script n set)) t → length (writtenText n set t) ≤ maxText
+      → blockStart n ≤ length t → Clean (blockStart n) t → ReadAsScript n set t (writtenText n set t)
+  written-script within words short room clean = record {
+    reads = written-reads Script within words short;
+    hides = hidden-back n set within;
+    words = table-back n t room clean;
+  }

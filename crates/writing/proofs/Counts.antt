@@ -13,22 +13,13 @@ use Rattle.places.specs.Numbering.{blockStart, offsetOf}
 use Rattle.places.proofs.Numbering.{blockStart-mono, blockStart-suc, block-unique, offset-unique}
 use Rattle.rules.specs.Hidden.{hiddenCount}
 use Rattle.rules.specs.Meaning.{names}
+use Rattle.rules.proofs.Counts.{count-most}
 use Rattle.tables.specs.Tables.{hasRule}
 use Rattle.tables.specs.Meaning.{ruleIn, NamesVisible}
 use Rattle.tables.proofs.Places.{own-named, four-named}
 use Rattle.tables.proofs.Tests.{clash}
 use Rattle.writing.specs.Writing.{rulesAt, tableRules}
 use Rattle.writing.proofs.Texts.{count-more, count-none}
-
--- no more are hidden than there are
-pub count-most : (hidden : ℕ → Bool) (m : ℕ) → hiddenCount hidden m ≤ m
-unfolding hiddenCount
-count-most hidden zero = omega arith
-count-most hidden (suc j) = go (count-most hidden j) (hidden (suc j))
-  where
-    go : hiddenCount hidden j ≤ j → (b : Bool) → cond b (suc (hiddenCount hidden j)) (hiddenCount hidden j) ≤ suc j
-    go h true = omega arith
-    go h false = omega arith
 
 -- the visible ones of the first m quantities
 abbrev pub visibleCount : (ℕ → Bool) → ℕ → ℕ

@@ -1,5 +1,5 @@
--- Document 01's key with a bound too large for the reader, +1-3:2000000000 over 3 quantities with 2 hidden: it is written, and its text is refused with
--- 3 at line 4. Assumes nothing.
+-- Document 01's key with a bound too large for a sheet, +1-3:2000000000 over 3 quantities with 2 hidden: it is written, and its text is refused with 3 at
+-- line 4 as a sheet and accepted as a script. Assumes nothing.
 use mathlib.Core.Path.{_≡_, refl, _∙_, ap}
 use mathlib.Core.Bool.{Bool, false, true, _||_}
 use mathlib.Core.List.{List, [], _∷_, _++_}
@@ -13,6 +13,7 @@ use Rattle.integers.proofs.Within.{within-to}
 use Rattle.integers.proofs.Parts.{positivePart, negativePart}
 use Rattle.words.specs.Change.{wordAt}
 use Rattle.places.specs.Numbering.{blockStart}
+use Rattle.rules.specs.declared.paper.Paper.the-variants.{Script}
 use Rattle.rules.specs.declared.refusal.Refusal.the-variants.{OutOfLimit}
 use Rattle.rules.specs.Refusal.{refusedAs}
 use Rattle.rules.specs.Hidden.{hiddenIn, hiddenCount}
@@ -26,12 +27,13 @@ use Rattle.numerals.specs.Bytes.{bytes}
 use Rattle.numerals.specs.Decimal.{decimalUpTo, signedDecimal}
 use Rattle.numerals.proofs.Decimals.{up-to-enough}
 use Rattle.lines.specs.Spelling.{two, termText, ruleText, joinedText, listText, valueText, lineText}
+use Rattle.lines.specs.Lines.{accepted}
 use Rattle.reading.specs.Texts.{Contents, linesText, headerText, sheetText}
-use Rattle.reading.specs.Reading.{readReply, readTable, readingReturned}
+use Rattle.reading.specs.Reading.{checkText, readReply, readTable, readingReturned}
 use Rattle.reading.proofs.Frauds.{reading}
 use Rattle.writing.specs.Writing.{writtenText}
 use Rattle.writing.specs.declared.write.Writing.the-variants.{Text}
-use Rattle.writing.specs.Promises.{FirstPast, lineAt, TextWritten}
+use Rattle.writing.specs.Promises.{FirstPast, lineAt, ReadAsScript, TextWritten}
 use Rattle.writing.proofs.Frauds.{writing}
 
 -- the key's table: +1-3 has place 11
@@ -68,12 +70,17 @@ large-spelled = rw (
 pub large-written : writtenText 3 2 largeKey ≡ largeText
 large-written = large-found ∙ large-spelled
 
--- the reader refuses it with 3 at line 4, whatever the table's length
+-- as a sheet the reader refuses it with 3 at line 4, whatever the table's length
 pub large-refused : (words : ℕ) → readingReturned (readReply largeText words) ≡ refusedAs (OutOfLimit 4)
 unfolding reading
 large-refused words = refl
 
--- which is the line of the first place that is outside the sheet's limit
+-- as a script it is accepted
+pub large-accepted : checkText Script largeText ≡ accepted largeContents []
+unfolding reading
+large-accepted = refl
+
+-- line 4 is that of the first place that is outside the sheet's limit
 pub large-first : FirstPast 3 2 largeKey 11
 unfolding blockStart boundLimit inLimit wordsInLimit positivePart negativePart
 large-first = record {
@@ -119,10 +126,14 @@ large-like = record {
   growth = wordsInLimit-within 18 (pos 2000000000) largeKey .0 refl;
 }
 
--- so whatever bytes are written for it are refused with 3 at line 4, and leave the table that they are read into
+-- so whatever bytes are written for it are refused as a sheet with 3 at line 4, and leave the table that they are read into
 pub large-past : (out : List ℕ) (m : ℕ) (out' : List ℕ) → TextWritten 3 2 largeKey out (Text m) out' → (t : List ℤ)
     → (readingReturned (readReply (take m out') (length t)) ≡ refusedAs (OutOfLimit 4)) × (readTable (take m out') t ≡ t)
 large-past out m out' w t =
     let p = w .made refl .past (w .made refl .key-short large-like) 11 (large-first .past) t in
     let line : lineAt largeKey (p .place) ≡ 4 = rw (large-place (p .place) (p .first .past .holds)) large-line in
     (rw line at (p .reply), p .kept)
+
+-- and are accepted as a script, whose rule makes the key's table again
+pub large-script : (out : List ℕ) (m : ℕ) (out' : List ℕ) → TextWritten 3 2 largeKey out (Text m) out' → ReadAsScript 3 2 largeKey (take m out')
+large-script out m out' w = w .made refl .script (large-like .growth) (w .made refl .key-short large-like)

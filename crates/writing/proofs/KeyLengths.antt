@@ -16,15 +16,16 @@ use Rattle.integers.proofs.Parts.{positivePart, negativePart}
 use Rattle.words.specs.Change.{wordAt}
 use Rattle.places.specs.Numbering.{blockStart}
 use Rattle.places.proofs.Numbering.{blockStart-mono}
-use Rattle.rules.specs.declared.paper.Paper.the-variants.{Sheet}
+use Rattle.rules.specs.declared.paper.Paper.the-variants.{Script}
 use Rattle.rules.specs.Hidden.{hiddenIn, hiddenCount}
 use Rattle.rules.specs.Limits.{boundLimit, maxQuantities, maxBound, maxText}
+use Rattle.rules.proofs.Counts.{count-most}
 use Rattle.tables.specs.Meaning.{WordsWithin, KeyLike}
 use Rattle.numerals.specs.Decimal.{signedDecimal}
 use Rattle.numerals.proofs.Decimals.{signed-width}
 use Rattle.writing.specs.Writing.{tableRules, writtenText}
-use Rattle.writing.proofs.Counts.{count-most, visibleCount, rules-visible}
-use Rattle.writing.proofs.Lengths.{NumeralsWithin, longest-counted, sheet-limit, longest-sheet}
+use Rattle.writing.proofs.Counts.{visibleCount, rules-visible}
+use Rattle.writing.proofs.Lengths.{NumeralsWithin, longest-counted, longest-sheet}
 use Rattle.writing.proofs.Lines.{wordWidth}
 
 -- the largest bound that all quantities hidden would leave is still short
@@ -33,13 +34,18 @@ unfolding positivePart negativePart
 grown-width (pos v) h = signed-width 18 (pos v) (omega (arith, within-to h))
 grown-width (negsuc v) h = signed-width 18 (negsuc v) (omega (arith, within-to h))
 
--- so are a key's bounds
+-- the limit of a script's bounds goes by how many quantities are hidden
+pub script-limit : (n set : ℕ) → boundLimit Script n set ≡ maxBound * 2 ^ hiddenCount (hiddenIn set) n
+unfolding boundLimit
+script-limit n set = refl
+
+-- so the bounds in it are short, as a key's are
 pub grown-numerals : (n set : ℕ) (t : List ℤ) → n ≤ maxQuantities
-    → WordsWithin (blockStart n) (pos (boundLimit Sheet n set * 2 ^ hiddenCount (hiddenIn set) n)) t → NumeralsWithin (blockStart n) wordWidth t
+    → WordsWithin (blockStart n) (pos (boundLimit Script n set)) t → NumeralsWithin (blockStart n) wordWidth t
 grown-numerals n set t h w j b c e = grown-width (wordAt t j) (within-mono most (w .each j b c e))
   where
-    most : boundLimit Sheet n set * 2 ^ hiddenCount (hiddenIn set) n ≤ maxBound * 2 ^ maxQuantities
-    most = rw (sheet-limit n set)
+    most : boundLimit Script n set ≤ maxBound * 2 ^ maxQuantities
+    most = rw (script-limit n set)
         (mul-le-mul-left maxBound (pow-mono {i = hiddenCount (hiddenIn set) n} {j = maxQuantities} (omega (arith, count-most (hiddenIn set) n))))
 
 -- with something hidden it has no more rules than a table over 31 quantities has places
@@ -65,7 +71,7 @@ pub key-short : (n set : ℕ) (t : List ℤ) → n ≤ maxQuantities → blockSt
 key-short n set t h room key = go (eqb (hiddenCount (hiddenIn set) n) 0) refl
   where
     go : (b : Bool) → eqb (hiddenCount (hiddenIn set) n) 0 ≡ b → length (writtenText n set t) ≤ maxText
-    go true e = longest-sheet n set t h (rw (eqb-true (hiddenCount (hiddenIn set) n) 0 e, sheet-limit n set) at (key .growth))
+    go true e = longest-sheet n set t h (rw (script-limit n set, eqb-true (hiddenCount (hiddenIn set) n) 0 e) at (key .growth))
     go false e =
         let rules = key-rules n set t h room key (omega (arith, eqb-false (hiddenCount (hiddenIn set) n) 0 e)) in
         omega (arith, longest-counted n set t wordWidth keyRules h (grown-numerals n set t h (key .growth)) rules (omega arith))

@@ -34,7 +34,7 @@ use Rattle.writing.specs.Promises.{writeNeeds, TextMade, TextWritten}
 use Rattle.writing.proofs.Meanings.{AreWords, words-clean, table-meaning}
 use Rattle.writing.proofs.Lengths.{longest-any}
 use Rattle.writing.proofs.KeyLengths.{key-short}
-use Rattle.writing.proofs.Back.{spells-words, written-back}
+use Rattle.writing.proofs.Back.{spells-words, written-back, written-script}
 use Rattle.writing.proofs.Past.{written-past}
 use Rattle.writing.proofs.Numbers.{text-number, text-returned}
 
@@ -134,6 +134,7 @@ text-made n set t s w words = record {
   longest = longest-any n set t (s .most) words;
   key-short = short;
   back = λ b. written-back n set t (s .some) (s .most) w b (s .room) (words-clean (blockStart n) t words);
+  script = λ b l. written-script n set t (s .some) (s .most) w b l (s .room) (words-clean (blockStart n) t words);
   past = λ l. written-past n set t (s .some) (s .most) w l;
 }
   where

@@ -1,5 +1,5 @@
 -- What the writer promises: the reply and every byte, for every input; when it is refused; that the text is a spelling, what it means, and that it is
--- read back, or refused by the reader where a bound is too large for it.
+-- read back as a sheet or a script, or refused by the reader where a bound is too large for it.
 use mathlib.Core.Path.{_≡_}
 use mathlib.Core.Bool.{true}
 use mathlib.Core.Logic.{_↔_}
@@ -10,20 +10,21 @@ use lib.ListN.{length, take, drop}
 use Rattle.integers.specs.Bound.{Within}
 use Rattle.words.specs.Change.{wordAt}
 use Rattle.places.specs.Numbering.{blockStart}
-use Rattle.rules.specs.declared.paper.Paper.the-variants.{Sheet}
+use Rattle.rules.specs.declared.paper.Paper.the-variants.{Sheet, Script}
 use Rattle.rules.specs.declared.refusal.Refusal.the-variants.{Size, OutOfLimit, TooShort}
 use Rattle.rules.specs.Refusal.{refusedAs}
 use Rattle.rules.specs.Refusing.{Needs, passed, _or_then_, DecidedBy}
-use Rattle.rules.specs.Hidden.{setWithin}
+use Rattle.rules.specs.Hidden.{setWithin, setOf}
 use Rattle.rules.specs.Limits.{boundLimit, maxRules, maxText}
 use Rattle.rules.specs.Meaning.{Assignment}
+use Rattle.tables.specs.Tables.{tableOf}
 use Rattle.tables.specs.Meaning.{TableSized, HoldsRule, Satisfies, MeetsAll, WordsWithin, KeyLike}
 use Rattle.lines.specs.Spelling.{writtenRules}
 use Rattle.reading.specs.declared.read.Reading.the-variants.{Accepted}
-use Rattle.reading.specs.Meaning.{Spells}
+use Rattle.reading.specs.Meaning.{Spells, Reads}
 use Rattle.reading.specs.Reading.{readReply, readTable, readingReturned}
 use Rattle.writing.specs.declared.write.Writing.{Writing}
-use Rattle.writing.specs.Writing.{rulesAt, tableRules, contentsOf, writtenText, writeReply, written, textReturned, writingReturned, writingNumber, writingValue}
+use Rattle.writing.specs.Writing.{rulesAt, tableRules, hiddenList, contentsOf, writtenText, writeReply, written, textReturned, writingReturned, writingNumber, writingValue}
 
 -- ---- what writing needs
 
@@ -53,6 +54,12 @@ maxWritten = maxHeader + maxLine * maxRules
 pub record ReadBack (n set : ℕ) (table : List ℤ) (s : List ℕ) (t : List ℤ) : Type 0 where
   pub reply : readReply s (length t) ≡ Accepted n set
   pub words : readTable s t ≡ take (blockStart n) table ++ drop (blockStart n) t
+
+-- the text s of a table is accepted as a script, with n, a list of the hidden set, and rules that make the table's words again
+pub record ReadAsScript (n set : ℕ) (table : List ℤ) (s : List ℕ) : Type 0 where
+  pub reads : Reads Script s (contentsOf n set table)
+  pub hides : setOf (hiddenList n set) ≡ set
+  pub words : tableOf n (writtenRules (tableRules n table)) ≡ take (blockStart n) table
 
 -- place k holds a rule whose bound is outside the sheet's limit
 pub record PastLimit (n set : ℕ) (table : List ℤ) (k : ℕ) : Type 0 where
@@ -90,7 +97,9 @@ pub record TextMade (n set : ℕ) (table : List ℤ) (r : Writing) (s : List ℕ
   pub key-short : KeyLike n set table → length s ≤ maxText
   -- read into any table that is long enough, the text gives the table back, where its words are in the sheet's limit
   pub back : WordsWithin (blockStart n) (pos (boundLimit Sheet n set)) table → (t : List ℤ) → blockStart n ≤ length t → ReadBack n set table s t
-  -- where some bound is outside it, and the text not too long to be read, as no key's is, it is refused with 3, whatever table it is read into
+  -- read as a script, where the words are in a script's limit and the text is not too long, as no key's is, it gives the table back too
+  pub script : WordsWithin (blockStart n) (pos (boundLimit Script n set)) table → length s ≤ maxText → ReadAsScript n set table s
+  -- where some bound is outside the sheet's, and the text not too long to be read, reading it is refused with 3, whatever table it is read into
   pub past : length s ≤ maxText → (k : ℕ) → PastLimit n set table k → (t : List ℤ) → RefusedPast n set table s t
 
 -- a table and a hidden set written: refused by the first need that is not met, and then the output stays; else its first bytes, as many as are returned, are the text

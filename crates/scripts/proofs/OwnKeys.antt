@@ -12,7 +12,6 @@ use Rattle.words.specs.Change.{wordAt}
 use Rattle.places.specs.Numbering.{blockStart}
 use Rattle.rules.specs.declared.paper.Paper.the-variants.{Sheet, Script}
 use Rattle.rules.specs.Hidden.{hiddenIn}
-use Rattle.rules.specs.Limits.{boundLimit}
 use Rattle.rules.specs.Meaning.{Assignment, names}
 use Rattle.tables.specs.Places.{ruleAt}
 use Rattle.tables.specs.Tables.{hasRule}
@@ -23,7 +22,7 @@ use Rattle.reading.specs.Texts.{Contents}
 use Rattle.reading.specs.Meaning.{Reads, rulesOf}
 use Rattle.writing.specs.Writing.{writtenOf, rulesAt, tableRules, writtenText}
 use Rattle.writing.proofs.Meanings.{written-rule, front-word, table-meaning}
-use Rattle.writing.proofs.Back.{spells-within}
+use Rattle.writing.proofs.Back.{key-reads as written-key}
 use Rattle.marking.specs.declared.verdict.Verdict.the-variants.{Equal}
 use Rattle.marking.specs.Verdicts.{verdictReturned}
 use Rattle.marking.specs.Meaning.{AllowSame}
@@ -34,7 +33,7 @@ use Rattle.scripts.specs.declared.reply.TextMarking.the-variants.{Marked
 use Rattle.scripts.specs.Replies.{textsReturned, isTextMarked}
 use Rattle.scripts.specs.Meaning.{setIn, keyIn, Matches, AcceptedPair, Room, OwnKeyText}
 use Rattle.scripts.specs.Promises.{PairJudged}
-use Rattle.scripts.proofs.Sheets.{FineSheet, fine-table, key-length, key-meaning, key-like, key-text-short}
+use Rattle.scripts.proofs.Sheets.{FineSheet, fine-table, key-length, key-meaning, key-like}
 
 -- ---- it is fine as a script
 
@@ -43,10 +42,10 @@ abbrev pub keyContents : Contents → Contents
 keyContents c = record { count = c .count; hiddens = c .hiddens; written = tableRules (c .count) (keyIn c) }
 
 pub key-reads : (c : Contents) → FineSheet c → Reads Script (writtenText (c .count) (setIn c) (keyIn c)) (keyContents c)
-key-reads c s = record {
-  small = key-text-short c s;
-  spelled = rw (s .back) at (spells-within (c .count) (setIn c) (keyIn c) (s .some) (s .most) (boundLimit Script (c .count) (setIn c)) (key-like c s .growth));
-}
+key-reads c s = rw (s .back) at (written-key (c .count) (setIn c) (keyIn c) (s .some) (s .most) (s .range) (omega (arith, key-length c s)) (key-like c s))
+
+own-reads : (c : Contents) (s : List ℕ) → FineSheet c → s ≡ writtenText (c .count) (setIn c) (keyIn c) → Reads Script s (keyContents c)
+own-reads c s f e = rw e (key-reads c f)
 
 -- ---- no rule names a hidden quantity
 
@@ -115,11 +114,12 @@ module _ (sheet script : List ℕ) (lent : Lengths) (k : OwnKeyText sheet script
     of-sheet = c;
     of-script = keyContents c;
     sheet-reads = k .reads;
-    script-reads = rw (k .text) (key-reads c fine);
+    script-reads = own-reads c script fine (k .text);
     met = (room .sheet-room, (room .script-room, (room .workspace-room, (room .values-room, (key-matches c fine, tt)))));
   }
 
   pub own-equal : (r : TextMarking) (values : List ℤ) → (AcceptedPair sheet script lent → isTextMarked r ≡ true)
       → ((t : AcceptedPair sheet script lent) → PairJudged t (textsReturned r) values) → textsReturned r ≡ verdictReturned Equal
+  unfolding own-accepted
   own-equal r values marked judged =
       reply-equal r (marked own-accepted) (judged own-accepted .means .demand .equal .1 (key-rules c fine (k .integers) (k .satisfied)))

@@ -1,6 +1,6 @@
 -- A sheet's own key is accepted as its script and found equal: its bounds are in a script's limit, it names visible quantities alone, and by demand 2 it allows what the sheet
 -- allows. Assumes nothing.
-use mathlib.Core.Path.{_≡_, refl}
+use mathlib.Core.Path.{_≡_, refl, ap}
 use mathlib.Core.Bool.{true, false}
 use mathlib.Core.List.{List}
 use Prim.Native.Nat.{ℕ, _≤_}
@@ -31,13 +31,13 @@ use Rattle.marking.specs.Verdicts.{verdictNumber, verdictReturned, marki
 use Rattle.marking.specs.Meaning.{AllowSame, VerdictMeans, workspaceSize, markNeeds, OwnKey}
 
 -- the number tells equal
-pub is-equal : (v : Verdict) → verdictNumber v ≡ 100 → verdictReturned v ≡ verdictReturned Equal
+pub is-equal : (v : Verdict) → verdictNumber v ≡ 100 → v ≡ Equal
 is-equal Equal e = refl
 is-equal (Loose r) e = absurd (omega arith)
 is-equal (Tight r) e = absurd (omega arith)
 
 pub reply-equal : (r : Marking) → isMarked r ≡ true → markingReturned r .number ≡ 100 → markingReturned r ≡ verdictReturned Equal
-reply-equal (Marked v) m e = is-equal v e
+reply-equal (Marked v) m e = ap verdictReturned (is-equal v e)
 reply-equal (Refused f) m e = clash {b = false} m refl
 
 module _ (n set : ℕ) (sheet script : List ℤ) (o : OwnKey n set sheet script) where

@@ -16,7 +16,7 @@ abbrev pub Alike : Solutions → Solutions → Type 0
 Alike A B = (σ : Assignment) → A σ ↔ B σ
 
 -- the other way round
-alike-back : {A B : Solutions} → Alike A B → Alike B A
+pub alike-back : {A B : Solutions} → Alike A B → Alike B A
 alike-back h σ = (h σ .1, h σ .0)
 
 -- what one sheet allows the other does
@@ -31,8 +31,8 @@ breaks r h b = record { assignment = b .assignment; satisfies = h (b .assignment
 
 module _ {A B C D : Solutions} (hidden : ℕ → Bool) (h : Alike A B) (g : Alike C D) where
   -- equal
-  same : AllowSame hidden A C → AllowSame hidden B D
-  same s σ = (λ d. allows hidden h σ (s σ .0 (g σ .1 d)), λ b. g σ .0 (s σ .1 (allows hidden (alike-back h) σ b)))
+  pub alike-same : AllowSame hidden A C → AllowSame hidden B D
+  alike-same s σ = (λ d. allows hidden h σ (s σ .0 (g σ .1 d)), λ b. g σ .0 (s σ .1 (allows hidden (alike-back h) σ b)))
 
   -- loose
   loose : IsLoose hidden A C → IsLoose hidden B D
@@ -56,7 +56,7 @@ alike-demand hidden number h g d =
     let h' = alike-back h in
     let g' = alike-back g in
     record {
-      equal = (λ e. same hidden h g (d .equal .0 e), λ s. d .equal .1 (same hidden h' g' s));
+      equal = (λ e. alike-same hidden h g (d .equal .0 e), λ s. d .equal .1 (alike-same hidden h' g' s));
       loose = (λ e. loose hidden h g (d .loose .0 e), λ s. d .loose .1 (loose hidden h' g' s));
       tight = (
         λ e. let t = d .tight .0 e in (λ l. t .0 (loose hidden h' g' l), narrow hidden h g (t .1)),

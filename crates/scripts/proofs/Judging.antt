@@ -36,7 +36,7 @@ use Rattle.scripts.specs.Meaning.{pairNeeds, AcceptedPair, PairFails, Re
 use Rattle.scripts.specs.Marking.{pairChecks, markedOr, pairReply, textsReply, countIn}
 use Rattle.scripts.specs.Promises.{PairJudged, TextsJudged}
 use Rattle.scripts.proofs.Rooms.{pair-tied}
-use Rattle.scripts.proofs.OwnKeys.{own-equal}
+use Rattle.scripts.proofs.OwnKeys.{own-reply}
 
 -- ---- one text
 
@@ -212,5 +212,5 @@ module _ (sheet script : List ℕ) (lent : Lengths) where
     count = reads-count sheet;
     counts = λ t. rw e (texts-counts t);
     judged = j;
-    own-key = λ k room. own-equal sheet script lent k room r values (λ t. rw e (texts-accepted .1 t)) j;
+    own-key = λ k room. ap textsReturned (e ∙ own-reply sheet script lent k room);
   }

@@ -3,10 +3,10 @@ pub mod Rules
 pub mod Hiddens
 pub mod Sheets
 pub mod Matching
-pub mod OwnKeys
 pub mod Rooms
-pub mod Judging
 pub mod Alike
+pub mod OwnKeys
+pub mod Judging
 pub mod Pairs
 pub mod Promised
 pub mod OwnRoom

@@ -175,7 +175,7 @@ table-names paper c f q = table-silent (c .count) q (writtenRules (c .written)) 
 
 module _ (c d : Contents) (f : FineLines (contentsLimit Sheet c) c) (g : FineLines (contentsLimit Script d) d) where
   -- the table of a script that fits names visible quantities alone
-  matches-visible : Matches c d → NamesVisible (c .count) (hiddenIn (setIn c)) (tableIn d)
+  pub matches-visible : Matches c d → NamesVisible (c .count) (hiddenIn (setIn c)) (tableIn d)
   matches-visible m =
       rw (← m .count) (visible-silent (d .count) (hiddenIn (setIn c)) (tableIn d) .1
       (λ q e. table-names Script d g q .1 (m .visible q (sym (fine-table Sheet c f .members q) ∙ e))))

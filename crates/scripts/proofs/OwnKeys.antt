@@ -13,27 +13,33 @@ use Rattle.places.specs.Numbering.{blockStart}
 use Rattle.rules.specs.declared.paper.Paper.the-variants.{Sheet, Script}
 use Rattle.rules.specs.Hidden.{hiddenIn}
 use Rattle.rules.specs.Meaning.{Assignment, names}
+use Rattle.tables.specs.declared.reply.Reply.the-variants.{Done}
 use Rattle.tables.specs.Places.{ruleAt}
 use Rattle.tables.specs.Tables.{hasRule}
-use Rattle.tables.specs.Meaning.{HoldsRule, ruleIn, NamesVisible, NoneNames}
+use Rattle.tables.specs.Meaning.{HoldsRule, ruleIn, Satisfies, NamesVisible, NoneNames}
 use Rattle.tables.proofs.Tests.{clash}
 use Rattle.lines.specs.Spelling.{writtenRules}
 use Rattle.reading.specs.Texts.{Contents}
 use Rattle.reading.specs.Meaning.{Reads, rulesOf}
+use Rattle.reading.proofs.Means.{reads-check}
 use Rattle.writing.specs.Writing.{writtenOf, rulesAt, tableRules, writtenText}
 use Rattle.writing.proofs.Meanings.{written-rule, front-word, table-meaning}
 use Rattle.writing.proofs.Back.{key-reads as written-key}
 use Rattle.marking.specs.declared.verdict.Verdict.the-variants.{Equal}
-use Rattle.marking.specs.Verdicts.{verdictReturned}
 use Rattle.marking.specs.Meaning.{AllowSame}
+use Rattle.marking.specs.Marking.{verdictOf}
+use Rattle.marking.specs.Inner.{TablesAccepted}
+use Rattle.marking.proofs.Checking.{met-accepted}
+use Rattle.marking.proofs.Demand.{verdict-demand}
 use Rattle.marking.proofs.OwnKeys.{is-equal}
 use Rattle.scripts.specs.declared.room.Lengths.{Lengths}
-use Rattle.scripts.specs.declared.reply.TextMarking.{TextMarking}
-use Rattle.scripts.specs.declared.reply.TextMarking.the-variants.{Marked, Refused}
-use Rattle.scripts.specs.Replies.{textsReturned, isTextMarked}
-use Rattle.scripts.specs.Meaning.{setIn, keyIn, Matches, AcceptedPair, Room, OwnKeyText}
-use Rattle.scripts.specs.Promises.{PairJudged}
-use Rattle.scripts.proofs.Sheets.{FineSheet, fine-table, key-length, key-meaning, key-like}
+use Rattle.scripts.specs.declared.reply.TextMarking.the-variants.{Marked}
+use Rattle.scripts.specs.Meaning.{setIn, tableIn, keyIn, Matches, Room, OwnKeyText}
+use Rattle.scripts.specs.Marking.{pairChecks, pairReply, textsReply}
+use Rattle.scripts.proofs.Sheets.{FineTable, FineSheet, fine-table, table-sized, key-length, key-meaning, key-like}
+use Rattle.scripts.proofs.Matching.{matches-visible}
+use Rattle.scripts.proofs.Rooms.{pair-tied}
+use Rattle.scripts.proofs.Alike.{alike-back, alike-same}
 
 -- ---- it is fine as a script
 
@@ -97,29 +103,46 @@ key-rules c s σ₀ m σ =
 
 -- ---- the reply
 
--- its number tells equal
-reply-equal : (r : TextMarking) → isTextMarked r ≡ true → textsReturned r .number ≡ 100 → textsReturned r ≡ verdictReturned Equal
-reply-equal (Marked n v) m e = is-equal v e
-reply-equal (Refused p f) m e = clash {b = false} m refl
-
 module _ (sheet script : List ℕ) (lent : Lengths) (k : OwnKeyText sheet script) (room : Room (k .contents .count) lent) where
   abbrev c : Contents
   c = k .contents
 
+  abbrev d : Contents
+  d = keyContents (k .contents)
+
   fine : FineSheet c
   fine = fine-table Sheet c (k .reads .spelled .fine)
 
-  own-accepted : AcceptedPair sheet script lent
-  own-accepted = record {
-    of-sheet = c;
-    of-script = keyContents c;
-    sheet-reads = k .reads;
-    script-reads = own-reads c script fine (k .text);
-    met = (room .sheet-room, (room .script-room, (room .workspace-room, (room .values-room, (key-matches c fine, tt)))));
-  }
+  script-reads : Reads Script script d
+  script-reads = own-reads c script fine (k .text)
 
-  pub own-equal : (r : TextMarking) (values : List ℤ) → (AcceptedPair sheet script lent → isTextMarked r ≡ true)
-      → ((t : AcceptedPair sheet script lent) → PairJudged t (textsReturned r) values) → textsReturned r ≡ verdictReturned Equal
-  unfolding own-accepted
-  own-equal r values marked judged =
-      reply-equal r (marked own-accepted) (judged own-accepted .means .demand .equal .1 (key-rules c fine (k .integers) (k .satisfied)))
+  written : FineTable Script d
+  written = fine-table Script d (script-reads .spelled .fine)
+
+  -- its table is accepted
+  own-tables : TablesAccepted (c .count) (setIn c) (tableIn c) (tableIn d) (lent .workspace) (lent .values)
+  own-tables =
+      met-accepted (c .count) (setIn c) (tableIn c) (tableIn d) (lent .workspace) (lent .values) (
+        (table-sized Sheet c fine, table-sized Script d written),
+        (room .workspace-room, (room .values-room, (((fine .range, fine .bounds), written .bounds), (visible, tt)))),
+      )
+    where
+      visible : NamesVisible (c .count) (hiddenIn (setIn c)) (tableIn d)
+      visible = matches-visible c d (k .reads .spelled .fine) (script-reads .spelled .fine) (key-matches c fine)
+
+  -- and allows what the sheet allows
+  own-allows : AllowSame (hiddenIn (setIn c)) (Satisfies (c .count) (tableIn c)) (Satisfies (c .count) (tableIn d))
+  own-allows =
+      alike-same (hiddenIn (setIn c)) (alike-back (fine .held .meaning)) (alike-back (written .held .meaning)) (key-rules c fine (k .integers) (k .satisfied))
+
+  own-verdict : verdictOf (hiddenIn (setIn c)) (c .count) (tableIn c) (tableIn d) ≡ Equal
+  own-verdict = is-equal _ (verdict-demand (c .count) (setIn c) (tableIn c) (tableIn d) (lent .workspace) (lent .values) own-tables .equal .1 own-allows)
+
+  own-checks : pairChecks c d lent ≡ Done
+  own-checks =
+      pair-tied c d (k .reads .spelled .fine) (script-reads .spelled .fine) lent .accepted
+      .1 (room .sheet-room, (room .script-room, (room .workspace-room, (room .values-room, (key-matches c fine, tt)))))
+
+  pub own-reply : textsReply sheet script lent ≡ Marked (k .contents .count) Equal
+  unfolding textsReply pairReply
+  own-reply = rw (reads-check Sheet sheet c (k .reads), reads-check Script script d script-reads, own-checks, own-verdict)

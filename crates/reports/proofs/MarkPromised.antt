@@ -1,13 +1,14 @@
 -- What *mark* prints for two texts is what its contract promises: the text of the reply, which tells the refusal and its paper, or the verdict and what it
 -- means. Assumes nothing.
 use mathlib.Core.Path.{_≡_, refl, sym, _∙_, ap}
-use mathlib.Core.List.{List, _++_}
+use mathlib.Core.List.{List, [], _++_}
 use mathlib.Core.Logic.{_↔_}
 use Prim.Native.Nat.{ℕ, _≤_}
 use native.Mathlib.Omega.{arith}
 use lib.IntN.{ℤ}
 use lib.ListN.{length, take, drop, length-append}
 use lib.Seq.{length-take-le, take-at}
+use Rattle.rules.specs.declared.paper.Paper.the-variants.{Sheet}
 use Rattle.rules.specs.declared.refusal.Refusal.{Refusal}
 use Rattle.rules.specs.Limits.{maxQuantities}
 use Rattle.rules.specs.Refusal.{refusalNumber}
@@ -15,13 +16,16 @@ use Rattle.tables.proofs.Tests.{clash}
 use Rattle.numerals.specs.Writing.{Spliced}
 use Rattle.numerals.proofs.Splices.{splice-start}
 use Rattle.marking.specs.declared.verdict.Verdict.{Verdict}
+use Rattle.marking.specs.declared.verdict.Verdict.the-variants.{Equal}
 use Rattle.scripts.specs.declared.room.Lengths.{Lengths}
 use Rattle.scripts.specs.declared.reply.Subject.{Subject}
 use Rattle.scripts.specs.declared.reply.TextMarking.{TextMarking}
 use Rattle.scripts.specs.declared.reply.TextMarking.the-variants.{Marked, Refused}
 use Rattle.scripts.specs.Replies.{textNumber, isTextMarked, textCounts}
-use Rattle.scripts.specs.Meaning.{AcceptedPair, RefusedPair, ownLengths}
+use Rattle.scripts.specs.Meaning.{AcceptedPair, RefusedPair, OwnKeyText, ownLengths}
 use Rattle.scripts.specs.Promises.{TextsJudged, MarkedInOwnRoom}
+use Rattle.scripts.proofs.Sheets.{fine-table}
+use Rattle.scripts.proofs.OwnKeys.{own-in-room}
 use Rattle.scripts.proofs.Judging.{returned-refused}
 use Rattle.reports.specs.Marks.{verdictText, refusedMarkText, markText}
 use Rattle.reports.specs.Meaning.{VerdictText}
@@ -77,6 +81,14 @@ module _ {sheet script : List ℕ} {lent : Lengths} {r : TextMarking} {values : 
           }
       go (Refused p f) e = clash (j .accepted .1 t) (ap isTextMarked e)
 
+-- a sheet's own key is equal, with nothing after it
+own-printed : {sheet script : List ℕ} {r : TextMarking} {values : List ℤ} → TextsJudged sheet script (ownLengths maxQuantities) r values → OwnKeyText sheet script
+    → markText r values ≡ verdictText Equal []
+unfolding verdictText
+own-printed {sheet} {script} {r} {values} j k =
+    let most = fine-table Sheet (k .contents) (k .reads .spelled .fine) .most in
+    reply-marked values (j .reply ∙ own-in-room sheet script maxQuantities k most)
+
 -- ---- the contract
 
 module _ {sheet script : List ℕ} {before : List ℤ} {r : TextMarking} {values : List ℤ} (m : MarkedInOwnRoom sheet script before r values)
@@ -107,4 +119,5 @@ module _ {sheet script : List ℕ} {before : List ℤ} {r : TextMarking} {values
         never = rw printed (never-printed judged never-six);
         accepted = λ v integers d. judged .accepted .0 (verdict-told r values v integers (sym printed ∙ d));
         verdict = λ t. rw printed (verdict-printed judged t (omega (arith, s, m .written .size, accepted-room t)));
+        own-key = λ k. printed ∙ own-printed judged k;
       }

@@ -11,6 +11,7 @@ use lib.Seq.{length-take-le}
 use Rattle.rules.specs.declared.paper.Paper.the-variants.{Sheet}
 use Rattle.rules.specs.declared.refusal.Refusal.{Refusal}
 use Rattle.rules.specs.declared.refusal.Refusal.the-variants.{NoAssignment}
+use Rattle.rules.specs.Limits.{maxQuantities}
 use Rattle.rules.specs.Meaning.{Assignment}
 use Rattle.keys.specs.Keys.{refuted}
 use Rattle.numerals.specs.Writing.{Spliced}
@@ -26,8 +27,11 @@ use Rattle.reports.specs.Reports.{tableReport, reportOf, keyReport}
 use Rattle.reports.specs.Meaning.{KeyText, Unmet}
 use Rattle.reports.specs.Promises.{KeyPrinted}
 use Rattle.reading.proofs.Means.{Means, text-means, reads-check}
-use Rattle.scripts.specs.Meaning.{setIn, tableIn, keyIn}
-use Rattle.scripts.proofs.OwnKeys.{key-reads, key-spares, key-rules}
+use Rattle.marking.specs.declared.verdict.Verdict.the-variants.{Equal}
+use Rattle.scripts.specs.declared.reply.TextMarking.the-variants.{Marked}
+use Rattle.scripts.specs.Marking.{textsReply}
+use Rattle.scripts.specs.Meaning.{setIn, tableIn, keyIn, ownLengths}
+use Rattle.scripts.proofs.OwnKeys.{key-reads, key-spares, key-rules, own-in-room}
 use Rattle.scripts.proofs.Sheets.{FineSheet, fine-table, sheet-refuted, sheet-unmet, sheet-met, key-text-short}
 use Rattle.reports.proofs.RefusalLengths.{refusal-width}
 use Rattle.reports.proofs.PrintedReplies.{refusal-same, fails-number, text-unlike}
@@ -84,6 +88,13 @@ report-some s c p σ₀ m =
       meaning = key-rules c t σ₀ m;
     }
 
+-- which is equal as the sheet's script
+report-own : (s : List ℕ) (c : Contents) → Reads Sheet s c → (σ : Assignment) → rulesOf c σ → textsReply s (keyReport s) (ownLengths maxQuantities) ≡ Marked (c .count) Equal
+report-own s c p σ m =
+    let t = fine-table Sheet c (p .spelled .fine) in
+    let e = report-accepted s c p ∙ report-key c (sheet-met c t σ m) in
+    own-in-room s (keyReport s) maxQuantities (record { contents = c; reads = p; integers = σ; satisfied = m; text = e }) (t .most)
+
 -- what is printed is a refusal's text: it is the text's own, or 5 and no integers meet its rules
 report-tells : (s : List ℕ) (f : Refusal) → keyReport s ≡ refusalText f → FailsFor Sheet s f ⊎ ((f ≡ NoAssignment) × Unmet s)
 unfolding keyReport reportOf
@@ -126,4 +137,5 @@ printed {s} {out} {text} {end} {out'} e w =
       refused = refused-exactly s;
       five = five-exactly s;
       some = report-some s;
+      own-script = report-own s;
     }

@@ -1,7 +1,7 @@
 -- What the programs' functions promise: what is printed for a text, byte by byte and by what it means.
 use mathlib.Core.Path.{_≡_}
 use mathlib.Core.Logic.{_↔_}
-use mathlib.Core.List.{List, _++_}
+use mathlib.Core.List.{List, [], _++_}
 use Prim.Native.Nat.{ℕ, _≤_}
 use lib.IntN.{ℤ}
 use lib.ListN.{length, take, drop}
@@ -12,12 +12,15 @@ use Rattle.rules.specs.Limits.{maxQuantities}
 use Rattle.rules.specs.Meaning.{Assignment}
 use Rattle.rules.specs.Refusal.{refusalNumber}
 use Rattle.marking.specs.declared.verdict.Verdict.{Verdict}
+use Rattle.marking.specs.declared.verdict.Verdict.the-variants.{Equal}
 use Rattle.reading.specs.Texts.{Contents}
 use Rattle.reading.specs.Meaning.{Reads, rulesOf, FailsFor}
 use Rattle.scripts.specs.declared.reply.Subject.{Subject}
 use Rattle.scripts.specs.declared.reply.TextMarking.{TextMarking}
+use Rattle.scripts.specs.declared.reply.TextMarking.the-variants.{Marked}
 use Rattle.scripts.specs.Promises.{TextsJudged}
-use Rattle.scripts.specs.Meaning.{AcceptedPair, RefusedPair, ownLengths}
+use Rattle.scripts.specs.Meaning.{AcceptedPair, RefusedPair, OwnKeyText, ownLengths}
+use Rattle.scripts.specs.Marking.{textsReply}
 use Rattle.reports.specs.Refusals.{refusalText}
 use Rattle.reports.specs.Marks.{verdictText, refusedMarkText, markText}
 use Rattle.reports.specs.Reports.{keyReport}
@@ -34,6 +37,9 @@ pub record KeyPrinted (s : List ℕ) (out : List ℕ) (end : ℕ) (out' : List �
   pub refused : (f : Refusal) → (f ≡ NoAssignment → ⊥) → (keyReport s ≡ refusalText f) ↔ FailsFor Sheet s f
   pub five : (keyReport s ≡ refusalText NoAssignment) ↔ Unmet s
   pub some : (c : Contents) → Reads Sheet s c → (σ : Assignment) → rulesOf c σ → KeyText c (keyReport s)
+  -- handed in as the sheet's script, what is printed then is accepted and found equal
+  pub own-script : (c : Contents) → Reads Sheet s c → (σ : Assignment) → rulesOf c σ
+      → textsReply s (keyReport s) (ownLengths maxQuantities) ≡ Marked (c .count) Equal
 
 -- ---- *mark*
 
@@ -54,3 +60,5 @@ pub record MarkPrinted (sheet script out : List ℕ) (end : ℕ) (out' : List �
   -- a verdict, exactly where both texts are accepted, and what it means
   pub accepted : (v : Verdict) (integers : List ℤ) → take end out' ≡ verdictText v integers → AcceptedPair sheet script (ownLengths maxQuantities)
   pub verdict : (t : AcceptedPair sheet script (ownLengths maxQuantities)) → VerdictText t (take end out')
+  -- the text of a sheet's own key is found equal
+  pub own-key : OwnKeyText sheet script → take end out' ≡ verdictText Equal []

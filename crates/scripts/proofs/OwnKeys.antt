@@ -3,15 +3,17 @@
 use mathlib.Core.Path.{_≡_, refl, _∙_}
 use mathlib.Core.Bool.{Bool, true, false, cond}
 use mathlib.Core.List.{List, [], _∷_}
-use Prim.Native.Nat.{ℕ, suc, _+_, _<_}
+use Prim.Native.Nat.{ℕ, suc, _+_, _≤_, _<_}
 use native.Mathlib.Nat.{add-zero, zero-add, add-suc, suc-add}
 use native.Mathlib.Omega.{arith}
 use lib.IntN.{ℤ}
 use lib.ListN.{length, take}
 use Rattle.words.specs.Change.{wordAt}
 use Rattle.places.specs.Numbering.{blockStart}
+use Rattle.places.proofs.Numbering.{blockStart-mono}
 use Rattle.rules.specs.declared.paper.Paper.the-variants.{Sheet, Script}
 use Rattle.rules.specs.Hidden.{hiddenIn}
+use Rattle.rules.specs.Limits.{maxQuantities}
 use Rattle.rules.specs.Meaning.{Assignment, names}
 use Rattle.tables.specs.declared.reply.Reply.the-variants.{Done}
 use Rattle.tables.specs.Places.{ruleAt}
@@ -34,7 +36,7 @@ use Rattle.marking.proofs.Demand.{verdict-demand}
 use Rattle.marking.proofs.OwnKeys.{is-equal}
 use Rattle.scripts.specs.declared.room.Lengths.{Lengths}
 use Rattle.scripts.specs.declared.reply.TextMarking.the-variants.{Marked}
-use Rattle.scripts.specs.Meaning.{setIn, tableIn, keyIn, Matches, Room, OwnKeyText}
+use Rattle.scripts.specs.Meaning.{setIn, tableIn, keyIn, ownLengths, Matches, Room, OwnKeyText}
 use Rattle.scripts.specs.Marking.{pairChecks, pairReply, textsReply}
 use Rattle.scripts.proofs.Sheets.{FineTable, FineSheet, fine-table, table-sized, key-length, key-meaning, key-like}
 use Rattle.scripts.proofs.Matching.{matches-visible}
@@ -146,3 +148,10 @@ module _ (sheet script : List ℕ) (lent : Lengths) (k : OwnKeyText sheet script
   pub own-reply : textsReply sheet script lent ≡ Marked (k .contents .count) Equal
   unfolding textsReply pairReply
   own-reply = rw (reads-check Sheet sheet c (k .reads), reads-check Script script d script-reads, own-checks, own-verdict)
+
+-- with tables and a workspace for every sheet, it is so where the assignment has words enough
+pub own-in-room : (sheet script : List ℕ) (v : ℕ) (k : OwnKeyText sheet script) → k .contents .count ≤ v → textsReply sheet script (ownLengths v) ≡ Marked (k .contents .count) Equal
+own-in-room sheet script v k h = own-reply sheet script (ownLengths v) k (record { sheet-room = table; script-room = table; workspace-room = omega (arith, table); values-room = h })
+  where
+    table : blockStart (k .contents .count) ≤ blockStart maxQuantities
+    table = blockStart-mono {a = k .contents .count} {b = maxQuantities} (fine-table Sheet (k .contents) (k .reads .spelled .fine) .most)

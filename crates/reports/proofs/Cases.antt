@@ -19,7 +19,7 @@ use Rattle.tables.specs.Places.{ruleAt, findPlace}
 use Rattle.tables.specs.Tables.{putAt, putHalved, putRule, putAll, cleared, namesHidden, anyNamesHidden}
 use Rattle.elimination.specs.Hiding.{withSum, withHalf, bareBelow, pairWord, onOne, onTwo, liveAt, pairing, anyBare, paired, contradicts, eliminated}
 use Rattle.keys.specs.Keys.{hideUpTo, keyOf, refutedUpTo, refuted}
-use Rattle.marking.specs.declared.verdict.Verdict.the-variants.{Loose, Tight}
+use Rattle.marking.specs.declared.verdict.Verdict.the-variants.{Equal, Loose, Tight}
 use Rattle.marking.specs.Verdicts.{verdictReturned, isShown}
 use Rattle.marking.specs.Meaning.{LooseShown, TightShown}
 use Rattle.marking.specs.Marking.{breakable, firstRule, firstBroken, verdictOf}
@@ -224,3 +224,8 @@ largest-spelled =
 
 pub largest-passes : KeyPasses largest
 largest-passes = largest-found ∙ largest-spelled
+
+-- handed in as the script of its sheet it is equal, though no sheet may state its bound (document 02, request 1)
+pub largest-own : textsReply (bytes (largest .sheet)) (bytes (largest .printed)) (ownLengths maxQuantities) ≡ Marked 3 Equal
+unfolding reckoning
+largest-own = refl

@@ -1,5 +1,5 @@
--- The frauds against marking for hosts, refuted on document 01's sheet A: a function that returns 100 for all texts, one that returns 101 for all, and one that
--- tells no reasons. Assumes nothing.
+-- The frauds against marking for hosts, refuted on document 01's sheet A: a function that returns 100 for all texts or tables, one that returns 101 for all, and
+-- one that tells no reasons. Assumes nothing.
 use mathlib.Core.Path.{_≡_, refl, ap, _∙_}
 use mathlib.Core.List.{List, [], _∷_}
 use Prim.Native.Nat.{ℕ}
@@ -7,14 +7,21 @@ use native.Mathlib.Omega.{arith}
 use lib.IntN.{ℤ, pos}
 use lib.ListN.{length, replicate}
 use Rattle.rules.specs.Limits.{maxQuantities}
-use Rattle.rules.specs.Steps.{ruleOf}
+use Rattle.rules.specs.Steps.{trivialRule, ruleOf}
+use Rattle.tables.specs.Tables.{tableOf}
+use Rattle.tables.specs.Meaning.{Satisfies}
+use Rattle.tables.proofs.SheetA.{rules}
+use Rattle.tables.proofs.SheetA.{wide as wideRules}
 use Rattle.marking.specs.declared.verdict.Verdict.the-variants.{Loose}
+use Rattle.marking.proofs.Frauds.{same, no-rule-given}
+use Rattle.marking.proofs.Frauds.{equal-on-all as not-equal}
+use Rattle.marking.proofs.Frauds.{loose-on-all as not-loose}
 use Rattle.numerals.specs.Bytes.{bytes}
 use Rattle.scripts.specs.declared.reply.TextMarking.the-variants.{Marked}
 use Rattle.scripts.specs.Replies.{textNumber, textPaper, textValue}
 use Rattle.reports.proofs.Cases.{sheetA, wide, narrow, reckoning}
 use Rattle.reports.proofs.Shown.{sumRule, wide-loose, narrow-tight}
-use Rattle.acornsled.specs.Promises.{hostReply, MarkAnswer, countMarked, ruleMarked, MarkTextsAnswer}
+use Rattle.acornsled.specs.Promises.{hostReply, MarkAnswer, countMarked, ruleMarked, MarkTextsAnswer, MarkTablesAnswer}
 
 -- the script +1:3 is loose, so 100 is not its number, nor is any but 101
 pub loose-alone : (r : ℕ) → MarkAnswer (bytes (wide .sheet)) (bytes (wide .script)) r → r ≡ 101
@@ -68,3 +75,20 @@ pub short-reasons : (n : ℕ) (rule : List ℤ) (r p v n' : ℕ) (rule' values' 
     → (r ≡ 6) × (p ≡ 3) × (v ≡ 3) × (n' ≡ n) × (rule' ≡ rule)
 unfolding reckoning
 short-reasons n rule r p v n' rule' values' m = (m .number, m .paper, m .value, m .count, m .words)
+
+-- ---- tables
+
+-- scripts marked against sheet A, both as tables, whatever is lent
+module _ (w u rule : List ℤ) (v : ℕ) (w' u' : List ℤ) where
+  -- the script +1:3 is loose, so it is not answered with 100
+  pub tables-equal : (rule' : List ℤ) → MarkTablesAnswer 3 2 (tableOf 3 rules) (tableOf 3 wideRules) w u rule 100 v w' u' rule' → ⊥
+  tables-equal rule' m = not-equal (m .means (omega arith) .demand)
+
+  -- +1+1:7, +1+3:5 is equal, so it is not answered with 101
+  pub tables-loose : (rule' : List ℤ) → MarkTablesAnswer 3 2 (tableOf 3 rules) (tableOf 3 same) w u rule 101 v w' u' rule' → ⊥
+  tables-loose rule' m = not-loose (m .means (omega arith) .demand)
+
+  -- and +1:3 does not leave words that are of no rule
+  pub tables-bare : (c : ℤ) → MarkTablesAnswer 3 2 (tableOf 3 rules) (tableOf 3 wideRules) w u rule 101 v w' u' (pos 0 ∷ pos 0 ∷ c ∷ []) → ⊥
+  unfolding ruleOf
+  tables-bare c m = no-rule-given (Satisfies 3 (tableOf 3 wideRules)) (m .means (omega arith) .loose trivialRule refl .0)

@@ -1,3 +1,4 @@
 -- What the exported functions' proofs share.
 pub mod Promised
+pub mod Tables
 pub mod Frauds

@@ -20,11 +20,13 @@ use Rattle.rules.specs.Refusal.{refusalNumber, refusalValue, Returned, refusedA
 use Rattle.rules.proofs.Refusals.{same-refusal-value, same-refusal, refusal-number, refusal-below}
 use Rattle.rules.specs.RuleWords.{ruleValues, ruleOfWords}
 use Rattle.tables.specs.Replies.{replyReturned, replyNumber, replyValue}
+use Rattle.tables.specs.Meaning.{Solutions}
 use Rattle.tables.proofs.Tests.{clash}
 use Rattle.tables.proofs.Refusing.{decided-as}
 use Rattle.marking.specs.declared.verdict.Verdict.{Verdict}
 use Rattle.marking.specs.declared.verdict.Verdict.the-variants.{Equal, Loose, Tight}
 use Rattle.marking.specs.Verdicts.{verdictNumber, carriedWords}
+use Rattle.marking.specs.Meaning.{VerdictMeans}
 use Rattle.marking.proofs.Carried.{verdict-from, words-rule}
 use Rattle.scripts.specs.declared.reply.Subject.{Subject}
 use Rattle.scripts.specs.declared.reply.Subject.the-variants.{Sheet, Script, Both}
@@ -52,7 +54,7 @@ use Rattle.acornsled.specs.Promises.{TellsRefusal, KeyAnswer, Assignment
 
 -- ---- a reply by its number and value is a reply as it is returned
 
-abbrev number : Returned → ℕ
+abbrev pub number : Returned → ℕ
 number x = x .number
 
 reply-told-as : (x : Reply) (f : Refusal) → TellsRefusal (replyNumber x) (replyValue x) f ↔ (replyReturned x ≡ refusedAs f)
@@ -210,20 +212,25 @@ told-same before (Marked n (Loose rule)) h = rw (words-rule rule)
 told-same before (Marked n (Tight rule)) h = rw (words-rule rule)
 told-same before (NotMarked w f) h = absurd (omega (arith, refusal-below f))
 
--- what is told of a verdict means what the verdict does
+-- what is told of a verdict means what the verdict does, where of loose and tight the same is told
+pub means-told : {n set : ℕ} {sheet script : Solutions} {t s : List ℤ} {values : List ℤ} (told returned : Returned) → told .number ≡ returned .number
+    → (100 < told .number → told ≡ returned) → VerdictMeans n set sheet script t s returned values → VerdictMeans n set sheet script t s told values
+means-told told returned e same m = record {
+  demand = rw e (m .demand);
+  visibles = m .visibles;
+  key = m .key;
+  loose = λ rule d. m .loose rule (sym (same (omega (arith, ap number d))) ∙ d);
+  tight = λ rule d. m .tight rule (sym (same (omega (arith, ap number d))) ∙ d);
+}
+
+-- so it does of two texts
 judged-told : {sheet script : List ℕ} {lent : Lengths} (t : AcceptedPair sheet script lent) (before : List ℤ) (x : TextMarking) (values : List ℤ)
     → PairJudged t (textsReturned x) values → PairJudged t (record { number = textNumber x; values = ruleValues (ruleOfWords (ruleMarked before x)) }) values
 judged-told t before x values j = record {
   members = j .members;
   sheet-table = j .sheet-table;
   script-table = j .script-table;
-  means = record {
-    demand = j .means .demand;
-    visibles = j .means .visibles;
-    key = j .means .key;
-    loose = λ rule e. j .means .loose rule (sym (told-same before x (omega (arith, ap number e))) ∙ e);
-    tight = λ rule e. j .means .tight rule (sym (told-same before x (omega (arith, ap number e))) ∙ e);
-  };
+  means = means-told _ (textsReturned x) refl (told-same before x) (j .means);
 }
 
 -- what a host is told of a reply

@@ -11,12 +11,20 @@ use Rattle.rules.specs.declared.refusal.Refusal.{Refusal}
 use Rattle.rules.specs.Limits.{maxQuantities}
 use Rattle.rules.specs.Refusal.{refusalNumber, refusalValue}
 use Rattle.rules.specs.Refusing.{DecidedBy}
-use Rattle.rules.specs.RuleWords.{ruleValues, ruleOfWords}
+use Rattle.rules.specs.RuleWords.{ruleValues, ruleWords, ruleOfWords}
+use Rattle.rules.specs.Steps.{trivialRule}
 use Rattle.tables.specs.Replies.{replyNumber, replyValue}
+use Rattle.tables.specs.Meaning.{Satisfies, Unsatisfiable}
 use Rattle.keys.specs.Keys.{keyReply, assignmentReply}
 use Rattle.keys.specs.Meaning.{keyNeeds, assignmentNeeds}
 use Rattle.keys.specs.Promises.{Keyed, Assigned}
-use Rattle.marking.specs.Verdicts.{carriedWords}
+use Rattle.marking.specs.declared.verdict.Marking.{Marking}
+use Rattle.marking.specs.declared.verdict.Marking.the-variants.{Marked as Given}
+use Rattle.marking.specs.declared.verdict.Marking.the-variants.{Refused as NotGiven}
+use Rattle.marking.specs.Verdicts.{carriedWords, markingNumber, markingValue}
+use Rattle.marking.specs.Meaning.{VerdictMeans, markNeeds}
+use Rattle.marking.specs.Marking.{markReply}
+use Rattle.marking.specs.Promises.{TablesMarked}
 use Rattle.reading.specs.declared.read.Reading.{Reading}
 use Rattle.reading.specs.declared.read.Reading.the-variants.{Accepted, Refused}
 use Rattle.reading.specs.Reading.{readReply, readingNumber, readingValue}
@@ -145,3 +153,25 @@ pub record MarkTextsAnswer (sheet script : List ℕ) (n : ℕ) (rule values : Li
   pub needed : (r ≡ 6) → v ≡ countIn sheet
   -- any other number is that of marking without the reasons
   pub agrees : ((r ≡ 6) → ⊥) → r ≡ textNumber (hostReply sheet script maxQuantities)
+
+-- ---- marking two tables
+
+-- the rule's words after marking: with a verdict what it makes of them, else as they were
+abbrev pub ruleGiven : List ℤ → Marking → List ℤ
+ruleGiven before (Given v) = carriedWords before v
+ruleGiven before (NotGiven f) = before
+
+-- marking two tables: the workspace, the assignment and the rule's words before the call, then the number r and the value v, and the same three after it
+pub record MarkTablesAnswer (n set : ℕ) (sheet script workspace values rule : List ℤ) (r v : ℕ) (workspace' values' rule' : List ℤ) : Type 0 where
+  pub number : r ≡ markingNumber (markReply n set sheet script (length workspace) (length values))
+  pub value : v ≡ markingValue (markReply n set sheet script (length workspace) (length values))
+  pub words : rule' ≡ ruleGiven rule (markReply n set sheet script (length workspace) (length values))
+  pub decided : DecidedBy (markNeeds n set sheet script (length workspace) (length values)) (TellsRefusal r v) (100 ≤ r)
+  pub call : TablesMarked n set sheet script workspace values (markReply n set sheet script (length workspace) (length values)) workspace' values'
+  -- a verdict's number means what demand 3 says; the rule of a loose or tight verdict is the one of these words, and the assignment shows the verdict and breaks it
+  pub means : 100 ≤ r
+      → VerdictMeans n set (Satisfies n sheet) (Satisfies n script) sheet script (record { number = r; values = ruleValues (ruleOfWords rule') }) values'
+  -- the words of a loose verdict are 0, 0 and the no-rule word exactly where no integers satisfy the sheet
+  pub none : (r ≡ 101) → Unsatisfiable n sheet ↔ (rule' ≡ ruleWords trivialRule)
+  -- 5 is no reply of marking
+  pub never : (r ≡ 5) → ⊥

@@ -3,11 +3,12 @@
 // slice as a pointer and its length in elements, words or bytes. The host passes true lengths and no null pointer, and what a call may change, slice or single
 // word, overlaps nothing else that it is given.
 use marking::rule_words;
+use marking::verdict::Marking;
 use reading::read::Reading;
 use rules::sheet::Sheet;
 use scripts::own;
 use scripts::reply::TextMarking;
-ghost use Rattle.acornsled.specs.Promises.{ReadAnswer, WriteAnswer, KeyAnswer, AssignmentAnswer, MarkAnswer, MarkTextsAnswer};
+ghost use Rattle.acornsled.specs.Promises.{ReadAnswer, WriteAnswer, KeyAnswer, AssignmentAnswer, MarkAnswer, MarkTextsAnswer, MarkTablesAnswer};
 
 // Reads a text: where it answers 0, the table's first 2n² words hold its rules, and n and the hidden set are written to `quantities` and `hidden`.
 #[no_mangle]
@@ -121,4 +122,28 @@ pub extern "C" fn acornsled_mark_texts(
     *quantities = count;
     rule_words::put_carried(verdict, rule);
     verdict.number()
+}
+
+// Marks the table of a script against the table of a sheet: 100, 101, 102, or the refusal's number. The workspace needs 4n² words and `values` n. Loose and tight
+// are told with the rule and the integers that show the verdict, as above; else the rule and `values` stay as they were.
+#[no_mangle]
+pub extern "C" fn acornsled_mark_tables(
+    n: usize,
+    hidden: u32,
+    sheet: &[i64],
+    script: &[i64],
+    workspace: &mut [i64],
+    values: &mut [i64],
+    rule: &mut [i64; 3],
+    value: &mut usize,
+) -> u32
+    ensures { λ r. ⌜ MarkTablesAnswer n hidden (now (sheet .entry)) (now (script .entry)) (now (workspace .entry)) (now (values .entry)) (now (rule .entry)) r (now (value .exit)) (now (workspace .exit)) (now (values .exit)) (now (rule .exit)) ⌝ }
+{
+    let marked = marking::mark::mark(n, hidden, sheet, script, workspace, values);
+    *value = marked.value();
+    let Marking::Marked(found) = marked else {
+        return marked.number();
+    };
+    rule_words::put_carried(found, rule);
+    found.number()
 }

@@ -36,6 +36,23 @@ static const int64_t key_table[WORDS] = {
     NONE, NONE, 5, NONE, NONE, NONE, NONE, NONE, NONE, NONE,
 };
 
+/* The scripts of document 01 that are loose, tight, and both too wide and too narrow: +1:3; +1:2, +1+3:5; +1:2. */
+static const int64_t wide_table[WORDS] = {
+    3, NONE,
+    NONE, NONE, NONE, NONE, NONE, NONE,
+    NONE, NONE, NONE, NONE, NONE, NONE, NONE, NONE, NONE, NONE,
+};
+static const int64_t narrow_table[WORDS] = {
+    2, NONE,
+    NONE, NONE, NONE, NONE, NONE, NONE,
+    NONE, NONE, 5, NONE, NONE, NONE, NONE, NONE, NONE, NONE,
+};
+static const int64_t crossed_table[WORDS] = {
+    2, NONE,
+    NONE, NONE, NONE, NONE, NONE, NONE,
+    NONE, NONE, NONE, NONE, NONE, NONE, NONE, NONE, NONE, NONE,
+};
+
 /* What is lent. */
 static int64_t table[LARGEST];
 static int64_t workspace[LARGEST];
@@ -276,6 +293,66 @@ static void reasoning(void)
     holds(paper == ACORNSLED_SHEET, "the sheet is refused first");
 }
 
+/* Marks a script's table against the one that is lent, over n quantities. The rule is BEFORE where it stays. */
+static void tabled(size_t n, uint32_t set, const int64_t *script, uint32_t number, const int64_t *rule_due)
+{
+    size_t words = 2 * n * n;
+    uint32_t answer = acornsled_mark_tables(n, set, table, words, script, words, workspace, LARGEST, values, LARGEST, rule,
+                                            &value);
+    due("mark_tables", answer, number, 0);
+    holds(memcmp(rule, rule_due, sizeof rule) == 0, "the rule of loose and tight");
+    holds(kept(values, answer == ACORNSLED_LOOSE || answer == ACORNSLED_TIGHT ? n : 0), "no word past the integers changes");
+    holds(kept(table, words) && kept(workspace, 2 * words), "other words stay");
+}
+
+/* One refusal of marking tables, all else being fine: n, the hidden set, how many words are lent, and the script. */
+static void tables_refused(size_t n, uint32_t set, const int64_t *script, size_t script_words, size_t workspace_words,
+                           size_t values_words, uint32_t number, size_t value_due)
+{
+    due("mark_tables", acornsled_mark_tables(n, set, table, WORDS, script, script_words, workspace, workspace_words, values,
+                                             values_words, rule, &value),
+        number, value_due);
+    holds(rule[0] == BEFORE && rule[1] == BEFORE && rule[2] == BEFORE && kept(workspace, 0) && kept(values, 0),
+          "marking tables that is refused changes nothing");
+}
+
+static void refusing_tables(void)
+{
+    lend(sheet_table, WORDS);
+    tables_refused(0, 0, key_table, WORDS, 2 * WORDS, N, ACORNSLED_SIZE, 0);
+    tables_refused(N, HIDDEN, key_table, WORDS - 1, 0, 0, ACORNSLED_SIZE, 0);
+    tables_refused(N, HIDDEN, key_table, WORDS, 2 * WORDS - 1, 0, ACORNSLED_TOO_SHORT, 2 * WORDS);
+    tables_refused(N, 1 << N, key_table, WORDS, 2 * WORDS, N - 1, ACORNSLED_TOO_SHORT, N);
+    tables_refused(N, 1 << N, sheet_table, WORDS, 2 * WORDS, N, ACORNSLED_PAST_LIMIT, 0);
+    tables_refused(N, HIDDEN, sheet_table, WORDS, 2 * WORDS, N, ACORNSLED_MISMATCH, 0);
+    holds(held(sheet_table), "the sheet's table stays");
+}
+
+static void marking_tables(void)
+{
+    static const int64_t half[] = {0, -1}, all[] = {NONE, NONE}; /* the first is satisfied by nothing, the second by all */
+    static const int64_t none[] = {BEFORE, BEFORE, BEFORE}, sum[] = {1, 3, 5}, low[] = {1, 0, 2}, trivial[] = {0, 0, NONE};
+
+    refusing_tables();
+    /* +1+1:7 is the same in a table as +1:3 */
+    lend(sheet_table, WORDS);
+    tabled(N, HIDDEN, key_table, ACORNSLED_EQUAL, none);
+    tabled(N, HIDDEN, wide_table, ACORNSLED_LOOSE, sum);
+    holds(values[0] <= 3 && values[1] == 0 && values[0] > 5 - values[2], "the integers of loose break its rule alone");
+    lend(sheet_table, WORDS);
+    tabled(N, HIDDEN, narrow_table, ACORNSLED_TIGHT, low);
+    holds(values[0] > 2 && values[0] <= 5 - values[1] && values[0] <= 2 + values[1] && values[2] <= values[1],
+          "the integers of tight satisfy sheet A and break the script's rule");
+    lend(sheet_table, WORDS);
+    tabled(N, HIDDEN, crossed_table, ACORNSLED_LOOSE, sum);
+    holds(values[0] <= 2 && values[1] == 0 && values[0] > 5 - values[2], "the script that is both is loose");
+    holds(held(sheet_table), "the sheet's table stays");
+    /* a sheet that nothing satisfies is marked, and a loose verdict then has no rule */
+    lend(half, 2);
+    tabled(1, 0, half, ACORNSLED_EQUAL, none);
+    tabled(1, 0, all, ACORNSLED_LOOSE, trivial);
+}
+
 int main(void)
 {
     reading();
@@ -285,5 +362,6 @@ int main(void)
     writing();
     marking();
     reasoning();
+    marking_tables();
     return printf("calls: %u calls from C answered as is due\n", calls) < 0 || fflush(stdout) != 0;
 }

@@ -19,7 +19,7 @@
 #define FILLED 0xA5
 
 static uint8_t stack[STACK] __attribute__((aligned(4096)));
-static int64_t table[WORDS], workspace[WORDS], values[N];
+static int64_t table[WORDS], script_table[WORDS], workspace[ACORNSLED_MARKING_WORDS], values[N];
 static char sheet[ACORNSLED_MOST_BYTES], script[ACORNSLED_MOST_BYTES];
 static uint8_t out[ACORNSLED_TEXT_BYTES];
 static size_t sheet_length, script_length, quantities, value;
@@ -65,6 +65,13 @@ static void *call_mark_texts(void *unused)
 {
     answer = acornsled_mark_texts((uint8_t *)sheet, sheet_length, (uint8_t *)script, script_length, values, N,
                                   &quantities, rule, &paper_of, &value);
+    return unused;
+}
+
+static void *call_mark_tables(void *unused)
+{
+    answer = acornsled_mark_tables(N, hidden, table, WORDS, script_table, WORDS, workspace, ACORNSLED_MARKING_WORDS, values,
+                                   N, rule, &value);
     return unused;
 }
 
@@ -137,5 +144,9 @@ int main(void)
     measure("acornsled_key", call_key, ACORNSLED_DONE);
     measure("acornsled_mark", call_mark, ACORNSLED_TIGHT);
     measure("acornsled_mark_texts", call_mark_texts, ACORNSLED_TIGHT);
+    /* the sheet's table has become the key */
+    acornsled_read((uint8_t *)sheet, sheet_length, table, WORDS, &quantities, &hidden, &value);
+    acornsled_read((uint8_t *)script, script_length, script_table, WORDS, &quantities, &hidden, &value);
+    measure("acornsled_mark_tables", call_mark_tables, ACORNSLED_TIGHT);
     return 0;
 }

@@ -2,7 +2,7 @@
 
 use crate::sys;
 
-/// A call's number, 0 where it is not refused, and what is returned beside it: a line, the length needed or the length of a
+/// A call's number, 0 where it is not refused and has no verdict, and what is returned beside it: a line, the length needed or the length of a
 /// text written, 0 where there is nothing.
 #[derive(Clone, Copy, PartialEq, Eq, Debug)]
 pub struct Reply {
@@ -123,4 +123,37 @@ pub fn mark_texts(sheet: &[u8], script: &[u8], values: &mut [i64], told: &mut To
             &mut told.value,
         )
     }
+}
+
+/// Marks the script's table against the sheet's, both over n quantities: the number of the verdict or of the refusal, and
+/// beside it the length needed with 6, else 0. The workspace needs 4n² words. For loose and tight the rule is written, as in
+/// [`Told`], and the integers that show the verdict, to the first n words of `values`; else both stay as they were.
+pub fn mark_tables(
+    n: usize,
+    hidden: u32,
+    sheet: &[i64],
+    script: &[i64],
+    workspace: &mut [i64],
+    values: &mut [i64],
+    rule: &mut [i64; 3],
+) -> Reply {
+    let mut value = UNWRITTEN;
+    // SAFETY: as above.
+    let number = unsafe {
+        sys::acornsled_mark_tables(
+            n,
+            hidden,
+            sheet.as_ptr(),
+            sheet.len(),
+            script.as_ptr(),
+            script.len(),
+            workspace.as_mut_ptr(),
+            workspace.len(),
+            values.as_mut_ptr(),
+            values.len(),
+            rule,
+            &mut value,
+        )
+    };
+    Reply { number, value }
 }

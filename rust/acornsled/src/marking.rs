@@ -36,6 +36,17 @@ impl Verdict {
             Verdict::Tight { .. } => "tight",
         }
     }
+
+    /// The verdict of a number that marking answers, with the rule's words and the integers; none where it is a refusal's.
+    pub(crate) fn of(number: u32, rule: [i64; 3], values: &[i64]) -> Option<Verdict> {
+        let values = || values.to_vec();
+        match number {
+            100 => Some(Verdict::Equal),
+            101 => Some(Verdict::Loose { rule: Rule::of(rule), values: values() }),
+            102 => Some(Verdict::Tight { rule: Rule::of(rule).expect("a tight verdict has a rule"), values: values() }),
+            _ => None,
+        }
+    }
 }
 
 /// Which paper a refusal is about.
@@ -99,14 +110,8 @@ pub fn mark(sheet: &[u8], script: &[u8]) -> Result<Verdict, Refused> {
     let mut values = [0; MOST_QUANTITIES];
     let mut told = Told { paper: 0, value: 0, quantities: 0, rule: [0; 3] };
     let number = calls::mark_texts(sheet, script, &mut values, &mut told);
-    let shown = || values[..told.quantities].to_vec();
-    match number {
-        100 => Ok(Verdict::Equal),
-        101 => Ok(Verdict::Loose { rule: Rule::of(told.rule), values: shown() }),
-        102 => Ok(Verdict::Tight { rule: Rule::of(told.rule).expect("a tight verdict has a rule"), values: shown() }),
-        _ => {
-            let refusal = Refusal::of(Reply { number, value: told.value }).expect("0 is no answer of marking");
-            Err(Refused { paper: Paper::of(told.paper), refusal })
-        }
-    }
+    Verdict::of(number, told.rule, &values[..told.quantities]).ok_or_else(|| {
+        let refusal = Refusal::of(Reply { number, value: told.value }).expect("0 is no answer of marking");
+        Refused { paper: Paper::of(told.paper), refusal }
+    })
 }

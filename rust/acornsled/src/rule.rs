@@ -11,7 +11,7 @@ pub enum Rule {
 }
 
 impl Rule {
-    /// The rule of the three words that marking two texts writes; none where both quantity numbers are 0.
+    /// The rule of the three words that marking writes; none where both quantity numbers are 0.
     pub fn of(words: [i64; 3]) -> Option<Rule> {
         match words {
             [0, 0, _] => None,

@@ -57,4 +57,19 @@ extern "C" {
         paper: *mut u32,
         value: *mut usize,
     ) -> u32;
+
+    pub fn acornsled_mark_tables(
+        n: usize,
+        hidden: u32,
+        sheet: *const i64,
+        sheet_length: usize,
+        script: *const i64,
+        script_length: usize,
+        workspace: *mut i64,
+        workspace_length: usize,
+        values: *mut i64,
+        values_length: usize,
+        rule: *mut [i64; 3],
+        value: *mut usize,
+    ) -> u32;
 }

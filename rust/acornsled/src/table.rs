@@ -1,8 +1,8 @@
 //! Tables that hold their own words, and the key of a text.
 
 use crate::calls::{self, Header, Reply};
-use crate::limits::{MOST_QUANTITIES, TABLE_WORDS, TEXT_BYTES};
-use crate::Refusal;
+use crate::limits::{MARKING_WORDS, MOST_QUANTITIES, TABLE_WORDS, TEXT_BYTES};
+use crate::{Refusal, Verdict};
 
 /// A paper read: a word for each term in place order, `limits::NO_RULE` where there is no rule. n and the hidden set are the
 /// caller's to change as well; a call refuses what does not fit.
@@ -52,6 +52,21 @@ impl Table {
         done(calls::assignment(self.quantities, &self.words, &mut workspace, &mut values))?;
         values.truncate(self.quantities);
         Ok(values)
+    }
+
+    /// The verdict on a script, this table being the sheet. A script with another n or hidden set is refused with 7 before
+    /// anything else is looked at. 5 is no answer: a sheet that nothing satisfies is marked.
+    pub fn mark(&self, script: &Table) -> Result<Verdict, Refusal> {
+        let Table { quantities: n, hidden, ref words } = *self;
+        if (script.quantities, script.hidden) != (n, hidden) {
+            return Err(Refusal::Mismatch);
+        }
+        let mut workspace = vec![0; MARKING_WORDS];
+        let mut values = vec![0; MOST_QUANTITIES];
+        let mut rule = [0; 3];
+        let reply = calls::mark_tables(n, hidden, words, &script.words, &mut workspace, &mut values, &mut rule);
+        values.truncate(n);
+        Verdict::of(reply.number, rule, &values).ok_or_else(|| Refusal::of(reply).expect("0 is no answer of marking"))
     }
 }
 

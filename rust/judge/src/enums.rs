@@ -2,5 +2,6 @@
 //! calls give for the same texts and tables. The numbers are judged by `marking`, `text` and `check`.
 
 pub mod mark;
+pub mod pair;
 pub mod run;
 pub mod table;

@@ -1,4 +1,4 @@
-//! Judges Acornsled's static library from Rust: every reply of its six calls, its number and its value, and every lent
+//! Judges Acornsled's static library from Rust: every reply of its seven calls, its number and its value, and every lent
 //! word and byte, against document 01.
 //!
 //! What a sheet means is decided by enumeration on small sheets (`brute`) and by shortest paths on all (`graph`), and
@@ -39,6 +39,7 @@ pub mod naive;
 pub mod plain;
 pub mod plain_mark;
 pub mod plain_reasons;
+pub mod plain_tables;
 pub mod plain_text;
 pub mod printed;
 pub mod random;

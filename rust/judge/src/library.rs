@@ -1,5 +1,6 @@
-//! The six calls that are judged, and their replies. The judge knows the calls as traits, so that it can be tried on
-//! wrong answers too: one for the calls on tables, one for the calls on texts, one for the two that mark two texts.
+//! The seven calls of the library, and their replies. The judge knows the calls as traits, so that it can be tried on
+//! wrong answers too: one for the calls on one table, one for the calls on texts, one for the two that mark two texts, one
+//! for the call that marks two tables.
 
 pub use acornsled::calls::{Header, Reply, Told};
 
@@ -75,6 +76,22 @@ pub trait Marker: Sync {
     /// The same number, or 6 where the words of `values` are too few, with what is told beside it; for loose and tight the
     /// integers that show the verdict are written to the first n words of `values`.
     fn mark_texts(&self, sheet: &[u8], script: &[u8], values: &mut [i64], told: &mut Told) -> u32;
+}
+
+/// What marking two tables is given and does not change: both are over n quantities, with one hidden set.
+#[derive(Clone, Copy)]
+pub struct Papers<'a> {
+    pub n: usize,
+    pub hidden: u32,
+    pub sheet: &'a [i64],
+    pub script: &'a [i64],
+}
+
+/// Shared by threads, as above.
+pub trait TableMarker: Sync {
+    /// The number of the verdict on two tables or of the refusal, with the length needed beside 6, else 0; for loose and
+    /// tight the rule, as in `Told`, and the integers that show the verdict, in the first n words of `values`.
+    fn mark_tables(&self, papers: Papers, workspace: &mut [i64], values: &mut [i64], rule: &mut [i64; 3]) -> Reply;
 }
 
 /// A reply in words.

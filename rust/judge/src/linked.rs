@@ -1,7 +1,7 @@
 //! The library that this program is linked with, by the numbers that C gets: the calls of the crate `acornsled`, which are
 //! judged here with the library.
 
-use crate::library::{Header, Library, Marker, Reply, Texts, Told};
+use crate::library::{Header, Library, Marker, Papers, Reply, TableMarker, Texts, Told};
 use acornsled::calls;
 
 pub struct Linked;
@@ -33,5 +33,12 @@ impl Marker for Linked {
 
     fn mark_texts(&self, sheet: &[u8], script: &[u8], values: &mut [i64], told: &mut Told) -> u32 {
         calls::mark_texts(sheet, script, values, told)
+    }
+}
+
+impl TableMarker for Linked {
+    fn mark_tables(&self, papers: Papers, workspace: &mut [i64], values: &mut [i64], rule: &mut [i64; 3]) -> Reply {
+        let Papers { n, hidden, sheet, script } = papers;
+        calls::mark_tables(n, hidden, sheet, script, workspace, values, rule)
     }
 }

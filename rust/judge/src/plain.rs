@@ -59,7 +59,7 @@ fn lengths(n: usize, table: &[i64], workspace: &[i64]) -> Result<(), Reply> {
     Ok(())
 }
 
-fn within_limits(table: &[i64]) -> bool {
+pub(crate) fn within_limits(table: &[i64]) -> bool {
     let held = |&bound: &i64| bound == NO_RULE || (-LIMIT..=LIMIT).contains(&bound);
     table.iter().all(held)
 }

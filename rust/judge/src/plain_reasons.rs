@@ -1,4 +1,4 @@
-//! The verdict on two texts with its reasons, in ordinary Rust: what the library's times are measured against. The rule of
+//! The verdict on two papers with its reasons, in ordinary Rust: what the library's times are measured against. The rule of
 //! a loose verdict is looked for in the key and that of a tight one in the script's table, each by the tightest table of
 //! the other paper; the integers are those of that other paper with the rule's opposite put in.
 
@@ -30,17 +30,22 @@ fn marked(sheet: &[u8], script: &[u8], values: &mut [i64], told: &mut Told) -> R
         return Err((BOTH, Reply { number: MISMATCH, value: 0 }));
     }
     told.quantities = n;
+    Ok(verdict(&sheet, &script, &mut values[..n], &mut told.rule))
+}
+
+/// The verdict's number on papers that fit each other, with the rule and integers of loose and tight.
+pub(crate) fn verdict(sheet: &Paper, script: &Paper, values: &mut [i64], rule: &mut [i64; 3]) -> u32 {
     let least = sheet.tightened();
-    let (verdict, by, broken) = if let Some(broken) = wide(&sheet, least.is_some(), &script) {
-        (LOOSE, &script, broken)
+    let (verdict, by, broken) = if let Some(broken) = wide(sheet, least.is_some(), script) {
+        (LOOSE, script, broken)
     } else if let Some(broken) = least.and_then(|least| Broken::first(&script.table, &least)) {
-        (TIGHT, &sheet, broken)
+        (TIGHT, sheet, broken)
     } else {
-        return Ok(EQUAL);
+        return EQUAL;
     };
-    told.rule = broken.words();
-    broken.show(n, &by.table, &mut values[..n]);
-    Ok(verdict)
+    *rule = broken.words();
+    broken.show(sheet.header.quantities, &by.table, values);
+    verdict
 }
 
 /// The rule by which the script is too wide, none where it is not.

@@ -1,11 +1,12 @@
-//! The static library's six functions over `plain`, `plain_text`, `plain_mark` and `plain_reasons`, under the same names:
-//! with the feature `plain` the declarations of the crate `acornsled` are tried where no archive is built
+//! The static library's seven functions over `plain`, `plain_text`, `plain_mark`, `plain_reasons` and `plain_tables`, under
+//! the same names: with the feature `plain` the declarations of the crate `acornsled` are tried where no archive is built
 //! (`tests/linked.rs`).
 
-use crate::library::{Header, Told};
+use crate::library::{Header, Papers, Told};
 use crate::plain;
 use crate::plain_mark;
 use crate::plain_reasons;
+use crate::plain_tables;
 use crate::plain_text;
 use std::slice::{from_raw_parts, from_raw_parts_mut};
 
@@ -121,4 +122,30 @@ unsafe extern "C" fn acornsled_mark_texts(
     let number = plain_reasons::mark_texts(sheet, script, values, &mut told);
     (*quantities, *rule, *paper, *value) = (told.quantities, told.rule, told.paper, told.value);
     number
+}
+
+#[no_mangle]
+unsafe extern "C" fn acornsled_mark_tables(
+    n: usize,
+    hidden: u32,
+    sheet: *const i64,
+    sheet_len: usize,
+    script: *const i64,
+    script_len: usize,
+    workspace: *mut i64,
+    workspace_len: usize,
+    values: *mut i64,
+    values_len: usize,
+    rule: *mut [i64; 3],
+    value: *mut usize,
+) -> u32 {
+    // SAFETY: as above.
+    let (sheet, script) = unsafe { (from_raw_parts(sheet, sheet_len), from_raw_parts(script, script_len)) };
+    // SAFETY: as above.
+    let (workspace, values, rule, value) = unsafe {
+        (from_raw_parts(workspace, workspace_len), from_raw_parts_mut(values, values_len), &mut *rule, &mut *value)
+    };
+    let reply = plain_tables::mark_tables(Papers { n, hidden, sheet, script }, workspace, values, rule);
+    *value = reply.value;
+    reply.number
 }

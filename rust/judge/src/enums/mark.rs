@@ -36,7 +36,8 @@ pub fn same(answer: &Result<Verdict, Refused>, numbers: &Numbers) -> Result<(), 
     }
 }
 
-fn same_verdict(verdict: &Verdict, Numbers { number, told, values }: &Numbers) -> Result<(), String> {
+/// Does a verdict say what its number, its rule's words and the integers say?
+pub(super) fn same_verdict(verdict: &Verdict, Numbers { number, told, values }: &Numbers) -> Result<(), String> {
     let (rule, shown): (Option<Rule>, &[i64]) = match verdict {
         Verdict::Equal => return same_name(verdict, *number, EQUAL, "equal"),
         Verdict::Loose { rule, values } => {

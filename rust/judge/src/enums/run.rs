@@ -1,6 +1,6 @@
 //! A whole run over the crate's functions, on the texts that `marking` draws for the same seed.
 
-use super::{mark, table};
+use super::{mark, pair, table};
 use crate::halves::{self, add_kinds, Tally};
 use crate::marking::run::drawn;
 use crate::random::Random;
@@ -8,11 +8,12 @@ use crate::text::check::shown;
 use std::collections::BTreeMap;
 use std::fmt;
 
-/// What a run has judged: pairs of texts by their numbers, and texts whose tables were tried.
+/// What a run has judged: pairs of texts by their numbers, texts whose tables were tried, and pairs whose tables were marked.
 #[derive(Default)]
 pub struct Counts {
     pub numbers: BTreeMap<u32, usize>,
     pub tables: usize,
+    pub table_pairs: usize,
 }
 
 /// What was judged, or the first failure with its input.
@@ -31,6 +32,7 @@ fn numbered(seed: u64, number: u64, counts: &mut Counts) -> Result<(), String> {
         for text in [&sheet, &script] {
             counts.tables += usize::from(table::text(text, &mut random).map_err(stated)?);
         }
+        counts.table_pairs += usize::from(pair::texts(&sheet, &script, &mut random).map_err(stated)?);
     }
     Ok(())
 }
@@ -38,6 +40,7 @@ fn numbered(seed: u64, number: u64, counts: &mut Counts) -> Result<(), String> {
 impl Tally for Counts {
     fn add(&mut self, other: &Counts) {
         self.tables += other.tables;
+        self.table_pairs += other.table_pairs;
         add_kinds(&mut self.numbers, &other.numbers);
     }
 }
@@ -46,6 +49,6 @@ impl fmt::Display for Counts {
     fn fmt(&self, f: &mut fmt::Formatter) -> fmt::Result {
         write!(f, "enums-of-pairs={}", self.numbers.values().sum::<usize>())?;
         self.numbers.iter().try_for_each(|(number, count)| write!(f, " number-{number}={count}"))?;
-        write!(f, " enums-of-tables={}", self.tables)
+        write!(f, " enums-of-tables={} enums-of-table-pairs={}", self.tables, self.table_pairs)
     }
 }

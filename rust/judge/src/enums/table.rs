@@ -57,7 +57,7 @@ fn written(table: &Table) -> (Reply, Vec<u8>) {
 }
 
 /// The table with n, the hidden set or a word past its limit, or without its last word.
-fn damaged(mut table: Table, random: &mut Random) -> Table {
+pub(super) fn damaged(mut table: Table, random: &mut Random) -> Table {
     match random.below(4) {
         0 => table.quantities = random.pick(&[0, table.quantities + 1, MOST_QUANTITIES + 1, usize::MAX]),
         1 => table.hidden |= u32::MAX << random.below(MOST_QUANTITIES),

@@ -1,5 +1,5 @@
-//! Judges Acornsled's static library from Rust: every reply of its seven calls, its number and its value, and every lent
-//! word and byte, against document 01.
+//! Judges Acornsled's static library from Rust: every reply of its calls, its number and its value, and every lent word
+//! and byte, against document 01.
 //!
 //! What a sheet means is decided by enumeration on small sheets (`brute`) and by shortest paths on all (`graph`), and
 //! neither eliminates a quantity. How far they are independent of the fact that hiding rests on, `graph` says. The key's

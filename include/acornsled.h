@@ -130,14 +130,14 @@ uint32_t acornsled_mark_texts(const uint8_t *sheet, size_t sheet_length, const u
                               int64_t rule[ACORNSLED_RULE_WORDS], uint32_t *paper, size_t *value);
 
 /*
- * Marks a script against a sheet, both as tables over n quantities, those of the set `hidden` hidden: 100, 101 or 102, or 1, 3,
- * 6, 7. The workspace needs 4n^2 words and `values` n. 1 comes for n and for either table, then 6 for the workspace, 6 for
- * `values`, 3 for the hidden set and for a bound of either table, and 7 where a rule of the script names a hidden quantity. 5 is
- * no answer: a sheet that nothing satisfies is marked.
+ * Marks a script against a sheet, both as tables over n quantities with one hidden set: 100, 101 or 102, or 1, 3, 6, 7. The
+ * workspace needs 4n^2 words and `values` n. 1 comes for n and for either table, then 6 for the workspace, 6 for `values`, 3
+ * for the hidden set and for a bound of either table, and 7 where a rule of the script names a hidden quantity. 5 is no
+ * answer: a sheet that nothing satisfies is marked.
  *
- * `value` gets the length needed with 6 and 0 with all others. Loose and tight write the rule to `rule` and the integers that show
- * the verdict to the first n words of `values`, both as acornsled_mark_texts does. A verdict leaves the first 4n^2 words of the
- * workspace free; a refusal changes nothing but `value`.
+ * `value` gets the length needed with 6 and 0 with all others. Loose and tight write the rule to `rule` and the integers that
+ * show the verdict to the first n words of `values`, both as acornsled_mark_texts does. A verdict leaves the first 4n^2 words
+ * of the workspace free; a refusal changes nothing but `value`.
  */
 uint32_t acornsled_mark_tables(size_t n, uint32_t hidden, const int64_t *sheet, size_t sheet_length, const int64_t *script,
                                size_t script_length, int64_t *workspace, size_t workspace_length, int64_t *values,

@@ -2,8 +2,8 @@
 
 use crate::sys;
 
-/// A call's number, 0 where it is not refused and has no verdict, and what is returned beside it: a line, the length needed or the length of a
-/// text written, 0 where there is nothing.
+/// A call's number, 0 where it is not refused and gives no verdict, and what is returned beside it: a line, the length
+/// needed or the length of a text written, 0 where there is nothing.
 #[derive(Clone, Copy, PartialEq, Eq, Debug)]
 pub struct Reply {
     pub number: u32,
@@ -126,8 +126,8 @@ pub fn mark_texts(sheet: &[u8], script: &[u8], values: &mut [i64], told: &mut To
 }
 
 /// Marks the script's table against the sheet's, both over n quantities: the number of the verdict or of the refusal, and
-/// beside it the length needed with 6, else 0. The workspace needs 4n² words. For loose and tight the rule is written, as in
-/// [`Told`], and the integers that show the verdict, to the first n words of `values`; else both stay as they were.
+/// beside it the length needed with 6, else 0. The workspace needs 4n² words. For loose and tight the rule is written, as
+/// in [`Told`], and to the first n words of `values` the integers that show the verdict; else both stay as they were.
 pub fn mark_tables(
     n: usize,
     hidden: u32,

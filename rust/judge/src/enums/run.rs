@@ -8,7 +8,7 @@ use crate::text::check::shown;
 use std::collections::BTreeMap;
 use std::fmt;
 
-/// What a run has judged: pairs of texts by their numbers, texts whose tables were tried, and pairs whose tables were marked.
+/// What a run has judged: pairs of texts by their numbers, texts whose tables were tried, pairs whose tables were marked.
 #[derive(Default)]
 pub struct Counts {
     pub numbers: BTreeMap<u32, usize>,

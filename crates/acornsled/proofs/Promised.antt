@@ -15,7 +15,7 @@ use Rattle.tables.specs.declared.reply.Reply.the-variants.{Refused as NotDone}
 use Rattle.keys.specs.Promises.{Keyed, Assigned}
 use Rattle.rules.specs.declared.refusal.Refusal.{Refusal}
 use Rattle.rules.specs.Limits.{maxQuantities}
-use Rattle.rules.specs.declared.paper.Paper.the-variants.{Script as OfScript}
+use Rattle.rules.specs.declared.paper.Paper.the-variants.{Sheet as OfSheet, Script as OfScript}
 use Rattle.rules.specs.Refusal.{refusalNumber, refusalValue, Returned, refusedAs}
 use Rattle.rules.proofs.Refusals.{same-refusal-value, same-refusal, refusal-number, refusal-below}
 use Rattle.rules.specs.RuleWords.{ruleValues, ruleOfWords}
@@ -27,7 +27,7 @@ use Rattle.marking.specs.declared.verdict.Verdict.{Verdict}
 use Rattle.marking.specs.declared.verdict.Verdict.the-variants.{Equal, Loose, Tight}
 use Rattle.marking.specs.Verdicts.{verdictNumber, carriedWords}
 use Rattle.marking.specs.Meaning.{VerdictMeans}
-use Rattle.marking.proofs.Carried.{verdict-from, words-rule}
+use Rattle.marking.proofs.Carried.{verdict-from, words-values}
 use Rattle.scripts.specs.declared.reply.Subject.{Subject}
 use Rattle.scripts.specs.declared.reply.Subject.the-variants.{Sheet, Script, Both}
 use Rattle.scripts.specs.declared.room.Lengths.{Lengths}
@@ -38,6 +38,8 @@ use Rattle.scripts.specs.Replies.{textsReturned, textNumber, textValue, paperNu
 use Rattle.scripts.specs.Marking.{textsReply, countIn}
 use Rattle.scripts.specs.Meaning.{AcceptedPair, RefusedPair, ownLengths}
 use Rattle.scripts.specs.Promises.{PairJudged, TextsJudged, MarkedInOwnRoom}
+use Rattle.scripts.proofs.Sheets.{fine-table}
+use Rattle.scripts.proofs.OwnKeys.{own-in-room}
 use Rattle.scripts.proofs.Judging.{texts-refused}
 use Rattle.scripts.proofs.OwnRoom.{same-reply}
 use Rattle.reading.specs.declared.read.Reading.{Reading}
@@ -162,6 +164,7 @@ mark-answer sheet script values values' reply r m h e =
       values = values';
       call = rw (j .reply) at j;
       judged = λ t. rw (e, ← j .reply) (j .judged t);
+      own-key = λ k. e ∙ ap textNumber (j .reply ∙ own-in-room sheet script maxQuantities k (fine-table OfSheet (k .contents) (k .reads .spelled .fine) .most));
     }
 
 -- ---- marking with the reasons
@@ -208,8 +211,8 @@ told-count before (NotMarked w f) j t = clash (j .accepted .1 t) refl
 told-same : (before : List ℤ) (x : TextMarking) → 100 < textNumber x
     → _≡_ {A = Returned} (record { number = textNumber x; values = ruleValues (ruleOfWords (ruleMarked before x)) }) (textsReturned x)
 told-same before (Marked n Equal) h = absurd (omega arith)
-told-same before (Marked n (Loose rule)) h = rw (words-rule rule)
-told-same before (Marked n (Tight rule)) h = rw (words-rule rule)
+told-same before (Marked n (Loose rule)) h = rw (words-values rule)
+told-same before (Marked n (Tight rule)) h = rw (words-values rule)
 told-same before (NotMarked w f) h = absurd (omega (arith, refusal-below f))
 
 -- what is told of a verdict means what the verdict does, where of loose and tight the same is told
@@ -271,6 +274,7 @@ mark-texts-answer sheet script n n' rule rule' values values' reply r p v m e w 
       never = rw e (j .never);
       short = rw e (m .short);
       needed = rw (e, d) (m .needed);
+      own-key = λ k h. e ∙ ap textNumber (j .reply ∙ own-in-room sheet script (length values) k (omega (arith, j .count (k .contents) (k .reads))));
       agrees = λ h. e ∙ agreeing sheet script values values' reply m (rw e at h);
     }
 

@@ -1,39 +1,32 @@
 -- The contract of marking two tables for hosts, from that of the call. Assumes nothing.
 use mathlib.Core.Path.{_≡_, refl, sym, ap, _∙_}
-use mathlib.Core.Bool.{Bool, true, false, cond}
+use mathlib.Core.Bool.{true, false}
 use mathlib.Core.Logic.{_↔_, inl, inr}
 use mathlib.Core.List.{List}
 use Prim.Native.Nat.{ℕ, _<_, _≤_}
 use native.Mathlib.Omega.{arith}
 use lib.IntN.{ℤ}
-use lib.ListN.{length}
 use Rattle.words.specs.Change.{wordAt}
 use Rattle.rules.specs.declared.rule.Rule.{Rule}
-use Rattle.rules.specs.declared.rule.Rule.the-variants.{One, Two, Nothing}
 use Rattle.rules.specs.declared.refusal.Refusal.{Refusal}
 use Rattle.rules.specs.Hidden.{hiddenIn}
 use Rattle.rules.specs.Meaning.{hasTerm}
 use Rattle.rules.specs.Refusal.{refusalNumber, Returned, refusedAs}
 use Rattle.rules.specs.Refusing.{RefusedBy}
-use Rattle.rules.specs.RuleWords.{ruleValues, ruleWords, ruleOfWords}
-use Rattle.rules.specs.Steps.{trivialRule}
+use Rattle.rules.specs.RuleWords.{ruleValues, noWords, ruleOfWords}
 use Rattle.rules.proofs.Refusals.{same-refusal-value, same-refusal, refusal-below}
-use Rattle.tables.specs.declared.reply.Reply.{Reply}
-use Rattle.tables.specs.declared.reply.Reply.the-variants.{Done}
-use Rattle.tables.specs.declared.reply.Reply.the-variants.{Refused as NotDone}
 use Rattle.tables.specs.Meaning.{Satisfies, Unsatisfiable}
 use Rattle.tables.proofs.Tests.{clash}
 use Rattle.tables.proofs.Refusing.{decided-as}
-use Rattle.keys.specs.Keys.{keyOf, refuted}
+use Rattle.keys.specs.Keys.{keyOf}
 use Rattle.marking.specs.declared.verdict.Verdict.{Verdict}
 use Rattle.marking.specs.declared.verdict.Verdict.the-variants.{Equal, Loose, Tight}
 use Rattle.marking.specs.declared.verdict.Marking.{Marking}
 use Rattle.marking.specs.declared.verdict.Marking.the-variants.{Marked, Refused}
 use Rattle.marking.specs.Verdicts.{verdictNumber, carriedWords, markingReturned, markingNumber, markingValue, isMarked}
 use Rattle.marking.specs.Meaning.{LooseRule, markNeeds}
-use Rattle.marking.specs.Marking.{firstBroken, orElse, verdictOf, markChecks, markedAs, markReply}
 use Rattle.marking.specs.Promises.{TablesMarked}
-use Rattle.marking.proofs.Carried.{verdict-from, verdict-refusal, words-rule, ruleAt-term}
+use Rattle.marking.proofs.Carried.{verdict-from, verdict-refusal, words-values, words-none, ruleAt-term}
 use Rattle.acornsled.specs.Promises.{TellsRefusal, ruleGiven, MarkTablesAnswer}
 use Rattle.acornsled.proofs.Promised.{number, means-told}
 
@@ -53,8 +46,8 @@ marking-from (Refused f) = (λ h. absurd (omega (arith, refusal-below f)), λ e.
 given-same : (before : List ℤ) (x : Marking) → 100 < markingNumber x
     → _≡_ {A = Returned} (record { number = markingNumber x; values = ruleValues (ruleOfWords (ruleGiven before x)) }) (markingReturned x)
 given-same before (Marked Equal) h = absurd (omega arith)
-given-same before (Marked (Loose rule)) h = rw (words-rule rule)
-given-same before (Marked (Tight rule)) h = rw (words-rule rule)
+given-same before (Marked (Loose rule)) h = rw (words-values rule)
+given-same before (Marked (Tight rule)) h = rw (words-values rule)
 given-same before (Refused f) h = absurd (omega (arith, refusal-below f))
 
 -- no need of the call is refused with 5
@@ -68,62 +61,25 @@ needs-never f (inr (a, inr (b, inr (c, inr (d, inr x))))) e = x .1
 
 -- ---- a loose verdict without a rule
 
--- a loose verdict by a rule of the key carries one of one quantity or of two
-carried-term : (x y rule : Rule) → orElse Loose x (orElse Tight y Equal) ≡ Loose rule → hasTerm rule ≡ true
-carried-term (One q c) y rule e = let d : One q c ≡ rule = cc in rw (← d)
-carried-term (Two p q c) y rule e = let d : Two p q c ≡ rule = cc in rw (← d)
-carried-term (Nothing c) (One q d) rule e = let z : _≡_ {A = ℕ} 0 1 = cc in absurd (omega arith)
-carried-term (Nothing c) (Two p q d) rule e = let z : _≡_ {A = ℕ} 0 1 = cc in absurd (omega arith)
-carried-term (Nothing c) (Nothing d) rule e = let z : _≡_ {A = ℕ} 0 1 = cc in absurd (omega arith)
-
--- so one without is the trivial rule
-bare-trivial : (hidden : ℕ → Bool) (n : ℕ) (sheet script : List ℤ) (rule : Rule) → verdictOf hidden n sheet script ≡ Loose rule → hasTerm rule ≡ false
-    → rule ≡ trivialRule
-unfolding verdictOf
-bare-trivial hidden n sheet script rule e h = go (refuted n sheet) (refuted n script) e
-  where
-    first : Rule
-    first = firstBroken n (keyOf hidden n sheet) script
-
-    other : Rule
-    other = firstBroken n script (keyOf hidden n sheet)
-
-    go : (a b : Bool) → cond a (cond b Equal (Loose trivialRule)) (orElse Loose first (orElse Tight other Equal)) ≡ Loose rule → rule ≡ trivialRule
-    go true true d = let z : _≡_ {A = ℕ} 0 1 = cc in absurd (omega arith)
-    go true false d = cc
-    go false b d = clash (carried-term first other rule d) h
-
--- the verdict of a reply is that of the tables
-verdict-marked : (a : Reply) (v w : Verdict) → markedAs a v ≡ Marked w → v ≡ w
-verdict-marked Done v w e = cc
-verdict-marked (NotDone f) v w e = let z : _≡_ {A = ℕ} 0 1 = cc in absurd (omega arith)
-
 module _ {n set : ℕ} {sheet script w u w' u' : List ℤ} where
-  -- no integers satisfy the sheet exactly where the rule of a loose verdict is the trivial one
-  loose-none : (rule : Rule) → TablesMarked n set sheet script w u (Marked (Loose rule)) w' u' → Unsatisfiable n sheet ↔ (rule ≡ trivialRule)
-  unfolding markReply
-  loose-none rule m = (λ none. there none carried, λ e. back e carried)
-    where
-      carried : LooseRule (hiddenIn set) n sheet (Satisfies n script) rule
-      carried = m .means refl .loose rule refl .0
+  -- no integers satisfy the sheet exactly where the rule of a loose verdict has no term
+  loose-none : (rule : Rule) → LooseRule (hiddenIn set) n sheet (Satisfies n script) rule → Unsatisfiable n sheet ↔ (hasTerm rule ≡ false)
+  loose-none rule (inl x) = (λ none. x .1, λ e. x .0)
+  loose-none rule (inr x) = (
+    λ none. absurd (none (x .0 .assignment) (x .0 .satisfies)),
+    λ e. clash (ap hasTerm (x .1 .is) ∙ ruleAt-term (x .1 .place) (wordAt (keyOf (hiddenIn set) n sheet) (x .1 .place))) e,
+  )
 
-      there : Unsatisfiable n sheet → LooseRule (hiddenIn set) n sheet (Satisfies n script) rule → rule ≡ trivialRule
-      there none (inl x) = bare-trivial (hiddenIn set) n sheet script rule (verdict-marked (markChecks n set sheet script (length w) (length u)) _ _ (sym (m .reply))) (x .1)
-      there none (inr x) = absurd (none (x .0 .assignment) (x .0 .satisfies))
-
-      back : rule ≡ trivialRule → LooseRule (hiddenIn set) n sheet (Satisfies n script) rule → Unsatisfiable n sheet
-      back e (inl x) = x .0
-      back e (inr x) = clash (ap hasTerm (x .1 .is) ∙ ruleAt-term (x .1 .place) (wordAt (keyOf (hiddenIn set) n sheet) (x .1 .place))) (ap hasTerm e)
-
-  -- by its words
-  words-none : (before : List ℤ) (x : Marking) → TablesMarked n set sheet script w u x w' u' → (markingNumber x ≡ 101)
-      → Unsatisfiable n sheet ↔ (ruleGiven before x ≡ ruleWords trivialRule)
-  words-none before (Marked Equal) m e = absurd (omega arith)
-  words-none before (Marked (Loose rule)) m e =
-      let t = loose-none rule m in
-      (λ none. ap ruleWords (t .0 none), λ d. t .1 (sym (words-rule rule) ∙ ap ruleOfWords d ∙ words-rule trivialRule))
-  words-none before (Marked (Tight rule)) m e = absurd (omega arith)
-  words-none before (Refused f) m e = absurd (omega (arith, refusal-below f))
+  -- where its words are all 0
+  loose-words : (before : List ℤ) (x : Marking) → TablesMarked n set sheet script w u x w' u' → (markingNumber x ≡ 101)
+      → Unsatisfiable n sheet ↔ (ruleGiven before x ≡ noWords)
+  loose-words before (Marked Equal) m e = absurd (omega arith)
+  loose-words before (Marked (Loose rule)) m e =
+      let t = loose-none rule (m .means refl .loose rule refl .0) in
+      let z = words-none rule in
+      (λ none. z .1 (t .0 none), λ d. t .1 (z .0 d))
+  loose-words before (Marked (Tight rule)) m e = absurd (omega arith)
+  loose-words before (Refused f) m e = absurd (omega (arith, refusal-below f))
 
   -- and 5 is no number of a reply
   marked-never : (x : Marking) → TablesMarked n set sheet script w u x w' u' → (markingNumber x ≡ 5) → ⊥
@@ -142,7 +98,8 @@ tables-answer n set sheet script w u rule w' u' rule' reply r v m e d c = record
   decided = rw (e, d) (decided-as (m .decided) (marking-told reply) (marking-from reply));
   call = rw (m .reply) at m;
   means = rw (e, c) (λ h. means-told _ (markingReturned reply) refl (given-same rule reply) (m .means (marking-from reply .0 h)));
-  none = rw (e, c) (words-none rule reply m);
+  none = rw (e, c) (loose-words rule reply m);
+  own-key = λ k l h. e ∙ ap number (m .own-key k l h);
   never = rw e (marked-never reply m);
 }
 

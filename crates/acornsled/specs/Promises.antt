@@ -11,8 +11,7 @@ use Rattle.rules.specs.declared.refusal.Refusal.{Refusal}
 use Rattle.rules.specs.Limits.{maxQuantities}
 use Rattle.rules.specs.Refusal.{refusalNumber, refusalValue}
 use Rattle.rules.specs.Refusing.{DecidedBy}
-use Rattle.rules.specs.RuleWords.{ruleValues, ruleWords, ruleOfWords}
-use Rattle.rules.specs.Steps.{trivialRule}
+use Rattle.rules.specs.RuleWords.{ruleValues, noWords, ruleOfWords}
 use Rattle.tables.specs.Replies.{replyNumber, replyValue}
 use Rattle.tables.specs.Meaning.{Satisfies, Unsatisfiable}
 use Rattle.keys.specs.Keys.{keyReply, assignmentReply}
@@ -22,7 +21,7 @@ use Rattle.marking.specs.declared.verdict.Marking.{Marking}
 use Rattle.marking.specs.declared.verdict.Marking.the-variants.{Marked as Given}
 use Rattle.marking.specs.declared.verdict.Marking.the-variants.{Refused as NotGiven}
 use Rattle.marking.specs.Verdicts.{carriedWords, markingNumber, markingValue}
-use Rattle.marking.specs.Meaning.{VerdictMeans, markNeeds}
+use Rattle.marking.specs.Meaning.{VerdictMeans, markNeeds, workspaceSize, OwnKey}
 use Rattle.marking.specs.Marking.{markReply}
 use Rattle.marking.specs.Promises.{TablesMarked}
 use Rattle.reading.specs.declared.read.Reading.{Reading}
@@ -39,7 +38,7 @@ use Rattle.scripts.specs.declared.reply.TextMarking.{TextMarking}
 use Rattle.scripts.specs.declared.reply.TextMarking.the-variants.{Marked}
 use Rattle.scripts.specs.declared.reply.TextMarking.the-variants.{Refused as NotMarked}
 use Rattle.scripts.specs.Replies.{textsReturned, textNumber, textValue, textPaper, paperNumber, isTextShown}
-use Rattle.scripts.specs.Meaning.{AcceptedPair, RefusedPair, ownLengths}
+use Rattle.scripts.specs.Meaning.{AcceptedPair, RefusedPair, OwnKeyText, ownLengths}
 use Rattle.scripts.specs.Marking.{textsReply, countIn}
 use Rattle.scripts.specs.Promises.{PairJudged, TextsJudged}
 
@@ -113,6 +112,8 @@ pub record MarkAnswer (sheet script : List ℕ) (r : ℕ) : Type 0 where
   pub values : List ℤ
   pub call : TextsJudged sheet script (ownLengths maxQuantities) (hostReply sheet script maxQuantities) values
   pub judged : (t : AcceptedPair sheet script (ownLengths maxQuantities)) → PairJudged t (record { number = r; values = textsReturned (hostReply sheet script maxQuantities) .values }) values
+  -- the text of a sheet's own key is equal
+  pub own-key : OwnKeyText sheet script → r ≡ 100
 
 -- n after marking: with a verdict the sheet's, else as it was
 abbrev pub countMarked : ℕ → TextMarking → ℕ
@@ -151,6 +152,8 @@ pub record MarkTextsAnswer (sheet script : List ℕ) (n : ℕ) (rule values : Li
   pub never : (r ≡ 5) → ⊥
   pub short : (r ≡ 6) ↔ (Readable Script script × (length values < countIn sheet))
   pub needed : (r ≡ 6) → v ≡ countIn sheet
+  -- the text of a sheet's own key is equal, where the assignment has the sheet's n words
+  pub own-key : OwnKeyText sheet script → countIn sheet ≤ length values → r ≡ 100
   -- any other number is that of marking without the reasons
   pub agrees : ((r ≡ 6) → ⊥) → r ≡ textNumber (hostReply sheet script maxQuantities)
 
@@ -171,7 +174,9 @@ pub record MarkTablesAnswer (n set : ℕ) (sheet script workspace values rule : 
   -- a verdict's number means what demand 3 says; the rule of a loose or tight verdict is the one of these words, and the assignment shows the verdict and breaks it
   pub means : 100 ≤ r
       → VerdictMeans n set (Satisfies n sheet) (Satisfies n script) sheet script (record { number = r; values = ruleValues (ruleOfWords rule') }) values'
-  -- the words of a loose verdict are 0, 0 and the no-rule word exactly where no integers satisfy the sheet
-  pub none : (r ≡ 101) → Unsatisfiable n sheet ↔ (rule' ≡ ruleWords trivialRule)
+  -- a loose verdict has no rule, and its words are all 0, exactly where no integers satisfy the sheet
+  pub none : (r ≡ 101) → Unsatisfiable n sheet ↔ (rule' ≡ noWords)
+  -- a sheet's own key, with the lent words there, is equal
+  pub own-key : OwnKey n set sheet script → workspaceSize n ≤ length workspace → n ≤ length values → r ≡ 100
   -- 5 is no reply of marking
   pub never : (r ≡ 5) → ⊥

@@ -2,11 +2,12 @@
 use mathlib.Core.Path.{_≡_, refl, sym, _∙_, ap}
 use mathlib.Core.Bool.{Bool, true, false, cond}
 use mathlib.Core.List.{List, [], _∷_}
-use mathlib.Core.Logic.{_⊎_, inl, inr}
+use mathlib.Core.Logic.{_⊎_, _↔_, inl, inr}
 use Prim.Native.Nat.{ℕ, suc, _≤_, _+_, _/_, _%_}
 use native.Mathlib.Omega.{arith}
 use lib.Dec.{eqb}
 use lib.IntN.{ℤ, pos, negℤ}
+use lib.ListN.{getD}
 use borrow.Author.Tests.{eqb-true, eqb-false}
 use Rattle.words.specs.Change.{wordAt}
 use Rattle.places.specs.Numbering.{isOne, higherAt, lowerAt}
@@ -18,7 +19,7 @@ use Rattle.rules.specs.Meaning.{Assignment, hasTerm}
 use Rattle.rules.specs.Refusal.{refusalNumber}
 use Rattle.rules.specs.Steps.{trivialRule, isNone, ruleOf}
 use Rattle.rules.proofs.Refusals.{refusal-below}
-use Rattle.rules.specs.RuleWords.{ruleValues, ruleWords, ruleOfWords}
+use Rattle.rules.specs.RuleWords.{ruleValues, noWords, ruleWords, ruleOfWords}
 use Rattle.tables.specs.Places.{ruleAt}
 use Rattle.tables.specs.Meaning.{Solutions}
 use Rattle.tables.proofs.Tests.{clash}
@@ -103,12 +104,22 @@ signed-some x = go (eqb (x % 2) 0)
     go true = rw next refl
     go false = rw next refl
 
--- the rule of a rule's words is that rule
-pub words-rule : (r : Rule) → ruleOfWords (ruleWords r) ≡ r
+-- the rule of a rule's words has its values
+pub words-values : (r : Rule) → ruleValues (ruleOfWords (ruleWords r)) ≡ ruleValues r
 unfolding ruleOf
-words-rule (One x c) = rw (signed-some x, signed-back x)
-words-rule (Two x y c) = rw (signed-some x, signed-some y, signed-back x, signed-back y)
-words-rule (Nothing c) = refl
+words-values (One x c) = rw (signed-some x, signed-back x)
+words-values (Two x y c) = rw (signed-some x, signed-some y, signed-back x, signed-back y)
+words-values (Nothing c) = refl
+
+-- so the words of a rule with a term are not all 0
+signed-word : (x : ℕ) {q c : ℤ} → signedOf x ∷ q ∷ c ∷ [] ≡ noWords → ⊥
+signed-word x e = clash (ap (λ (w : List ℤ). isNone (getD w 0 (pos 0))) e) (signed-some x)
+
+-- and those of one without are
+pub words-none : (r : Rule) → (ruleWords r ≡ noWords) ↔ (hasTerm r ≡ false)
+words-none (One x c) = (λ e. absurd (signed-word x e), λ e. clash refl e)
+words-none (Two x y c) = (λ e. absurd (signed-word x e), λ e. clash refl e)
+words-none (Nothing c) = (λ e. refl, λ e. refl)
 
 -- a place's rule has a term
 pub ruleAt-term : (k : ℕ) (c : ℤ) → hasTerm (ruleAt k c) ≡ true

@@ -28,7 +28,7 @@ carriedRule (Tight r) = r
 abbrev pub verdictReturned : Verdict → Returned
 verdictReturned v = record { number = verdictNumber v; values = ruleValues (carriedRule v) }
 
--- a host's three words after a verdict: with loose and tight those of its rule, 0, 0 and its bound where it has no term; with equal as they were
+-- a host's three words after a verdict: with loose and tight those of its rule, all 0 where it carries none; with equal as they were
 abbrev pub carriedWords : List ℤ → Verdict → List ℤ
 carriedWords before Equal = before
 carriedWords before (Loose r) = ruleWords r

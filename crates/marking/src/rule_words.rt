@@ -1,4 +1,4 @@
-// A rule as three words for a host: two signed quantity numbers, 0 for one that is not there, and the bound.
+// A rule as three words for a host: two signed quantity numbers, 0 for one that is not there, and the bound; all 0 where there is no rule.
 use crate::verdict::Verdict;
 use rules::literal;
 use rules::rule::Rule;
@@ -33,8 +33,8 @@ fn put_rule(rule: Rule, words: &mut [i64; 3])
         } => {
             *words = [signed(first), signed(second), bound];
         }
-        Rule::Nothing { bound } => {
-            *words = [0, 0, bound];
+        Rule::Nothing { bound: _ } => {
+            *words = [0, 0, 0];
         }
     }
 }

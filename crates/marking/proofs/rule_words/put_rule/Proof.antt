@@ -21,8 +21,8 @@ signed-requires-2 c κs = search needs
 signed-requires-3 : tie.Need-signed-requires-3
 signed-requires-3 c κs = search needs
 
-enum-known-rule-3 : tie.Need-enum-known-rule-3
-enum-known-rule-3 c = search needs
+enum-told : tie.Need-enum-told
+enum-told c = search needs
 
 returns : tie.Need-returns
 returns c =
@@ -39,9 +39,7 @@ returns-2 c =
     (sym (ap ruleWords (k .before .rule2 .given .1)))
 
 returns-3 : tie.Need-returns-3
-returns-3 c =
-    let k = c .before in
-    rw (held-value (k .known-told3 .given .0 .1)) (sym (ap ruleWords (k .before .rule3 .given .1)))
+returns-3 c = sym (ap ruleWords (c .before .enum-told .given .1))
 
 pub put-rule-spec : {M : Type 1} → statement M
 put-rule-spec =
@@ -52,7 +50,7 @@ put-rule-spec =
     enum-known-rule-2
     signed-requires-2
     signed-requires-3
-    enum-known-rule-3
+    enum-told
     returns
     returns-2
     returns-3)

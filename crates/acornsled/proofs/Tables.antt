@@ -61,21 +61,21 @@ needs-never f (inr (a, inr (b, inr (c, inr (d, inr x))))) e = x .1
 
 -- ---- a loose verdict without a rule
 
-module _ {n set : ℕ} {sheet script w u w' u' : List ℤ} where
-  -- no integers satisfy the sheet exactly where the rule of a loose verdict has no term
-  loose-none : (rule : Rule) → LooseRule (hiddenIn set) n sheet (Satisfies n script) rule → Unsatisfiable n sheet ↔ (hasTerm rule ≡ false)
-  loose-none rule (inl x) = (λ none. x .1, λ e. x .0)
-  loose-none rule (inr x) = (
-    λ none. absurd (none (x .0 .assignment) (x .0 .satisfies)),
-    λ e. clash (ap hasTerm (x .1 .is) ∙ ruleAt-term (x .1 .place) (wordAt (keyOf (hiddenIn set) n sheet) (x .1 .place))) e,
-  )
+-- no integers satisfy the sheet exactly where the rule of a loose verdict has no term
+loose-none : (n set : ℕ) (sheet script : List ℤ) (rule : Rule) → LooseRule (hiddenIn set) n sheet (Satisfies n script) rule → Unsatisfiable n sheet ↔ (hasTerm rule ≡ false)
+loose-none n set sheet script rule (inl x) = (λ none. x .1, λ e. x .0)
+loose-none n set sheet script rule (inr x) = (
+  λ none. absurd (none (x .0 .assignment) (x .0 .satisfies)),
+  λ e. clash (ap hasTerm (x .1 .is) ∙ ruleAt-term (x .1 .place) (wordAt (keyOf (hiddenIn set) n sheet) (x .1 .place))) e,
+)
 
+module _ {n set : ℕ} {sheet script w u w' u' : List ℤ} where
   -- where its words are all 0
   loose-words : (before : List ℤ) (x : Marking) → TablesMarked n set sheet script w u x w' u' → (markingNumber x ≡ 101)
       → Unsatisfiable n sheet ↔ (ruleGiven before x ≡ noWords)
   loose-words before (Marked Equal) m e = absurd (omega arith)
   loose-words before (Marked (Loose rule)) m e =
-      let t = loose-none rule (m .means refl .loose rule refl .0) in
+      let t = loose-none n set sheet script rule (m .means refl .loose rule refl .0) in
       let z = words-none rule in
       (λ none. z .1 (t .0 none), λ d. t .1 (z .0 d))
   loose-words before (Marked (Tight rule)) m e = absurd (omega arith)

@@ -4,6 +4,7 @@ mod meets;
 mod methods;
 mod numbering;
 mod printing;
+mod ranges;
 mod refusals;
 mod replies;
 mod scope;
@@ -27,5 +28,6 @@ fn main() {
     run(&mut table);
     verdicts::run();
     refusals::run();
+    ranges::run();
     texts::run();
 }

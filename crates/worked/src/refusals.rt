@@ -39,7 +39,7 @@ fn mark(
 }
 
 // Marks with enough lent for 3 quantities, after a heading.
-fn mark_after(heading: &[u8], n: usize, hidden: Set, paper: &[i64], script: &[i64]) {
+pub(crate) fn mark_after(heading: &[u8], n: usize, hidden: Set, paper: &[i64], script: &[i64]) {
     sheet::head(heading);
     let mut workspace = [0; WORKSPACE];
     let mut values = [7; 3];
@@ -131,7 +131,7 @@ fn names_last() {
     let table = [Sheet::NO_RULE; TABLE];
     let mut past = [0; TABLE];
     sheet::begin(b"a bound past the limit that names 2", 3, &mut past);
-    sheet::put(3, &mut past, 2, 0, 1_000_000_001);
+    sheet::put(3, &mut past, 2, 0, 2_000_000_001);
     mark_after(b"2 hidden", 3, 0b10, &table, &past);
     let mut script = [0; TABLE];
     sheet::begin(b"in the sheet, and a script that names 2", 3, &mut script);

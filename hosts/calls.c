@@ -331,7 +331,7 @@ static void refusing_tables(void)
 static void marking_tables(void)
 {
     static const int64_t half[] = {0, -1}, all[] = {NONE, NONE}; /* the first is satisfied by nothing, the second by all */
-    static const int64_t none[] = {BEFORE, BEFORE, BEFORE}, sum[] = {1, 3, 5}, low[] = {1, 0, 2}, trivial[] = {0, 0, NONE};
+    static const int64_t none[] = {BEFORE, BEFORE, BEFORE}, sum[] = {1, 3, 5}, low[] = {1, 0, 2}, zero[] = {0, 0, 0};
 
     refusing_tables();
     /* +1+1:7 is the same in a table as +1:3 */
@@ -350,7 +350,7 @@ static void marking_tables(void)
     /* a sheet that nothing satisfies is marked, and a loose verdict then has no rule */
     lend(half, 2);
     tabled(1, 0, half, ACORNSLED_EQUAL, none);
-    tabled(1, 0, all, ACORNSLED_LOOSE, trivial);
+    tabled(1, 0, all, ACORNSLED_LOOSE, zero);
 }
 
 int main(void)

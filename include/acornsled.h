@@ -117,8 +117,7 @@ uint32_t acornsled_mark(const uint8_t *sheet, size_t sheet_length, const uint8_t
  * Loose and tight write a rule to `rule`: for loose the first rule of the key, by place, that something which the script allows
  * breaks; for tight the first rule of the script's table that something which satisfies the sheet breaks. Its words are two
  * quantity numbers with their signs, +q as q and -q as -q, the lower quantity first, and the bound; a rule of one quantity has
- * 0 for the second. Where the sheet itself allows nothing a loose verdict has no rule, and the words are 0, 0 and
- * ACORNSLED_NO_RULE.
+ * 0 for the second. Where the sheet itself allows nothing a loose verdict has no rule, and all three words are 0.
  *
  * Loose and tight also write to the first n words of `values` integers from -2^62 to 2^62 that show the verdict and break the
  * rule: for loose the script allows the visible ones, no hidden values complete them, and the hidden words are 0; for tight all
@@ -132,8 +131,9 @@ uint32_t acornsled_mark_texts(const uint8_t *sheet, size_t sheet_length, const u
 /*
  * Marks a script against a sheet, both as tables over n quantities with one hidden set: 100, 101 or 102, or 1, 3, 6, 7. The
  * workspace needs 4n^2 words and `values` n. 1 comes for n and for either table, then 6 for the workspace, 6 for `values`, 3
- * for the hidden set and for a bound of either table, and 7 where a rule of the script names a hidden quantity. 5 is no
- * answer: a sheet that nothing satisfies is marked.
+ * for the hidden set and for a bound past the limit of its paper, which for the script is the sheet's, doubled for each
+ * quantity of the set, and 7 where a rule of the script names a hidden quantity. 5 is no answer: a sheet that nothing
+ * satisfies is marked.
  *
  * `value` gets the length needed with 6 and 0 with all others. Loose and tight write the rule to `rule` and the integers that
  * show the verdict to the first n words of `values`, both as acornsled_mark_texts does. A verdict leaves the first 4n^2 words

@@ -24,7 +24,8 @@
 #define ACORNSLED_VERSION_PATCH 0
 #define ACORNSLED_VERSION "0.1.0"
 
-/* The limits of a sheet. Bounds are from -ACORNSLED_MOST_BOUND to ACORNSLED_MOST_BOUND; those of a key may be larger. */
+/* The limits of a sheet. Bounds are from -ACORNSLED_MOST_BOUND to ACORNSLED_MOST_BOUND; for a script, whose other limits are the
+ * same, ACORNSLED_MOST_BOUND is doubled once for each hidden quantity, and those of a key are never larger. */
 #define ACORNSLED_MOST_QUANTITIES 32
 #define ACORNSLED_MOST_BOUND 1000000000
 #define ACORNSLED_MOST_RULES 2048

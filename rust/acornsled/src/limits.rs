@@ -1,8 +1,8 @@
-//! The limits of a sheet, and lengths that are enough for every one.
+//! The limits of a sheet and of a script, and lengths that are enough for every one.
 
 /// The most quantities.
 pub const MOST_QUANTITIES: usize = 32;
-/// The largest magnitude of a bound in a sheet; those of a key may be larger.
+/// The largest magnitude of a bound in a sheet; [`script_bound`] has that of a script.
 pub const MOST_BOUND: i64 = 1_000_000_000;
 /// The most rule lines.
 pub const MOST_RULES: usize = 2_048;
@@ -16,3 +16,17 @@ pub const MARKING_WORDS: usize = 4_096;
 pub const TEXT_BYTES: usize = 67_703;
 /// The word of a term without a rule.
 pub const NO_RULE: i64 = i64::MAX;
+
+/// The largest magnitude of a bound in a script with these hidden quantities, bit q - 1 for quantity q: a sheet's, doubled for
+/// each of them. The bounds of a key are never larger.
+///
+/// ```
+/// use acornsled::limits::{script_bound, MOST_BOUND};
+///
+/// assert_eq!(script_bound(0), MOST_BOUND);
+/// assert_eq!(script_bound(0b010), 2_000_000_000);
+/// ```
+pub const fn script_bound(hidden: u32) -> i64 {
+    // with all 32 of them it is below 2^62
+    MOST_BOUND << hidden.count_ones()
+}

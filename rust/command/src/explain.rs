@@ -1,13 +1,15 @@
 //! `acornsled explain`: what a text says, in words, for a reader who does not know the format.
 
+mod papers;
 mod rule;
 
-use crate::reason::contradiction;
 use crate::reason::written::{listed, Written};
+use crate::reason::{contradiction, integers};
 use crate::source::Source;
 use crate::status::Status;
 use crate::usage::{self, counted};
 use crate::{arguments, output, reason};
+use acornsled::Paper;
 use std::ffi::OsString;
 
 /// Prints what the text says, or why it is refused.
@@ -24,57 +26,48 @@ pub fn run(given: &[OsString]) -> Status {
             return Status::Failed;
         }
     };
-    match Written::of(&text) {
-        Ok(written) => output::answer(told(&text, &written).as_bytes()),
-        Err(refusal) => {
-            let reason = format!("{}\n", reason::of(&source.to_string(), &text, refusal));
+    match papers::read(&text) {
+        Ok(written) => output::answer(told(&written).as_bytes()),
+        Err(refused) => {
+            let reason = format!("{}\n", reason::of(&source.to_string(), &text, refused));
             output::answer(reason.as_bytes()).max(Status::Refused)
         }
     }
 }
 
 /// What an accepted text says, in lines.
-fn told(text: &[u8], written: &Written) -> String {
+fn told(written: &Written) -> String {
     let mut lines = vec![quantities(written)];
     lines.push(match written.rules.len() {
         0 => "no rules".to_string(),
         count => format!("{}:", counted(count, "rule", "rules")),
     });
     lines.extend(written.rules.iter().map(|(line, rule)| format!("line {line}: {}", rule::in_words(rule))));
-    lines.extend(script(written));
-    lines.extend(integers(text, written));
+    lines.extend(papers::told(written));
+    lines.extend(satisfied(written));
     lines.push(String::new());
     lines.join("\n")
 }
 
 /// How many quantities there are, and which of them are hidden.
 fn quantities(written: &Written) -> String {
-    let hidden = written.hidden();
+    let hidden = written.hidden.quantities();
     let shown = match hidden.len() {
         0 => "none of them hidden".to_string(),
         1 => format!("quantity {} is hidden", listed(&hidden)),
         _ => format!("quantities {} are hidden", listed(&hidden)),
     };
-    format!("{}; {shown}", counted(written.table.quantities, "quantity", "quantities"))
-}
-
-/// Why the text could not be a script, where some rule names a hidden quantity.
-fn script(written: &Written) -> Option<String> {
-    let naming = |rule| rule::quantities(rule).into_iter().any(|quantity| written.is_hidden(quantity));
-    let lines: Vec<usize> = written.rules.iter().filter(|(_, rule)| naming(rule)).map(|&(line, _)| line).collect();
-    let named = match lines.len() {
-        0 => return None,
-        1 => format!("line {} names a hidden quantity", listed(&lines)),
-        _ => format!("lines {} name a hidden quantity", listed(&lines)),
-    };
-    Some(format!("{named}: the text can be a sheet, but not a script"))
+    format!("{}; {shown}", counted(written.quantities, "quantity", "quantities"))
 }
 
 /// Integers that satisfy all rules, or that there are none.
-fn integers(text: &[u8], written: &Written) -> Vec<String> {
-    let Ok(values) = written.table.assignment() else {
-        let mut lines = vec!["no integers satisfy all rules, so that key refuses the text with 5".to_string()];
-        lines.extend(contradiction::told(text));
+fn satisfied(written: &Written) -> Vec<String> {
+    let lines: Vec<usize> = written.rules.iter().map(|&(line, _)| line).collect();
+    let Some(values) = integers::satisfying(written, &lines) else {
+        // of a text that is no sheet there is no key
+        let refused = if written.paper == Paper::Sheet { ", so that key refuses the text with 5" } else { "" };
+        let mut lines = vec![format!("no integers satisfy all rules{refused}")];
+        lines.extend(contradiction::told(written));
         return lines;
     };
     let named = |(place, value)| format!("quantity {} = {value}", place + 1);

@@ -3,7 +3,7 @@
 use crate::source::Source;
 use crate::status::Status;
 use crate::{arguments, output, usage};
-use acornsled::Refusal;
+use acornsled::{Paper, Refusal, Refused};
 use std::ffi::OsString;
 
 /// Prints the key's text or the refusal, and tells why it is refused.
@@ -18,7 +18,7 @@ pub fn run(given: &[OsString]) -> Status {
         Ok(key) => output::answer(&key),
         Err(refusal) => {
             let printed = output::answer(lines(refusal).as_bytes());
-            sheet.tell_refusal(refusal);
+            sheet.tell_refusal(Refused { paper: Paper::Sheet, refusal });
             printed.max(sheet.status).max(Status::Refused)
         }
     }

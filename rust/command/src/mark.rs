@@ -37,8 +37,8 @@ fn held(paper: Paper, source: Source) -> Held {
 
 fn tell_refusal(refused: Refused, sheet: &Held, script: &Held) {
     match refused.paper {
-        Paper::Sheet => sheet.tell_refusal(refused.refusal),
-        Paper::Script => script.tell_refusal(refused.refusal),
+        Paper::Sheet => sheet.tell_refusal(refused),
+        Paper::Script => script.tell_refusal(refused),
         Paper::Both => {
             let told = reason::of_pair([&sheet.name, &script.name], [&sheet.bytes, &script.bytes], refused.refusal);
             output::tell(&told.to_string());

@@ -11,6 +11,8 @@ pub mod encoding;
 pub mod fault;
 pub mod form;
 pub mod fractions;
+pub mod hidden;
+pub mod integers;
 pub mod key;
 pub mod kind;
 pub mod limit;
@@ -22,9 +24,10 @@ pub mod relation;
 pub mod written;
 
 use acornsled::limits::MOST_BYTES;
-use acornsled::Refusal;
+use acornsled::{Paper, Refusal, Refused};
 use lines::Lines;
 use std::fmt;
+use written::Written;
 
 /// A headline, which says what is refused, with which number and where, and what is told of it, in lines.
 #[derive(Clone, PartialEq, Eq, Debug)]
@@ -40,13 +43,14 @@ impl fmt::Display for Reason {
     }
 }
 
-/// Why the text of this name is refused so.
-pub fn of(name: &str, text: &[u8], refusal: Refusal) -> Reason {
+/// Why the text of this name is refused so, as a sheet or as a script.
+pub fn of(name: &str, text: &[u8], refused: Refused) -> Reason {
+    let Refused { paper, refusal } = refused;
     let lines = Lines::of(text);
     let (place, details) = match refusal {
-        Refusal::Size => (": the text is too long".to_string(), size(text)),
+        Refusal::Size => (": the text is too long".to_string(), size(text, paper)),
         Refusal::Malformed { line } => at_line(line, malformed::told(&lines, line)),
-        Refusal::OutOfLimit { line } => at_line(line, limit::outside(&lines, line)),
+        Refusal::OutOfLimit { line } => at_line(line, limit::outside(&lines, line, paper)),
         Refusal::Cancelling { line } => at_line(line, limit::cancelling(&lines, line)),
         Refusal::NoAssignment => (": no integers satisfy its rules".to_string(), unsatisfied(text)),
         // 6 and 7 are about no single text
@@ -76,11 +80,15 @@ fn at_line(line: usize, told: Told) -> (String, Vec<String>) {
     (format!(" at line {line}{byte}"), told.details)
 }
 
-/// What is told of a text that is too long.
-fn size(text: &[u8]) -> Vec<String> {
+/// What is told of a text that is too long. A script may be so within all other limits, for its bounds may be longer.
+fn size(text: &[u8], paper: Paper) -> Vec<String> {
+    let enough = match paper {
+        Paper::Script => "; of rules with the same terms the one with the smallest bound is enough",
+        Paper::Sheet | Paper::Both => ", which take no more than 49,271 bytes",
+    };
     let mut details = vec![
         format!("a text has at most {} bytes, and this one has more", grouped(MOST_BYTES)),
-        "expected: three lines and at most 2,048 rule lines, which take no more than 49,271 bytes".to_string(),
+        format!("expected: three lines and at most 2,048 rule lines{enough}"),
     ];
     if let Some(fault) = encoding::fault(text) {
         details.push(format!("it begins with {}", fault.what));
@@ -89,9 +97,9 @@ fn size(text: &[u8]) -> Vec<String> {
     details
 }
 
-/// What is told of a text that no integers satisfy.
+/// What is told of a sheet that no integers satisfy.
 fn unsatisfied(text: &[u8]) -> Vec<String> {
-    let mut details = contradiction::told(text);
+    let mut details = Written::of(text, Paper::Sheet).map_or(Vec::new(), |written| contradiction::told(&written));
     details.push("expected: rules that some integers satisfy together".to_string());
     details
 }

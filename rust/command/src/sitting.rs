@@ -20,7 +20,7 @@ use crate::reason;
 use crate::source::Source;
 use crate::status::Status;
 use crate::visible;
-use acornsled::Table;
+use acornsled::{Paper, Refused, Table};
 use arguments::{Asked, Sitting};
 use marking::Halt;
 use std::ffi::{OsStr, OsString};
@@ -72,7 +72,7 @@ fn sheet(name: &OsStr) -> Result<Vec<u8>, Status> {
         Status::Failed
     })?;
     Table::read(&text).map_err(|refusal| {
-        tell(&reason::of(&name, &text, refusal).to_string());
+        tell(&reason::of(&name, &text, Refused { paper: Paper::Sheet, refusal }).to_string());
         tell("no script is marked");
         Status::Refused
     })?;

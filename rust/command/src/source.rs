@@ -3,7 +3,7 @@
 use crate::output::tell;
 use crate::status::Status;
 use crate::{files, reason, visible};
-use acornsled::Refusal;
+use acornsled::Refused;
 use std::ffi::OsStr;
 use std::fmt;
 use std::io;
@@ -65,9 +65,9 @@ pub struct Held {
 
 impl Held {
     /// Tells why the text is refused; of one that cannot be read this is told already.
-    pub fn tell_refusal(&self, refusal: Refusal) {
+    pub fn tell_refusal(&self, refused: Refused) {
         if self.status == Status::Answered {
-            tell(&reason::of(&self.name, &self.bytes, refusal).to_string());
+            tell(&reason::of(&self.name, &self.bytes, refused).to_string());
         }
     }
 }

@@ -2,10 +2,11 @@
 
 mod random;
 
-use acornsled::{Refusal, Table};
+use acornsled::limits::script_bound;
+use acornsled::{Paper, Refusal, Table};
 use acornsled_command::reason::form::{self, RuleLine};
 use acornsled_command::reason::written::Written;
-use acornsled_command::reason::{contradiction, fractions};
+use acornsled_command::reason::{contradiction, fractions, integers};
 use random::{text, Random};
 
 fn contradict(n: usize, rules: &[String]) -> bool {
@@ -16,7 +17,7 @@ fn contradict(n: usize, rules: &[String]) -> bool {
 /// The rules of the lines that are told contradict each other, and without any one of them they do not.
 fn assert_smallest(n: usize, rules: &[String]) -> usize {
     let whole = text(n, "", rules);
-    let written = Written::of(whole.as_bytes()).expect("the text is accepted");
+    let written = Written::of(whole.as_bytes(), Paper::Sheet).expect("the text is accepted");
     let lines = contradiction::smallest(&written);
     let kept: Vec<String> = lines.iter().map(|line| rules[line - 4].clone()).collect();
     assert!(contradict(n, &kept), "{kept:?} of {rules:?}");
@@ -53,6 +54,41 @@ fn a_contradiction_is_found_in_the_longest_text() {
         rules.insert(at, random.rule(32, 4).replace(':', ":99999").replace(":99999-", ":99999"));
     }
     assert_eq!(assert_smallest(32, &rules), 33);
+}
+
+/// Rules of a script with 26 hidden quantities, the bounds as large as those of a key may be. All of them are even, so that
+/// where fractions satisfy them integers do.
+#[test]
+fn no_rule_of_a_script_that_is_told_can_be_left_out() {
+    let hidden: Vec<String> = (7..=32).map(|quantity| quantity.to_string()).collect();
+    let mut most = 0;
+    for round in 0..300 {
+        let mut random = Random(round);
+        let rules: Vec<String> = (0..random.below(20) + 2).map(|_| enlarged(&random.rule(6, 4))).collect();
+        let whole = text(32, &hidden.join(","), &rules);
+        let written = Written::of(whole.as_bytes(), Paper::Script).expect("the text is accepted");
+        let read: Vec<RuleLine> = written.rules.iter().map(|&(_, rule)| rule).collect();
+        let satisfied = fractions::satisfy(32, &read);
+        let all: Vec<usize> = (4..4 + rules.len()).collect();
+        assert_eq!(integers::satisfying(&written, &all).is_some(), satisfied, "{rules:?}");
+        if satisfied {
+            continue;
+        }
+        let kept: Vec<RuleLine> = contradiction::smallest(&written).iter().map(|line| read[line - 4]).collect();
+        assert!(!fractions::satisfy(32, &kept), "{rules:?}");
+        for place in 0..kept.len() {
+            let fewer = [&kept[..place], &kept[place + 1..]].concat();
+            assert!(fractions::satisfy(32, &fewer), "{rules:?}");
+        }
+        most = most.max(kept.len());
+    }
+    assert!(most >= 4, "the rounds have large contradictions, not only ones of {most}");
+}
+
+/// The rule with its bound, which is at most 4 in magnitude, as many times as a limit doubled 26 times allows.
+fn enlarged(rule: &str) -> String {
+    let (terms, bound) = rule.split_once(':').expect("a rule has a colon");
+    format!("{terms}:{}", bound.parse::<i64>().expect("a bound is a number") * (script_bound(u32::MAX << 6) / 4))
 }
 
 /// Whether halves from -5 to 5 satisfy all rules: with bounds so small, and so few quantities, fractions do where these do.

@@ -1,8 +1,9 @@
-//! Texts damaged at random: whatever the bytes are, the reason agrees with the library's refusal and points to the fault.
+//! Texts damaged at random: whatever the bytes are, the reason agrees with the library's refusal and points to the fault, as a
+//! sheet and as a script.
 
 mod random;
 
-use acornsled::{Refusal, Table};
+use acornsled::{Paper, Refusal, Refused, Table};
 use acornsled_command::reason::lines::{Found, Lines};
 use acornsled_command::reason::written::Written;
 use acornsled_command::reason::{self, Reason};
@@ -11,7 +12,7 @@ use random::Random;
 const ROUNDS: u64 = 30_000;
 
 /// What is put into texts: bytes that belong somewhere, and those of the usual causes.
-const PIECES: [&str; 51] = [
+const PIECES: [&str; 53] = [
     "0",
     "1",
     "7",
@@ -58,6 +59,8 @@ const PIECES: [&str; 51] = [
     "00",
     "-0",
     "1000000001",
+    "2000000001",
+    "-4000000000",
     "99999999999999999999999",
     "rule=",
     "rules=",
@@ -116,8 +119,12 @@ fn lines_moved(text: &mut Vec<u8>, random: &mut Random) {
     *text = lines.concat();
 }
 
-fn refusal(text: &[u8]) -> Option<Refusal> {
-    Table::read(text).and_then(|table| table.assignment()).err()
+/// Why the library refuses the text: *key* refuses a sheet too that no integers satisfy.
+fn refusal(text: &[u8], paper: Paper) -> Option<Refusal> {
+    match paper {
+        Paper::Script => Written::of(text, paper).err(),
+        Paper::Sheet | Paper::Both => Table::read(text).and_then(|table| table.assignment()).err(),
+    }
 }
 
 /// The number and the line are the library's, something is expected, and nothing is printed that moves the cursor.
@@ -145,8 +152,8 @@ fn pointed(reason: &Reason) -> Option<(usize, usize, &str)> {
     Some((byte.parse::<usize>().expect("a byte is a number") - 1, width, &pointer[width + 1..]))
 }
 
-/// Whether the library takes the line for well formed with some ending, where it would stand in the text.
-fn can_go_on(before: &[u8], line: usize, beginning: &[u8]) -> bool {
+/// Whether the library takes the line for well formed with some ending, where it would stand in such a paper.
+fn can_go_on(paper: Paper, before: &[u8], line: usize, beginning: &[u8]) -> bool {
     let many = "9".repeat(300);
     let mut endings: Vec<String> = ["", "1", ":1", "1:1", "+1:1", &many].map(String::from).to_vec();
     for value in ["quantities=1", "hidden=", "rules=1", "rule=+1:1"] {
@@ -154,13 +161,13 @@ fn can_go_on(before: &[u8], line: usize, beginning: &[u8]) -> bool {
     }
     endings.iter().any(|ending| {
         let tried = [before, beginning, ending.as_bytes(), b"\n"].concat();
-        Table::read(&tried).err() != Some(Refusal::Malformed { line })
+        Written::of(&tried, paper).err() != Some(Refusal::Malformed { line })
     })
 }
 
 /// What stands before the byte that is pointed to can still become a line of its kind, and with the byte it cannot: so it is
 /// the first byte that is wrong.
-fn assert_first_fault(text: &[u8], line: usize, at: usize, what: &str) {
+fn assert_first_fault(text: &[u8], paper: Paper, line: usize, at: usize, what: &str) {
     let lines: Vec<&[u8]> = text.split_inclusive(|&byte| byte == b'\n').collect();
     let before = lines[..line - 1].concat();
     let bytes = lines[line - 1].strip_suffix(b"\n").unwrap_or(lines[line - 1]);
@@ -168,7 +175,11 @@ fn assert_first_fault(text: &[u8], line: usize, at: usize, what: &str) {
     assert!(at <= bytes.len(), "{shown}");
     // a comment is pointed to, and not the blanks before it
     let from = if what.starts_with("a comment") { bytes[..at].trim_ascii_end().len() } else { at };
-    assert!(can_go_on(&before, line, &bytes[..from]), "{shown}: byte {} of line {line} is pointed to too late", at + 1);
+    assert!(
+        can_go_on(paper, &before, line, &bytes[..from]),
+        "{shown}: byte {} of line {line} is pointed to too late",
+        at + 1
+    );
     // a zero is wrong only for the digit after it, -0 only for the end of the line, and a list only for its next number
     let later = ["a leading zero", "leading zeros", "-0", "no line feed", "the line ends here"];
     let lists = what.contains("the list has");
@@ -176,7 +187,7 @@ fn assert_first_fault(text: &[u8], line: usize, at: usize, what: &str) {
         let length = if what.contains(" stands where ") || what.contains("misspelt") { bytes.len() - from } else { 1 };
         let end = from + if what.starts_with("words") { bytes.len() - from } else { length };
         assert!(
-            !can_go_on(&before, line, &bytes[..end]),
+            !can_go_on(paper, &before, line, &bytes[..end]),
             "{shown}: byte {} of line {line} is pointed to too early",
             at + 1
         );
@@ -184,14 +195,15 @@ fn assert_first_fault(text: &[u8], line: usize, at: usize, what: &str) {
 }
 
 /// A line of its own reading says the same as the library's, so that no general message is ever needed.
-fn assert_specific(text: &[u8], refusal: Refusal, reason: &Reason) {
+fn assert_specific(text: &[u8], refused: Refused, reason: &Reason) {
+    let Refused { paper, refusal } = refused;
     let line = refusal.line();
     let there = !matches!(Lines::of(text).at(line.max(1)), Found::Missing);
     match (refusal, pointed(reason)) {
         (Refusal::Malformed { .. }, Some((at, _, what))) => {
             assert!(there && what != "the line is malformed", "{}: {reason}", text.escape_ascii());
             if !reason.details[2].contains("the end of the text") {
-                assert_first_fault(text, line, at, what);
+                assert_first_fault(text, paper, line, at, what);
             }
         }
         (Refusal::Malformed { .. }, None) => assert!(!there, "{}: {reason}", text.escape_ascii()),
@@ -203,10 +215,12 @@ fn assert_specific(text: &[u8], refusal: Refusal, reason: &Reason) {
     }
 }
 
-/// The rules of an accepted text, spelled again, are its lines.
-fn assert_read(text: &[u8]) {
-    let written = Written::of(text).expect("the text is accepted");
+/// The rules of an accepted text, spelled again, are its lines, and so are its first two.
+fn assert_read(text: &[u8], paper: Paper) {
+    let written = Written::of(text, paper).expect("the text is accepted");
     assert_eq!(Some(written.rules.len()), written.lines.announced());
+    let header = format!("quantities={}\nhidden={}\n", written.quantities, joined(&written.hidden.quantities()));
+    assert!(text.starts_with(header.as_bytes()), "{}: {header}", text.escape_ascii());
     for (line, rule) in &written.rules {
         let signed = |minus, digits: &[u8]| format!("{}{}", if minus { '-' } else { '+' }, digits.escape_ascii());
         let second = rule.second.map_or(String::new(), |term| signed(term.minus, term.quantity.digits));
@@ -216,23 +230,41 @@ fn assert_read(text: &[u8]) {
     }
 }
 
-#[test]
-fn damaged_texts_are_told_of_as_the_library_refuses_them() {
+fn joined(numbers: &[usize]) -> String {
+    numbers.iter().map(usize::to_string).collect::<Vec<String>>().join(",")
+}
+
+/// How often which refusal came of damaged texts, each of which is told of as the library refuses it.
+fn counted(paper: Paper) -> [usize; 8] {
     let mut counts = [0; 8];
     for round in 0..ROUNDS {
         let text = damaged(&mut Random(round));
-        let Some(refusal) = refusal(&text) else {
+        let Some(refusal) = refusal(&text, paper) else {
             counts[0] += 1;
-            assert_read(&text);
+            assert_read(&text, paper);
             continue;
         };
         counts[refusal.number() as usize] += 1;
-        let reason = reason::of("name", &text, refusal);
+        let refused = Refused { paper, refusal };
+        let reason = reason::of("name", &text, refused);
         assert_agrees(&text, refusal, &reason);
-        assert_specific(&text, refusal, &reason);
+        assert_specific(&text, refused, &reason);
     }
-    // the rounds have all kinds but 1, for which a text has to be long, and 6 and 7, which are no refusals of a text
+    counts
+}
+
+/// The rounds have all kinds but 1, for which a text has to be long, and 6 and 7, which are no refusals of a text.
+#[test]
+fn damaged_sheets_are_told_of_as_the_library_refuses_them() {
+    let counts = counted(Paper::Sheet);
     assert!([0, 2, 3, 4, 5].iter().all(|&number| counts[number] > 50), "{counts:?}");
+}
+
+/// A script that nothing satisfies is no refusal.
+#[test]
+fn damaged_scripts_are_told_of_as_the_library_refuses_them() {
+    let counts = counted(Paper::Script);
+    assert!([0, 2, 3, 4].iter().all(|&number| counts[number] > 50), "{counts:?}");
 }
 
 /// Whatever refusal it is given, fitting or not, and whatever the text, a reason is found without a panic.
@@ -252,8 +284,10 @@ fn a_reason_is_found_for_every_refusal_of_every_text() {
             Refusal::Mismatch,
         ];
         for refusal in refusals {
-            let reason = reason::of("name", &text, refusal);
-            assert!(reason.headline.starts_with(&format!("name: refused with {}", refusal.number())));
+            for paper in [Paper::Sheet, Paper::Script, Paper::Both] {
+                let reason = reason::of("name", &text, Refused { paper, refusal });
+                assert!(reason.headline.starts_with(&format!("name: refused with {}", refusal.number())));
+            }
         }
         reason::of_pair(["sheet", "script"], [&text, &other], Refusal::Mismatch);
     }

@@ -86,6 +86,41 @@ fn a_contradiction_is_told_with_its_lines() {
     assert_eq!(explained(text), answered(due));
 }
 
+/// A text with bounds that a script alone may have is told as one, also where its rules contradict each other.
+#[test]
+fn a_script_may_have_larger_bounds_than_a_sheet() {
+    let text = "quantities=3\nhidden=2\nrules=2\nrule=+1-3:2000000000\nrule=+1:5\n";
+    let due = "3 quantities; quantity 2 is hidden\n2 rules:\nline 4: quantity 1 - quantity 3 <= 2000000000\n\
+               line 5: quantity 1 <= 5\n\
+               line 4 has a bound that is too large for a sheet: the text can be a script, but not a sheet";
+    assert_eq!(without_example(explained(text)), answered(due));
+    let text = "quantities=3\nhidden=2\nrules=2\nrule=+1+1:1999999999\nrule=-1-1:-1999999999\n";
+    let due = "3 quantities; quantity 2 is hidden\n2 rules:\n\
+               line 4: quantity 1 + quantity 1 <= 1999999999, that is quantity 1 <= 999999999\n\
+               line 5: -quantity 1 - quantity 1 <= -1999999999, that is quantity 1 >= 1000000000\n\
+               lines 4 and 5 have bounds that are too large for a sheet: the text can be a script, but not a sheet\n\
+               no integers satisfy all rules\n\
+               the rules of lines 4 and 5 contradict each other:\n    line 4: rule=+1+1:1999999999\n    \
+               line 5: rule=-1-1:-1999999999\n\
+               fractions satisfy all rules, but the quantities are integers\n";
+    assert_eq!(explained(text), answered(due));
+}
+
+/// One that names a hidden quantity is a sheet, and told by the limits of a sheet.
+#[test]
+fn a_bound_past_a_limit_is_told_by_the_paper_that_the_text_can_be() {
+    let limits = |text: &str| {
+        let got = explained(text);
+        assert_eq!((got.status, got.told.as_str()), (Some(1), ""), "{}", got.output);
+        let (_, limits) = got.output.split_once("outside its limits, which are ").expect("the limits are told");
+        limits.lines().next().unwrap_or_default().to_string()
+    };
+    let sheet = "quantities=3\nhidden=2\nrules=2\nrule=+1:2000000001\nrule=+2:5\n";
+    assert_eq!(limits(sheet), "-1,000,000,000 and 1,000,000,000");
+    let script = "quantities=3\nhidden=2\nrules=2\nrule=+1:2000000001\nrule=+3:5\n";
+    assert_eq!(limits(script), "-2,000,000,000 and 2,000,000,000 for a script with 1 hidden quantity");
+}
+
 #[test]
 fn a_refused_text_is_told_on_standard_output_with_status_1() {
     let got = explained("quantities=3\nhidden=3,1\n");

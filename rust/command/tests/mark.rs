@@ -77,6 +77,34 @@ fn a_script_that_does_not_fit_is_told_why() {
     assert_eq!(misfit(&room, &script(&["+1:3", "+3-2:0", "+2:5"])), naming);
 }
 
+/// The key of a sheet with the largest bounds needs bounds that no sheet may have, and is its script.
+#[test]
+fn a_script_may_have_the_bounds_of_a_key() {
+    let room = Room::new("large");
+    let sheet = "quantities=3\nhidden=2\nrules=2\nrule=+1-2:1000000000\nrule=+2-3:1000000000\n";
+    let key = acornsled::key(sheet.as_bytes()).expect("the sheet has a key");
+    assert_eq!(key, script(&["+1-3:2000000000"]).into_bytes());
+    assert_eq!(marked(&room, sheet, &script(&["+1-3:2000000000"])).output, "verdict=equal\n");
+    let tight = marked(&room, sheet, &script(&["+1-3:1999999999"])).output;
+    assert!(tight.starts_with("verdict=tight\nrule=+1-3:1999999999\nvalues="), "{tight}");
+    assert_eq!(marked(&room, sheet, &script(&["+1-3:2000000001"])).output, "refused=3\npaper=script\nline=4\n");
+}
+
+/// What the script's own list allows is read, and then the list is held against the sheet's.
+#[test]
+fn a_script_with_large_bounds_that_does_not_fit_is_told_why() {
+    let room = Room::new("large-misfits");
+    let expected = "    expected: the sheet's first two lines, quantities=3 and hidden=2\n";
+    assert_eq!(
+        misfit(&room, "quantities=3\nhidden=1,2\nrules=1\nrule=+3:4000000000\n"),
+        format!("    hidden quantities of the sheet: 2; of the script: 1 and 2\n{expected}")
+    );
+    let naming =
+        "    line 4 of the script names a hidden quantity:\n    rule=+3-2:2000000000\n            ^ quantity 2 is \
+                  hidden\n    expected: rules of visible quantities alone, here 1 and 3\n";
+    assert_eq!(misfit(&room, &script(&["+3-2:2000000000"])), naming);
+}
+
 /// Where the papers fit in the other order, that is told too.
 #[test]
 fn papers_that_may_be_exchanged_are_told() {

@@ -1,10 +1,12 @@
 //! A rule in words.
 
 use crate::reason::form::{RuleLine, Term};
+use crate::reason::hidden::Hidden;
 
-/// The quantities that it names, as they are written.
-pub fn quantities(rule: &RuleLine) -> Vec<usize> {
-    std::iter::once(&rule.first).chain(&rule.second).filter_map(|term| term.quantity.value()).collect()
+/// Whether it names a hidden quantity.
+pub fn names(rule: &RuleLine, hidden: Hidden) -> bool {
+    let mut terms = std::iter::once(&rule.first).chain(&rule.second);
+    terms.any(|term| term.quantity.value().is_some_and(|quantity| hidden.has(quantity)))
 }
 
 /// The rule as it is written, and what it comes to where that is simpler: a doubled term halved, "at least" for minus signs.

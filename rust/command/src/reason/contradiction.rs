@@ -1,19 +1,15 @@
 //! Refusals with 5: which rules contradict each other.
 
 use super::form::RuleLine;
-use super::fractions;
 use super::written::{listed, Written};
-use acornsled::{Refusal, Table};
+use super::{fractions, integers};
 
 /// The most rules that are shown one by one.
 const SHOWN: usize = 12;
 
 /// Which rules of an accepted text that no integers satisfy contradict each other.
-pub fn told(text: &[u8]) -> Vec<String> {
-    let Ok(written) = Written::of(text) else {
-        return Vec::new();
-    };
-    let lines = smallest(&written);
+pub fn told(written: &Written) -> Vec<String> {
+    let lines = smallest(written);
     let mut details = vec![format!("the rules of lines {} contradict each other:", listed(&lines))];
     details.extend(lines.iter().take(SHOWN).map(|&line| {
         let shown = String::from_utf8_lossy(written.lines.bytes(line)).into_owned();
@@ -23,7 +19,7 @@ pub fn told(text: &[u8]) -> Vec<String> {
         details.push(format!("    and {} more", lines.len() - SHOWN));
     }
     let rules: Vec<RuleLine> = written.rules.iter().map(|&(_, rule)| rule).collect();
-    if fractions::satisfy(written.table.quantities, &rules) {
+    if fractions::satisfy(written.quantities, &rules) {
         details.push("fractions satisfy all rules, but the quantities are integers".to_string());
     }
     details
@@ -39,7 +35,7 @@ pub fn smallest(written: &Written) -> Vec<usize> {
         while at < kept.len() {
             let end = (at + size).min(kept.len());
             let without: Vec<usize> = kept[..at].iter().chain(&kept[end..]).copied().collect();
-            if contradict(written, &without) {
+            if integers::satisfying(written, &without).is_none() {
                 kept = without;
             } else {
                 at = end;
@@ -48,14 +44,4 @@ pub fn smallest(written: &Written) -> Vec<usize> {
         size = if size == 1 { 0 } else { size.div_ceil(2) };
     }
     kept
-}
-
-/// Whether no integers satisfy the rules of these lines.
-fn contradict(written: &Written, lines: &[usize]) -> bool {
-    let mut text = format!("quantities={}\nhidden=\nrules={}\n", written.table.quantities, lines.len()).into_bytes();
-    for &line in lines {
-        text.extend(written.lines.bytes(line));
-        text.push(b'\n');
-    }
-    Table::read(&text).and_then(|table| table.assignment()) == Err(Refusal::NoAssignment)
 }

@@ -6,8 +6,8 @@
 use super::form::{RuleLine, Term};
 use acornsled::limits::MOST_QUANTITIES;
 
-/// No step is longer, and sums of two of them fit.
-const FAR: i64 = i64::MAX / 4;
+/// No step is longer, and sums of two of them fit; the bounds of a script would be too large for that in 64 bits.
+const FAR: i128 = i128::MAX / 4;
 
 /// Whether fractions for the n quantities satisfy the rules, whose numbers are within their limits.
 pub fn satisfy(n: usize, rules: &[RuleLine]) -> bool {
@@ -34,9 +34,9 @@ pub fn satisfy(n: usize, rules: &[RuleLine]) -> bool {
 }
 
 /// Both signed quantities by number, a sign turned by the lowest bit, and the bound. One quantity alone counts twice.
-fn ends(rule: &RuleLine) -> Option<(usize, usize, i64)> {
+fn ends(rule: &RuleLine) -> Option<(usize, usize, i128)> {
     let place = |term: &Term| Some(2 * (term.quantity.value()?.checked_sub(1)?) + usize::from(term.minus));
-    let bound = i64::try_from(rule.bound.value()?).ok()?;
+    let bound = i128::try_from(rule.bound.value()?).ok()?;
     let bound = if rule.minus { -bound } else { bound };
     let first = place(&rule.first)?;
     match &rule.second {

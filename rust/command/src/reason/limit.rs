@@ -4,17 +4,22 @@ use super::cursor::Numeral;
 use super::fault::Fault;
 use super::form::{self, RuleLine, Term};
 use super::grouped;
+use super::hidden::Hidden;
 use super::kind::Kind;
 use super::lines::Lines;
 use super::Told;
-use acornsled::limits::{MOST_BOUND, MOST_QUANTITIES, MOST_RULES};
+use crate::usage::counted;
+use acornsled::limits::{script_bound, MOST_BOUND, MOST_QUANTITIES, MOST_RULES};
+use acornsled::Paper;
 
 const DISTINCT: &str = "two quantities that differ, or one twice with one sign, as rule=+1-2:5 or rule=+1+1:5";
+const OWN: &str =
+    "where line 2 is not the sheet's, copy it: a script's limits follow from the hidden quantities listed there";
 
-/// What is told of a line with a number outside its limit.
-pub fn outside(lines: &Lines, line: usize) -> Told {
+/// What is told of a line with a number outside its limit for this paper.
+pub fn outside(lines: &Lines, line: usize, paper: Paper) -> Told {
     let expected = Kind::of(line, lines).expected();
-    told(lines.bytes(line), first(lines, line), &expected)
+    told(lines.bytes(line), first(lines, line, paper), &expected)
 }
 
 /// What is told of a rule `+q-q` or `-q+q`.
@@ -29,7 +34,7 @@ fn told(line: &[u8], fault: Option<Fault>, expected: &str) -> Told {
 }
 
 /// The first number of the line that is outside its limit.
-fn first(lines: &Lines, line: usize) -> Option<Fault> {
+fn first(lines: &Lines, line: usize, paper: Paper) -> Option<Fault> {
     let bytes = lines.bytes(line);
     match Kind::of(line, lines) {
         Kind::Quantities => {
@@ -47,7 +52,13 @@ fn first(lines: &Lines, line: usize) -> Option<Fault> {
             let what = format!("{} rule lines: a text has at most {}", number.shown(), grouped(MOST_RULES));
             (!number.within(0, MOST_RULES)).then(|| fault(&number, what))
         }
-        Kind::Rule | Kind::Behind(_) => rule(&form::rule(bytes).ok()?, lines.quantities()?),
+        Kind::Rule | Kind::Behind(_) => {
+            let (rule, n) = (form::rule(bytes).ok()?, lines.quantities()?);
+            let mut terms = std::iter::once(&rule.first).chain(&rule.second);
+            terms
+                .find_map(|term| quantity(&term.quantity, n, "quantity"))
+                .or_else(|| bound(&rule, paper, lines.hidden()))
+        }
     }
 }
 
@@ -65,15 +76,21 @@ fn quantity(number: &Numeral, n: usize, called: &str) -> Option<Fault> {
     (!number.within(1, n)).then(|| fault(number, what))
 }
 
-fn rule(rule: &RuleLine, n: usize) -> Option<Fault> {
-    let mut terms = std::iter::once(&rule.first).chain(&rule.second);
-    terms.find_map(|term| quantity(&term.quantity, n, "quantity")).or_else(|| {
-        let limit = MOST_BOUND.unsigned_abs() as usize;
-        let sign = if rule.minus { "-" } else { "" };
-        let (bound, most) = (rule.bound.shown(), grouped(limit));
-        let what = format!("the bound {sign}{bound} is outside its limits, which are -{most} and {most}");
-        (!rule.bound.within(0, limit)).then(|| fault(&rule.bound, what))
-    })
+/// A bound outside its limits, which for a script follow from the hidden quantities that it lists itself.
+fn bound(rule: &RuleLine, paper: Paper, hidden: Hidden) -> Option<Fault> {
+    let (limit, whose) = match (paper, hidden.quantities().len()) {
+        (Paper::Script, count @ 1..) => {
+            let hiding = counted(count, "hidden quantity", "hidden quantities");
+            (script_bound(hidden.0), format!(" for a script with {hiding}"))
+        }
+        _ => (MOST_BOUND, String::new()),
+    };
+    let limit = limit.unsigned_abs() as usize;
+    let sign = if rule.minus { "-" } else { "" };
+    let (bound, most) = (rule.bound.shown(), grouped(limit));
+    let what = format!("the bound {sign}{bound} is outside its limits, which are -{most} and {most}{whose}");
+    let fault = (!rule.bound.within(0, limit)).then(|| fault(&rule.bound, what))?;
+    Some(if paper == Paper::Script { fault.with_help(OWN) } else { fault })
 }
 
 /// The two quantities of a rule that cancel.

@@ -1,6 +1,7 @@
 //! A text cut into lines.
 
 use super::form;
+use super::hidden::Hidden;
 
 /// The lines of a text, numbered from 1.
 pub struct Lines<'a> {
@@ -52,6 +53,11 @@ impl<'a> Lines<'a> {
     /// The number n that line 1 says.
     pub fn quantities(&self) -> Option<usize> {
         form::count(self.bytes(1), "quantities=").ok()?.value()
+    }
+
+    /// The hidden quantities that line 2 lists.
+    pub fn hidden(&self) -> Hidden {
+        Hidden::of(self.bytes(2))
     }
 
     /// The number of rule lines that line 3 announces.

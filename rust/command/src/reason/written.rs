@@ -1,35 +1,40 @@
 //! An accepted text as it is written.
 
 use super::form::{self, RuleLine};
+use super::hidden::Hidden;
 use super::lines::Lines;
-use acornsled::limits::MOST_QUANTITIES;
-use acornsled::{Refusal, Table};
+use acornsled::{Paper, Refusal, Refused, Table};
 
 pub struct Written<'a> {
-    /// as the library reads it
-    pub table: Table,
+    /// a sheet or a script, by whose limits it is accepted
+    pub paper: Paper,
+    pub quantities: usize,
+    pub hidden: Hidden,
     /// the rules with the numbers of their lines
     pub rules: Vec<(usize, RuleLine<'a>)>,
     pub lines: Lines<'a>,
 }
 
 impl<'a> Written<'a> {
-    /// The text, or its refusal.
-    pub fn of(text: &'a [u8]) -> Result<Written<'a>, Refusal> {
-        let table = Table::read(text)?;
+    /// The text as a sheet or as a script, or its refusal, which is the library's.
+    pub fn of(text: &'a [u8], paper: Paper) -> Result<Written<'a>, Refusal> {
+        read(text, paper)?;
         let lines = Lines::of(text);
+        let quantities = lines.quantities().unwrap_or_default();
         let rules = (4..=lines.count()).filter_map(|line| Some((line, form::rule(lines.bytes(line)).ok()?))).collect();
-        Ok(Written { table, rules, lines })
+        Ok(Written { paper, quantities, hidden: lines.hidden(), rules, lines })
     }
+}
 
-    /// Whether the quantity, one of 1 to n, is hidden.
-    pub fn is_hidden(&self, quantity: usize) -> bool {
-        (1..=MOST_QUANTITIES).contains(&quantity) && self.table.hidden >> (quantity - 1) & 1 == 1
+/// Whether the library accepts the text. Scripts it reads where it marks them: beside a sheet that is accepted, what it says of
+/// the script alone is the script's refusal, and whether the two fit does not matter.
+fn read(text: &[u8], paper: Paper) -> Result<(), Refusal> {
+    if paper != Paper::Script {
+        return Table::read(text).map(|_| ());
     }
-
-    /// The hidden quantities, increasing.
-    pub fn hidden(&self) -> Vec<usize> {
-        (1..=self.table.quantities).filter(|&quantity| self.is_hidden(quantity)).collect()
+    match acornsled::mark(b"quantities=1\nhidden=\nrules=0\n", text) {
+        Err(Refused { paper: Paper::Script, refusal }) => Err(refusal),
+        _ => Ok(()),
     }
 }
 

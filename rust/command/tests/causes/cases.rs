@@ -291,6 +291,28 @@ pub const LIMITS: &[Case] = &[
     ),
 ];
 
+const TWICE: &str =
+    "the bound 2000000001 is outside its limits, which are -2,000,000,000 and 2,000,000,000 for a script with 1 \
+                     hidden quantity\n";
+const ONCE: &str = "the bound 1000000001 is outside its limits, which are -1,000,000,000 and 1,000,000,000\n";
+const COPY: &str =
+    "what helps: where line 2 is not the sheet's, copy it: a script's limits follow from the hidden quantities";
+
+/// Scripts whose bounds are outside the limits that their own hidden lists give.
+pub const SCRIPT_LIMITS: &[Case] = &[
+    (b"quantities=3\nhidden=2\nrules=1\nrule=+1-3:2000000001\n", (3, 4, 11), &[TWICE, COPY]),
+    (b"quantities=3\nhidden=2\nrules=1\nrule=+1+1:2000000001\n", (3, 4, 11), &[TWICE, COPY]),
+    (b"quantities=3\nhidden=2\nrules=2\nrule=+1:-2000000000\nrule=+3:2000000001\n", (3, 5, 9), &[TWICE]),
+    (b"quantities=3\nhidden=\nrules=1\nrule=+1-3:1000000001\n", (3, 4, 11), &[ONCE, COPY]),
+    (
+        b"quantities=3\nhidden=1,2\nrules=1\nrule=+3:-4000000001\n",
+        (3, 4, 10),
+        &["the bound -4000000001 is outside its limits, which are -4,000,000,000 and 4,000,000,000 for a script with 2 \
+           hidden quantities\n"],
+    ),
+    (b"quantities=3\nhidden=2\nrules=1\nrule=+4:3000000000\n", (3, 4, 7), &["quantity 4: ", TO_THREE]),
+];
+
 const ADDED: &str = "quantity 2 is added and taken away, so that the rule is always met: leave it out";
 const BY_ONE: &str = "expected: rules that some integers satisfy together";
 

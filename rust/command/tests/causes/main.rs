@@ -5,27 +5,43 @@ mod cases;
 mod room;
 
 use cases::Case;
-use room::{acornsled, ran_on};
+use room::{acornsled, ran_on, Ran, Room, SHEET};
 
-/// What is told of a text, below a headline with the refusal's number, its line, and the byte that is pointed to, 0 where
-/// there is none.
-fn told_of(text: &[u8], (number, line, byte): (u32, usize, usize)) -> String {
-    let shown = text[..text.len().min(80)].escape_ascii();
+/// What is told of a text as a sheet, below a headline with the refusal's number, its line, and the byte that is pointed to, 0
+/// where there is none.
+fn told_of(text: &[u8], place: (u32, usize, usize)) -> String {
     let got = ran_on(&mut acornsled(["key"]), text);
-    assert_eq!((got.status, got.output), (Some(1), format!("refused={number}\nline={line}\n")), "{shown}");
+    told(&got, text, "standard input", "", place)
+}
+
+/// The same of a script, beside any sheet.
+fn told_of_script(text: &[u8], place: (u32, usize, usize)) -> String {
+    let room = Room::new("causes");
+    let got = ran_on(acornsled(["mark"]).arg(room.file("sheet", SHEET)).arg("-"), text);
+    told(&got, text, "the script on standard input", "paper=script\n", place)
+}
+
+/// What is told below the headline of such a place, where what is printed is its refusal.
+fn told(got: &Ran, text: &[u8], name: &str, paper: &str, (number, line, byte): (u32, usize, usize)) -> String {
+    let shown = text[..text.len().min(80)].escape_ascii();
+    let printed = format!("refused={number}\n{paper}line={line}\n");
+    assert_eq!((got.status, &got.output), (Some(1), &printed), "{shown}");
     let place = match (line, byte) {
         (0, _) => ": ".to_string(),
         (_, 0) => format!(" at line {line}\n"),
         _ => format!(" at line {line}, byte {byte}\n"),
     };
-    let headline = format!("acornsled: standard input: refused with {number}{place}");
+    let headline = format!("acornsled: {name}: refused with {number}{place}");
     let told = got.told.strip_prefix(&headline).unwrap_or_else(|| panic!("{shown}: {}", got.told)).to_string();
     assert!(told.contains("\n    expected: "), "{shown}: {told}");
     told
 }
 
 fn assert_told(text: &[u8], place: (u32, usize, usize), words: &[&str]) {
-    let told = told_of(text, place);
+    assert_words(&told_of(text, place), text, words);
+}
+
+fn assert_words(told: &str, text: &[u8], words: &[&str]) {
     for words in words {
         assert!(told.contains(words), "{}: '{words}' is not told: {told}", text.escape_ascii());
     }
@@ -119,6 +135,37 @@ fn numbers_outside_their_limits() {
     assert_cases(cases::LIMITS);
     let long = format!("quantities={}\n", "9".repeat(100));
     assert_told(long.as_bytes(), (3, 1, 12), &["999999999999... (100 digits) quantities: a text has 1 to 32"]);
+}
+
+/// A script's limits are told by its own hidden list, whatever the sheet's is.
+#[test]
+fn bounds_outside_the_limits_of_a_script() {
+    for (text, place, words) in cases::SCRIPT_LIMITS {
+        assert_words(&told_of_script(text, *place), text, words);
+    }
+    let all: Vec<String> = (1..=32).map(|quantity| quantity.to_string()).collect();
+    let text = format!("quantities=32\nhidden={}\nrules=1\nrule=+1:-4294967296000000001\n", all.join(","));
+    let words = "the bound -4294967296000000001 is outside its limits, which are -4,294,967,296,000,000,000 and \
+                 4,294,967,296,000,000,000 for a script with 32 hidden quantities";
+    assert_words(&told_of_script(text.as_bytes(), (3, 4, 10)), text.as_bytes(), &[words]);
+    // the same bytes as a sheet
+    let words = "outside its limits, which are -1,000,000,000 and 1,000,000,000\n";
+    assert_told(text.as_bytes(), (3, 4, 10), &[words]);
+}
+
+/// Within all other limits a script can be too long, where very many quantities are hidden; what a sheet may take is not told
+/// of it.
+#[test]
+fn a_script_of_long_bounds_that_is_too_long() {
+    let hidden: Vec<String> = (1..=31).map(|quantity| quantity.to_string()).collect();
+    let rules = vec!["+32+32:-2147483648000000000".to_string(); 2_048];
+    let lines: String = rules.iter().map(|rule| format!("rule={rule}\n")).collect();
+    let text = format!("quantities=32\nhidden={}\nrules=2048\n{lines}", hidden.join(","));
+    assert_eq!(text.len(), 67_700);
+    let told = told_of_script(text.as_bytes(), (1, 0, 0));
+    let words = ["at most 65,536 bytes", "of rules with the same terms the one with the smallest bound is enough\n"];
+    assert_words(&told, text.as_bytes(), &words);
+    assert!(!told.contains("49,271"), "{told}");
 }
 
 #[test]

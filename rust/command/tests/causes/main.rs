@@ -15,8 +15,7 @@ fn told_of(text: &[u8], place: (u32, usize, usize)) -> String {
 }
 
 /// The same of a script, beside any sheet.
-fn told_of_script(text: &[u8], place: (u32, usize, usize)) -> String {
-    let room = Room::new("causes");
+fn told_of_script(room: &Room, text: &[u8], place: (u32, usize, usize)) -> String {
     let got = ran_on(acornsled(["mark"]).arg(room.file("sheet", SHEET)).arg("-"), text);
     told(&got, text, "the script on standard input", "paper=script\n", place)
 }
@@ -140,14 +139,15 @@ fn numbers_outside_their_limits() {
 /// A script's limits are told by its own hidden list, whatever the sheet's is.
 #[test]
 fn bounds_outside_the_limits_of_a_script() {
+    let room = Room::new("script-limits");
     for (text, place, words) in cases::SCRIPT_LIMITS {
-        assert_words(&told_of_script(text, *place), text, words);
+        assert_words(&told_of_script(&room, text, *place), text, words);
     }
     let all: Vec<String> = (1..=32).map(|quantity| quantity.to_string()).collect();
     let text = format!("quantities=32\nhidden={}\nrules=1\nrule=+1:-4294967296000000001\n", all.join(","));
     let words = "the bound -4294967296000000001 is outside its limits, which are -4,294,967,296,000,000,000 and \
                  4,294,967,296,000,000,000 for a script with 32 hidden quantities";
-    assert_words(&told_of_script(text.as_bytes(), (3, 4, 10)), text.as_bytes(), &[words]);
+    assert_words(&told_of_script(&room, text.as_bytes(), (3, 4, 10)), text.as_bytes(), &[words]);
     // the same bytes as a sheet
     let words = "outside its limits, which are -1,000,000,000 and 1,000,000,000\n";
     assert_told(text.as_bytes(), (3, 4, 10), &[words]);
@@ -158,11 +158,10 @@ fn bounds_outside_the_limits_of_a_script() {
 #[test]
 fn a_script_of_long_bounds_that_is_too_long() {
     let hidden: Vec<String> = (1..=31).map(|quantity| quantity.to_string()).collect();
-    let rules = vec!["+32+32:-2147483648000000000".to_string(); 2_048];
-    let lines: String = rules.iter().map(|rule| format!("rule={rule}\n")).collect();
+    let lines = "rule=+32+32:-2147483648000000000\n".repeat(2_048);
     let text = format!("quantities=32\nhidden={}\nrules=2048\n{lines}", hidden.join(","));
     assert_eq!(text.len(), 67_700);
-    let told = told_of_script(text.as_bytes(), (1, 0, 0));
+    let told = told_of_script(&Room::new("script-size"), text.as_bytes(), (1, 0, 0));
     let words = ["at most 65,536 bytes", "of rules with the same terms the one with the smallest bound is enough\n"];
     assert_words(&told, text.as_bytes(), &words);
     assert!(!told.contains("49,271"), "{told}");

@@ -14,7 +14,7 @@ fn every_kind_of_script_gets_its_row() {
     room.hand_in("loose", LOOSE);
     room.hand_in("tight", TIGHT);
     room.hand_in("empty", b"");
-    room.hand_in("past limit", b"quantities=3\nhidden=2\nrules=2\nrule=+1:3\nrule=+1:1000000001\n");
+    room.hand_in("past limit", b"quantities=3\nhidden=2\nrules=2\nrule=+1:3\nrule=+1:2000000001\n");
     room.hand_in("cancelling", b"quantities=3\nhidden=2\nrules=1\nrule=+1-1:0\n");
     room.hand_in("no third line", b"quantities=3\nhidden=2\n");
     room.hand_in("names hidden", SHEET);

@@ -10,6 +10,12 @@ pub const MOST_RULES: usize = 2_048;
 pub const MOST_BYTES: usize = 65_536;
 pub const NO_RULE: i64 = i64::MAX;
 
+/// The largest magnitude of a bound in a script with this hidden set: a sheet's, doubled for each quantity of the set. Where
+/// all 32 are hidden twice as much still fits a word.
+pub fn script_limit(hidden: u32) -> i64 {
+    LIMIT << hidden.count_ones()
+}
+
 /// A quantity, numbered from 1, with a sign of 1 or -1.
 #[derive(Clone, Copy, PartialEq, Eq, Debug)]
 pub struct Literal {

@@ -6,7 +6,7 @@ use crate::library::{Header, Marker, Reply, Told, EQUAL, LOOSE, MISMATCH, TIGHT}
 use crate::meaning::NO_RULE;
 use crate::plain::tight::tighten;
 use crate::plain_reasons;
-use crate::plain_text::parser::Parser;
+use crate::plain_text::parser::{Parsed, Parser};
 
 /// What a text says, its rules in a table that is just large enough.
 pub(crate) struct Paper {
@@ -21,8 +21,8 @@ pub fn mark(sheet: &[u8], script: &[u8]) -> u32 {
 
 /// The number where both texts are read.
 fn verdict(sheet: &[u8], script: &[u8]) -> Result<u32, Reply> {
-    let mut sheet = Paper::read(sheet)?;
-    let mut script = Paper::read(script)?;
+    let mut sheet = Paper::sheet(sheet)?;
+    let mut script = Paper::script(script)?;
     if !script.fits(&sheet) {
         return Ok(MISMATCH);
     }
@@ -38,12 +38,20 @@ fn verdict(sheet: &[u8], script: &[u8]) -> Result<u32, Reply> {
 }
 
 impl Paper {
-    /// The text read into a table of its own, or its refusal.
-    pub fn read(text: &[u8]) -> Result<Paper, Reply> {
-        let said = Parser::sheet(text)?;
+    /// A sheet's text read into a table of its own, or its refusal.
+    pub fn sheet(text: &[u8]) -> Result<Paper, Reply> {
+        Parser::sheet(text).map(Paper::of)
+    }
+
+    /// A script's, which may have larger bounds.
+    pub fn script(text: &[u8]) -> Result<Paper, Reply> {
+        Parser::script(text).map(Paper::of)
+    }
+
+    fn of(said: Parsed) -> Paper {
         let mut table = vec![NO_RULE; 2 * said.n * said.n];
         said.put(&mut table);
-        Ok(Paper { header: Header { quantities: said.n, hidden: said.hidden }, table })
+        Paper { header: Header { quantities: said.n, hidden: said.hidden }, table }
     }
 
     /// Has the script the sheet's header, and no rule that names a hidden quantity?

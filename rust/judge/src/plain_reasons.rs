@@ -20,8 +20,8 @@ pub fn mark_texts(sheet: &[u8], script: &[u8], values: &mut [i64], told: &mut To
 
 /// The verdict's number, or the refusal with its paper.
 fn marked(sheet: &[u8], script: &[u8], values: &mut [i64], told: &mut Told) -> Result<u32, (u32, Reply)> {
-    let sheet = Paper::read(sheet).map_err(|refusal| (SHEET, refusal))?;
-    let script = Paper::read(script).map_err(|refusal| (SCRIPT, refusal))?;
+    let sheet = Paper::sheet(sheet).map_err(|refusal| (SHEET, refusal))?;
+    let script = Paper::script(script).map_err(|refusal| (SCRIPT, refusal))?;
     let n = sheet.header.quantities;
     if values.len() < n {
         return Err((BOTH, too_short(n)));
@@ -105,7 +105,8 @@ impl Broken {
         }
     }
 
-    /// Writes integers that satisfy the table and break the rule.
+    /// Writes integers that satisfy the table and break the rule. The rule may be a script's and its bound far past the
+    /// sheet's limit: what is kept of the sums has it at most twice, so that twice as much still fits.
     fn show(&self, n: usize, table: &[i64], values: &mut [i64]) {
         let mut table = table.to_vec();
         if self.bound != NO_RULE {

@@ -48,6 +48,13 @@ impl Random {
         from[self.below(from.len())]
     }
 
+    /// Any order.
+    pub fn shuffle<T>(&mut self, all: &mut [T]) {
+        for end in (1..all.len()).rev() {
+            all.swap(end, self.below(end + 1));
+        }
+    }
+
     /// Words of any value, as a caller's memory may hold.
     pub fn words(&mut self, length: usize) -> Vec<i64> {
         (0..length).map(|_| self.word() as i64).collect()

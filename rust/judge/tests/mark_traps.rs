@@ -10,7 +10,7 @@ const PAIRS: u64 = 2_000;
 
 /// Each trap with the number that it gives first where another is due, and that number: that the judge stumbles over
 /// something else is not enough.
-const TRAPS: [(Trap, u32, u32); 38] = [
+const TRAPS: [(Trap, u32, u32); 49] = [
     (Trap::Always(EQUAL), EQUAL, LOOSE),
     (Trap::Always(LOOSE), LOOSE, EQUAL),
     (Trap::Always(TIGHT), TIGHT, LOOSE),
@@ -19,19 +19,19 @@ const TRAPS: [(Trap, u32, u32); 38] = [
     (Trap::SheetForKey, LOOSE, EQUAL),
     (Trap::VisibleRules, EQUAL, LOOSE),
     (Trap::HidesFirstOnly, EQUAL, LOOSE),
-    (Trap::Words, LOOSE, EQUAL),
-    (Trap::LoneTerms, EQUAL, LOOSE),
+    (Trap::Words, LOOSE, TIGHT),
+    (Trap::LoneTerms, EQUAL, TIGHT),
     (Trap::LastShown, LOOSE, EQUAL),
     (Trap::KeyWithinLimit, EQUAL, LOOSE),
-    (Trap::OppositeAtBound, LOOSE, EQUAL),
-    (Trap::OppositePastBound, EQUAL, LOOSE),
+    (Trap::OppositeAtBound, LOOSE, TIGHT),
+    (Trap::OppositePastBound, TIGHT, LOOSE),
     (Trap::TightAtBound, TIGHT, EQUAL),
     (Trap::TightPastBound, EQUAL, TIGHT),
     (Trap::Fractions, LOOSE, EQUAL),
     (Trap::FractionsOfTables, LOOSE, EQUAL),
-    (Trap::HalvedTowardZero, LOOSE, EQUAL),
-    (Trap::NotHalved, EQUAL, TIGHT),
-    (Trap::KeepsLater, TIGHT, EQUAL),
+    (Trap::HalvedTowardZero, TIGHT, EQUAL),
+    (Trap::NotHalved, LOOSE, EQUAL),
+    (Trap::KeepsLater, EQUAL, LOOSE),
     // a sheet without an assignment is loose or equal, by the script
     (Trap::NoSheet(5), 5, LOOSE),
     (Trap::NoSheet(EQUAL), EQUAL, LOOSE),
@@ -44,15 +44,27 @@ const TRAPS: [(Trap, u32, u32); 38] = [
     (Trap::NoScript(TIGHT), TIGHT, EQUAL),
     (Trap::EqualWhenHidden, EQUAL, LOOSE),
     // of both papers' refusals the sheet's is due
-    (Trap::ScriptFirst, 2, 4),
-    (Trap::SmallerFirst, 2, 4),
+    (Trap::ScriptFirst, 1, 2),
+    (Trap::SmallerFirst, 1, 2),
     // 7 is due behind the other refusals and before a verdict
-    (Trap::HeaderFirst, MISMATCH, 2),
+    (Trap::HeaderFirst, MISMATCH, 3),
     (Trap::VerdictFirst, LOOSE, MISMATCH),
-    (Trap::PassesN, EQUAL, MISMATCH),
-    (Trap::PassesHidden, EQUAL, MISMATCH),
-    (Trap::PassesRule, EQUAL, MISMATCH),
-    (Trap::PassesDoubledRule, EQUAL, MISMATCH),
+    (Trap::PassesN, LOOSE, MISMATCH),
+    (Trap::PassesHidden, TIGHT, MISMATCH),
+    (Trap::PassesRule, TIGHT, MISMATCH),
+    (Trap::PassesDoubledRule, LOOSE, MISMATCH),
+    // 3 is due past a script's own limit, and not before
+    (Trap::SheetAsScript, MISMATCH, 3),
+    (Trap::ScriptAsSheet, 3, EQUAL),
+    (Trap::LimitBySheet, 3, MISMATCH),
+    (Trap::LimitByN, EQUAL, 3),
+    (Trap::LimitDoubledOnce, 3, EQUAL),
+    (Trap::LimitByLast, EQUAL, 3),
+    (Trap::LimitIn32Bits, 3, MISMATCH),
+    (Trap::LimitMoved(1), MISMATCH, 3),
+    (Trap::LimitMoved(-1), 3, EQUAL),
+    (Trap::LimitHalved, MISMATCH, 3),
+    (Trap::NegativeAsSheet, 3, EQUAL),
 ];
 
 #[test]

@@ -10,31 +10,31 @@ const PAIRS: u64 = 2_000;
 /// Each trap with what the judge says of the first failure: that it stumbles over something else is not enough.
 const TRAPS: [(Trap, &str); 38] = [
     // the paper
-    (Trap::PapersExchanged, "the paper is 1, due 2"),
+    (Trap::PapersExchanged, "the paper is 2, due 1"),
     (Trap::SevenOfScript, "the paper is 2, due 3"),
     (Trap::SixOfSheet, "the paper is 1, due 3"),
     (Trap::NoPaperWithVerdict, "the paper is not written, due 0"),
     // the value
     (Trap::ValueDropped, "the value is 0, due 3"),
     (Trap::NoValueWithVerdict, "the value is not written, due 0"),
-    (Trap::LinesFromZero, "the value is 3, due 4"),
+    (Trap::LinesFromZero, "the value is 0, due 1"),
     (Trap::LineOfSeven, "the value is 4, due 0"),
     (Trap::LengthTwice, "the value is 6, due 3"),
-    (Trap::LengthLent, "the value is 0, due 3"),
-    (Trap::LengthMissing, "the value is 1, due 27"),
+    (Trap::LengthLent, "the value is 2, due 3"),
+    (Trap::LengthMissing, "the value is 1, due 3"),
     // n
-    (Trap::NoN, "n is not written, due 3"),
-    (Trap::NoNWhenEqual, "n is not written, due 24"),
+    (Trap::NoN, "n is not written, due 27"),
+    (Trap::NoNWhenEqual, "n is not written, due 27"),
     (Trap::NWhenRefused, "n is changed, where nothing is due"),
-    (Trap::NLent, "n is 12, due 3"),
+    (Trap::NLent, "n is 32, due 3"),
     // the rule
     (Trap::SignsExchanged, "the rule is [-4, -25, 1], due [4, 25, 1]"),
     (Trap::HigherFirst, "the rule is [25, 4, 1], due [4, 25, 1]"),
-    (Trap::LeastBound, "the rule is [2, 0, 1], due [2, 0, 4]"),
-    (Trap::LastBroken, "the rule is [-2, -18, 0], due [3, -10, 1]"),
-    (Trap::FirstListed, "the rule is [-16, 17, -4698711], due [8, -19, -64814563]"),
-    (Trap::WithinLimits, "the rule is [-3, -6, 1000000000], due [-3, -6, 3000000000]"),
-    (Trap::Doubled, "the rule is [15, 15, 365066746], due [15, 0, 182533373]"),
+    (Trap::LeastBound, "the rule is [11, -12, 967859178], due [11, -12, 989655612]"),
+    (Trap::LastBroken, "the rule is [-1, 2, 4], due [1, 2, 4]"),
+    (Trap::FirstListed, "the rule is [11, 0, 1117520373], due [11, -12, 989655612]"),
+    (Trap::WithinLimits, "the rule is [-1, 0, -1000000000], due [-1, 0, -1999999998]"),
+    (Trap::Doubled, "the rule is [14, 14, -10000000002], due [14, 0, -5000000001]"),
     (Trap::NoRuleZero, "the rule is [0, 0, 0], due [0, 0, 9223372036854775807]"),
     (Trap::NoRuleUnwritten, "the rule is not written, due [0, 0, 9223372036854775807]"),
     (Trap::RuleWhenEqual, "the rule is changed, where nothing is due"),
@@ -42,17 +42,17 @@ const TRAPS: [(Trap, &str); 38] = [
     // the integers
     (Trap::ValuesWhenEqual, "values: a word changed that is not of its first 0"),
     (Trap::ValuesWhenRefused, "values: a word changed that is not of its first 0"),
-    (Trap::ValuesPastN, "values: a word changed that is not of its first 3"),
+    (Trap::ValuesPastN, "values: a word changed that is not of its first 27"),
     (Trap::HiddenOne, "the hidden quantity 1 is 1, due 0"),
-    (Trap::HiddenZero, "the integers break the sheet's rule +3:-261968538"),
-    (Trap::Zeros, "the integers break the script's rule +3:-1"),
+    (Trap::HiddenZero, "the integers break the sheet's rule -18+25:-15"),
+    (Trap::Zeros, "the integers break the script's rule +2+3:-346423270"),
     // the order of refusals
-    (Trap::SixBeforeScript, "number 6, due 2"),
+    (Trap::SixBeforeScript, "number 6, due 3"),
     (Trap::SixAfterSeven, "number 7, due 6"),
     (Trap::SixWhereWritten, "number 100, due 6"),
-    (Trap::NoSix, "number 7, due 6"),
-    (Trap::SixByScript, "the value is 25, due 17"),
-    (Trap::SixByLargest, "number 6, due 101"),
+    (Trap::NoSix, "number 101, due 6"),
+    (Trap::SixByScript, "the value is 31, due 24"),
+    (Trap::SixByLargest, "the value is 32, due 3"),
 ];
 
 #[test]
@@ -67,11 +67,11 @@ fn each_trap_is_seen() {
     }
 }
 
-/// What is told is a word that was there before the call.
+/// What is told is a word that was there before the call, and not the same before each.
 #[test]
 fn an_integer_that_is_not_written_is_seen() {
     let said = seen(Trap::LastUnwritten);
-    assert!(said.ends_with(" is out of range"), "{said}");
+    assert!(said.ends_with(" is out of range") || said == "called again it writes other integers", "{said}");
 }
 
 /// Which integers they are depends on the calls of the other thread.

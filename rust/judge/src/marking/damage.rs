@@ -3,7 +3,7 @@
 
 use super::mismatch;
 use super::pairs::Pair;
-use crate::meaning::{LIMIT, MOST_BYTES};
+use crate::meaning::{script_limit, LIMIT, MOST_BYTES};
 use crate::random::Random;
 use crate::text::damage;
 use crate::text::noise;
@@ -16,24 +16,25 @@ pub fn damaged(pair: &Pair, random: &mut Random) -> (Vec<u8>, Vec<u8>) {
     if way < 3 || random.chance(10) {
         mismatch::make(&mut script, random);
     }
+    let limit = script_limit(script.hidden);
     match way {
         0 | 1 => (sheet.text(), script.text()),
-        2 | 3 => (text(sheet, random), script.text()),
-        4 | 5 => (sheet.text(), text(&script, random)),
-        6 | 7 => (text(sheet, random), text(&script, random)),
+        2 | 3 => (text(sheet, LIMIT, random), script.text()),
+        4 | 5 => (sheet.text(), text(&script, limit, random)),
+        6 | 7 => (text(sheet, LIMIT, random), text(&script, limit, random)),
         // a candidate hands the sheet in, or the papers are exchanged
         _ => (random.pick(&[sheet, &script]).text(), sheet.text()),
     }
 }
 
-/// A text that is to be refused. By chance alone 1, 3 and 4 would be too seldom.
-pub fn text(paper: &Paper, random: &mut Random) -> Vec<u8> {
+/// A text that is to be refused where bounds are at most `limit` in magnitude. By chance alone 1, 3 and 4 would be too seldom.
+pub fn text(paper: &Paper, limit: i64, random: &mut Random) -> Vec<u8> {
     match random.below(10) {
         0 => noise::any(random),
         1 => noise::swollen(paper, random),
         2 => long(paper, random),
-        3 => with_rule(paper, &cancelling(paper, random), random),
-        4 => with_rule(paper, &past_limit(paper, random), random),
+        3 => with_rule(paper, &cancelling(paper, limit, random), random),
+        4 => with_rule(paper, &past_limit(paper, limit, random), random),
         _ => damage::damaged(paper, random),
     }
 }
@@ -45,17 +46,24 @@ fn long(paper: &Paper, random: &mut Random) -> Vec<u8> {
     text
 }
 
-fn cancelling(paper: &Paper, random: &mut Random) -> String {
-    let (q, bound) = (1 + random.edge(paper.n), random.pick(&[0, -1, LIMIT]));
+fn cancelling(paper: &Paper, limit: i64, random: &mut Random) -> String {
+    let (q, bound) = (1 + random.edge(paper.n), random.pick(&[0, -1, limit]));
     let (one, other) = random.pick(&[('+', '-'), ('-', '+')]);
     format!("{one}{q}{other}{q}:{bound}")
 }
 
-/// A bound or a quantity past its limit by one; one of them would also cancel.
-fn past_limit(paper: &Paper, random: &mut Random) -> String {
-    let (past, above) = (paper.n + 1, LIMIT + 1);
-    let rules = [format!("+1:{above}"), format!("-1:-{above}"), format!("+{past}-1:0"), format!("+1-1:{above}")];
-    rules[random.below(rules.len())].clone()
+/// A bound or a quantity past its limit by one, a bound at the limit of a script that hides one more, or a doubled term whose
+/// half would be within it; one of them would also cancel.
+fn past_limit(paper: &Paper, limit: i64, random: &mut Random) -> String {
+    let (past, above, double) = (paper.n + 1, limit + 1, 2 * limit);
+    match random.below(6) {
+        0 => format!("+1:{above}"),
+        1 => format!("-1:-{above}"),
+        2 => format!("+{past}-1:0"),
+        3 => format!("+1-1:{above}"),
+        4 => format!("-{}:{double}", paper.n),
+        _ => format!("+1+1:-{double}"),
+    }
 }
 
 /// This rule in the place of one of the paper's, or as the only one.

@@ -9,19 +9,19 @@ use super::check;
 use super::counts::Counts;
 use super::due;
 use super::reasons::Owed;
-use crate::library::Marker;
-use crate::meaning::MOST_BYTES;
+use crate::library::{Marker, SIZE, TIGHT};
+use crate::meaning::{MOST_BYTES, MOST_RULES};
 use crate::random::Random;
 use crate::text::check::shown;
 use reasons::REASONS;
-use stated::{Group, Said, GROUPS, REFUSED};
+use stated::{Group, ALL_BUT_LAST, GROUPS, REFUSED};
 
 /// How often an example is judged, with different memory.
 const TURNS: u64 = 4;
 
 /// Judges all examples. They are counted as such and not by their numbers.
 pub fn all(library: &dyn Marker, counts: &mut Counts) -> Result<(), String> {
-    let judged = [groups(library), refused(library), sizes(library), reasons(library)];
+    let judged = [groups(library), refused(library), sizes(library), long_scripts(library), reasons(library)];
     for part in judged {
         counts.examples += part.map_err(|e| format!("example: {e}"))?;
     }
@@ -72,6 +72,16 @@ fn sizes(library: &dyn Marker) -> Result<usize, String> {
     Ok(cases.len())
 }
 
+/// Scripts with as many rules as there may be and the longest bounds: these can make a text too long.
+fn long_scripts(library: &dyn Marker) -> Result<usize, String> {
+    let paper = |rules: &[&str]| text(&("32", ALL_BUT_LAST, rules));
+    let cases = [("-32:-2147483648000000000", TIGHT), ("-32-32:-2147483648000000000", SIZE.number)];
+    for (rule, number) in cases {
+        example(library, &paper(&[]), &paper(&[rule; MOST_RULES]), number)?;
+    }
+    Ok(cases.len())
+}
+
 /// Papers with all that is answered.
 fn reasons(library: &dyn Marker) -> Result<usize, String> {
     for (sheet, script, length, stated) in REASONS {
@@ -89,7 +99,7 @@ fn reasons(library: &dyn Marker) -> Result<usize, String> {
 }
 
 /// The whole text of a paper.
-fn text((n, hidden, rules): &Said) -> Vec<u8> {
+fn text((n, hidden, rules): &(&str, &str, &[&str])) -> Vec<u8> {
     let mut text = format!("quantities={n}\nhidden={hidden}\nrules={}\n", rules.len());
     rules.iter().for_each(|rule| text += &format!("rule={rule}\n"));
     text.into_bytes()

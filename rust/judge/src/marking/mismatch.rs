@@ -1,6 +1,7 @@
-//! Scripts that do not fit their sheet: another n, another hidden list, a rule that names a hidden quantity.
+//! Scripts that do not fit their sheet: another n, another hidden list, a rule that names a hidden quantity. With another list
+//! a script has another limit too: one that has lost a quantity may be past it, and is then not compared with the sheet.
 
-use crate::meaning::{is_in, Literal, LIMIT, MOST_QUANTITIES, MOST_RULES};
+use crate::meaning::{is_in, script_limit, Literal, LIMIT, MOST_QUANTITIES, MOST_RULES};
 use crate::random::Random;
 use crate::text::drafts;
 use crate::text::paper::Paper;
@@ -30,9 +31,18 @@ fn n(script: &mut Paper, random: &mut Random) {
     script.rules.retain(|rule| rule.rule().term.quantities().all(|q| q <= n));
 }
 
-/// One quantity more or fewer in the list, often the last.
+/// One quantity more or fewer in the list, often the last. Half of the time a rule has a bound that is within the limit of the
+/// longer list and past that of the shorter one.
 fn hidden(script: &mut Paper, random: &mut Random) {
+    let before = script_limit(script.hidden);
     script.hidden ^= 1 << random.edge(script.n);
+    let after = script_limit(script.hidden);
+    let (low, high) = (before.min(after), before.max(after));
+    if random.chance(50) && !script.rules.is_empty() {
+        let at = random.edge(script.rules.len());
+        let far = random.pick(&[low + 1, high, high - 1]);
+        script.rules[at].bound = random.pick(&[far, -far]);
+    }
 }
 
 /// A rule on a hidden quantity, alone, doubled or with another, at the beginning, at the end or between. Half of the
@@ -45,7 +55,8 @@ fn rule(script: &mut Paper, random: &mut Random) {
     let first = Literal { sign: random.pick(&[1, -1]), quantity: random.pick(&hidden) };
     let any = Literal { sign: random.pick(&[1, -1]), quantity: 1 + random.below(script.n) };
     let second = random.pick(&[None, Some(first), Some(any)]).filter(|s| *s == first || s.quantity != first.quantity);
-    let bound = if random.chance(50) { LIMIT } else { drafts::bound(random) };
+    let any = drafts::bound(random);
+    let bound = random.pick(&[LIMIT, script_limit(script.hidden), any, any]);
     let rule = match second {
         Some(second) if random.chance(50) => Written { first: second, second: Some(first), bound },
         _ => Written { first, second, bound },

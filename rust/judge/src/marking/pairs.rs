@@ -1,8 +1,9 @@
 //! Random pairs of papers that fit each other, by the scripts that candidates might hand in.
 
+use super::far;
 use super::scripts;
 use super::spelling;
-use crate::meaning::{terms, Literal, Term, MOST_QUANTITIES};
+use crate::meaning::{script_limit, terms, Literal, Term, LIMIT, MOST_QUANTITIES};
 use crate::random::Random;
 use crate::sheets::Sheet;
 use crate::text::paper::Paper;
@@ -18,11 +19,12 @@ impl Pair {
         Pair::of(Sheet::small(random), random)
     }
 
-    /// A pair of any size, at times of the largest.
+    /// A pair of any size, at times of the largest or with a key whose bounds are past a sheet's limit.
     pub fn any(random: &mut Random) -> Pair {
-        let sheet = match random.chance(10) {
-            true => Sheet::of(MOST_QUANTITIES, random),
-            false => Sheet::any(random),
+        let sheet = match random.below(10) {
+            0 => Sheet::of(MOST_QUANTITIES, random),
+            1 => far::sheet(random),
+            _ => Sheet::any(random),
         };
         Pair::of(sheet, random)
     }
@@ -34,7 +36,10 @@ impl Pair {
             need_halves(&mut sheet.table, 1 + random.below(high - 1), high);
         }
         let script = scripts::of(&sheet, random);
-        Pair { sheet: spelling::paper(&sheet, random), script: spelling::paper(&script, random) }
+        Pair {
+            sheet: spelling::paper(&sheet, LIMIT, random),
+            script: spelling::paper(&script, script_limit(script.hidden), random),
+        }
     }
 }
 

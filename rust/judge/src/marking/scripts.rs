@@ -3,7 +3,7 @@
 use super::pairs::need_halves;
 use crate::graph::Closure;
 use crate::library::DONE;
-use crate::meaning::{rules, size, terms, Rule, Term, LIMIT, NO_RULE};
+use crate::meaning::{rules, script_limit, size, terms, Rule, Term, LIMIT, NO_RULE};
 use crate::plain;
 use crate::random::Random;
 use crate::sheets::Sheet;
@@ -20,20 +20,20 @@ struct Draft<'a> {
     table: Vec<i64>,
 }
 
-/// A script that fits the sheet, with bounds within the limits.
+/// A script that fits the sheet, with bounds within a script's limit. A key's are, so that one without a change stays a key.
 pub fn of(sheet: &Sheet, random: &mut Random) -> Sheet {
     let mut draft = Draft::new(sheet);
     draft.begin(random);
     for _ in 0..random.pick(&[0, 0, 1, 1, 1, 1, 2, 2, 3]) {
         draft.change(random);
     }
-    draft.keep_limits(random);
+    draft.keep_limit();
     Sheet { n: sheet.n, hidden: sheet.hidden, table: draft.table }
 }
 
 impl Draft<'_> {
     /// Where many rules are, most of those that are changed alone follow from the others, so that all are changed too.
-    const CHANGES: [fn(&mut Self, &mut Random); 14] = [
+    const CHANGES: [fn(&mut Self, &mut Random); 15] = [
         Self::raise,
         Self::raise,
         Self::lower,
@@ -46,6 +46,7 @@ impl Draft<'_> {
         Self::drop_half,
         Self::add,
         Self::add,
+        Self::add_far,
         Self::contradict,
         Self::need_halves,
     ];
@@ -138,6 +139,14 @@ impl Draft<'_> {
         self.put(Rule { term: self.terms[place], bound });
     }
 
+    /// A rule with a bound at a script's limit, or at the limit of one that hides fewer.
+    fn add_far(&mut self, random: &mut Random) {
+        let place = random.pick(&self.visible);
+        let fewer = random.edge(self.sheet.hidden.count_ones() as usize + 1);
+        let far = (LIMIT << fewer) - random.pick(&[0, 0, 1]);
+        self.table[place] = random.pick(&[far, -far]);
+    }
+
     /// A rule and its opposite: no integers are left, and no fractions.
     fn contradict(&mut self, random: &mut Random) {
         if let Some(place) = self.held(random) {
@@ -169,12 +178,10 @@ impl Draft<'_> {
         Some(least as i64)
     }
 
-    /// A key's bounds may be past the limits of a script: they are brought to the limit, or the rules are dropped.
-    fn keep_limits(&mut self, random: &mut Random) {
-        let dropped = random.chance(50);
-        let past = |bound: &&mut i64| **bound != NO_RULE && bound.abs() > LIMIT;
-        for bound in self.table.iter_mut().filter(past) {
-            *bound = if dropped { NO_RULE } else { (*bound).clamp(-LIMIT, LIMIT) };
-        }
+    /// A least bound or a change may be past a script's limit: the bound is brought to it.
+    fn keep_limit(&mut self) {
+        let limit = script_limit(self.sheet.hidden);
+        let held = self.table.iter_mut().filter(|bound| **bound != NO_RULE);
+        held.for_each(|bound| *bound = (*bound).clamp(-limit, limit));
     }
 }

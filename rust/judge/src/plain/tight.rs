@@ -5,7 +5,8 @@ use crate::meaning::MOST_QUANTITIES;
 
 /// Pairs the rules of every quantity in turn and empties nothing, then bounds each sum of two literals by the sum of
 /// their own bounds; false at the first contradiction. A pairing at most doubles the largest magnitude, and so does the
-/// end: from a sheet's limits all sums fit.
+/// end: from a sheet's limits all sums fit. So they do from a script's, whose hidden quantities doubled the limit and pair
+/// nothing.
 pub fn tighten(n: usize, table: &mut [i64]) -> bool {
     let mut rows = Rows::EMPTY;
     for k in 0..n {

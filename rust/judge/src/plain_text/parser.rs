@@ -1,9 +1,9 @@
 //! One pass over a text, byte by byte. A line is read to its end before its numbers are compared with their limits, so
-//! that 2 comes before 3 and 3 before 4.
+//! that 2 comes before 3 and 3 before 4. The largest bound is a constant in the code for sheets.
 
 use super::place;
 use crate::library::{cancelling, malformed, past_limit, Reply, SIZE};
-use crate::meaning::{LIMIT, MOST_BYTES, MOST_QUANTITIES, MOST_RULES};
+use crate::meaning::{script_limit, LIMIT, MOST_BYTES, MOST_QUANTITIES, MOST_RULES};
 
 pub struct Parser<'a> {
     text: &'a [u8],
@@ -29,6 +29,15 @@ impl Parsed {
 
 impl Parser<'_> {
     pub fn sheet(text: &[u8]) -> Result<Parsed, Reply> {
+        Parser::paper(text, |_| LIMIT)
+    }
+
+    /// Its own hidden list decides how large a bound may be.
+    pub fn script(text: &[u8]) -> Result<Parsed, Reply> {
+        Parser::paper(text, script_limit)
+    }
+
+    fn paper(text: &[u8], most: impl Fn(u32) -> i64) -> Result<Parsed, Reply> {
         if text.len() > MOST_BYTES {
             return Err(SIZE);
         }
@@ -36,9 +45,10 @@ impl Parser<'_> {
         let n = parser.count(b"quantities=", 1, MOST_QUANTITIES)?;
         let hidden = parser.hidden(n)?;
         let count = parser.count(b"rules=", 0, MOST_RULES)?;
+        let most = most(hidden);
         let mut rules = Vec::with_capacity(count);
         for _ in 0..count {
-            rules.push(parser.rule(n)?);
+            rules.push(parser.rule(n, most)?);
         }
         if parser.at < text.len() {
             return Err(malformed(parser.line));
@@ -89,7 +99,7 @@ impl Parser<'_> {
     }
 
     /// The place and the bound of a rule, a doubled term halved.
-    fn rule(&mut self, n: usize) -> Result<(usize, i64), Reply> {
+    fn rule(&mut self, n: usize, most: i64) -> Result<(usize, i64), Reply> {
         self.expect(b"rule=")?;
         let first = self.signed()?;
         let second = if self.peek() == Some(b':') { None } else { Some(self.signed()?) };
@@ -97,7 +107,7 @@ impl Parser<'_> {
         let bound = self.bound()?;
         self.expect(b"\n")?;
         let outside = |(_, q): (bool, u64)| q == 0 || q > n as u64;
-        if outside(first) || second.is_some_and(outside) || !(-LIMIT..=LIMIT).contains(&bound) {
+        if outside(first) || second.is_some_and(outside) || !(-most..=most).contains(&bound) {
             return Err(past_limit(self.line));
         }
         let literal = |(minus, q): (bool, u64)| 2 * (q as usize - 1) + usize::from(minus);

@@ -14,8 +14,9 @@ pub struct Counts {
 }
 
 /// What a run is to meet. 5 is no answer of *mark*, and 6 is one of neither.
-const KINDS: [&str; 35] = [
+const KINDS: [&str; 37] = [
     "equal",
+    "equal, own key past a sheet's limit",
     "loose, and narrow",
     "loose, before another rule that can be broken",
     "loose, behind a rule that holds",
@@ -31,6 +32,7 @@ const KINDS: [&str; 35] = [
     "tight, rule not as it is written",
     "tight, rule of one quantity",
     "tight, rule of two quantities",
+    "tight, rule past the limits",
     "tight, rule tried",
     "tight, some hidden",
     "refused 1, sheet",

@@ -3,6 +3,7 @@
 use crate::marking::damage;
 use crate::marking::pairs::Pair;
 use crate::marking::spelling;
+use crate::meaning::LIMIT;
 use crate::random::Random;
 use crate::sheets::Sheet;
 
@@ -37,6 +38,6 @@ fn sheets(number: u64, random: &mut Random) -> [Input; 2] {
         0 => Sheet::small(random),
         _ => Sheet::any(random),
     };
-    let paper = spelling::paper(&sheet, random);
-    [Input::Key(paper.text()), Input::Key(damage::text(&paper, random))]
+    let paper = spelling::paper(&sheet, LIMIT, random);
+    [Input::Key(paper.text()), Input::Key(damage::text(&paper, LIMIT, random))]
 }

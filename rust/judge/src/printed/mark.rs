@@ -5,6 +5,9 @@ use crate::library::{BOTH, SCRIPT};
 use crate::marking::due::{self, Beside};
 use crate::marking::shown::Shown;
 
+/// Of the kinds of an equal script the one that a sheet's text could not spell.
+const OWN_FAR_KEY: &str = "equal, own key past a sheet's limit";
+
 /// Judges what is printed. Gives the kinds of the answer, of which a run has to meet all.
 pub fn judged(sheet: &[u8], script: &[u8], printed: &[u8]) -> Result<Vec<String>, String> {
     let due = due::of(sheet, script)?;
@@ -12,7 +15,8 @@ pub fn judged(sheet: &[u8], script: &[u8], printed: &[u8]) -> Result<Vec<String>
         Beside::Refused { paper, line } => refused(printed, due.number, paper, line),
         Beside::Equal => {
             lines::same(printed, "verdict=equal\n")?;
-            Ok(vec!["equal".into()])
+            let own = due.kinds.into_iter().filter(|kind| kind == OWN_FAR_KEY);
+            Ok(own.chain(["equal".into()]).collect())
         }
         Beside::Shown(shown) => verdict(printed, &shown),
     }

@@ -10,6 +10,15 @@ use crate::meaning::{MOST_QUANTITIES, MOST_RULES};
 use std::collections::BTreeSet;
 use std::fmt;
 
+/// What the lines before say of a line's limits, and which paper it is on.
+#[derive(Clone, Copy)]
+pub struct Limits {
+    /// the sheet's or the script's n
+    pub n: usize,
+    /// the largest magnitude of a bound
+    pub bound: i64,
+}
+
 pub trait Line: fmt::Display {
     /// What lines of this kind are called where replies are counted.
     const NAME: &'static str;
@@ -17,8 +26,8 @@ pub trait Line: fmt::Display {
     /// Takes what stands behind the first '=' for the value of such a line.
     fn read_off(value: &[u8]) -> Self;
 
-    /// Is a number outside its limit, on a sheet of n quantities?
-    fn past_limit(&self, n: usize) -> bool;
+    /// Is a number outside its limit?
+    fn past_limit(&self, limits: Limits) -> bool;
 
     /// Does a quantity cancel itself?
     fn cancels(&self) -> bool {
@@ -61,7 +70,7 @@ impl Line for Quantities {
         Quantities(Decimal::among(value))
     }
 
-    fn past_limit(&self, _: usize) -> bool {
+    fn past_limit(&self, _: Limits) -> bool {
         self.0.within(1, MOST_QUANTITIES as i64).is_none()
     }
 }
@@ -76,8 +85,8 @@ impl Line for Hidden {
         Hidden(value.split(|&byte| byte == b',').map(Decimal::among).collect())
     }
 
-    fn past_limit(&self, n: usize) -> bool {
-        self.0.iter().any(|q| q.within(1, n as i64).is_none())
+    fn past_limit(&self, limits: Limits) -> bool {
+        self.0.iter().any(|q| q.within(1, limits.n as i64).is_none())
     }
 }
 
@@ -88,7 +97,7 @@ impl Line for Rules {
         Rules(Decimal::among(value))
     }
 
-    fn past_limit(&self, _: usize) -> bool {
+    fn past_limit(&self, _: Limits) -> bool {
         self.0.within(0, MOST_RULES as i64).is_none()
     }
 }

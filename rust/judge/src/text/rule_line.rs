@@ -1,9 +1,9 @@
 //! A line taken for a rule, as `line` says.
 
 use super::decimal::Decimal;
-use super::line::{known, parted, Line};
+use super::line::{known, parted, Limits, Line};
 use super::written::Written;
-use crate::meaning::{Literal, LIMIT};
+use crate::meaning::Literal;
 use std::fmt;
 
 pub struct RuleLine {
@@ -52,10 +52,10 @@ impl Line for RuleLine {
         }
     }
 
-    fn past_limit(&self, n: usize) -> bool {
+    fn past_limit(&self, limits: Limits) -> bool {
         let mut quantities = [Some(&self.first), self.second.as_ref()].into_iter().flatten();
-        quantities.any(|signed| signed.number.within(1, n as i64).is_none())
-            || self.bound.magnitude.within(0, LIMIT).is_none()
+        quantities.any(|signed| signed.number.within(1, limits.n as i64).is_none())
+            || self.bound.magnitude.within(0, limits.bound).is_none()
     }
 
     fn cancels(&self) -> bool {

@@ -1,5 +1,6 @@
 //! A marker over the judge's own reader and verdicts that falls into one of the traps that the judge has to see.
 
+mod limits;
 mod refusals;
 mod trap;
 mod verdicts;

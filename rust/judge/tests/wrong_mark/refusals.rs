@@ -2,16 +2,17 @@
 
 use super::{Trap, Wrong};
 use judge::graph::Closure;
-use judge::library::{Reply, LOOSE, MISMATCH};
-use judge::marking::due::{read, rules};
+use judge::library::{LOOSE, MISMATCH};
+use judge::marking::due::rules;
 use judge::text::paper::Paper;
 use judge::text::written::Written;
 
 impl Wrong {
     /// What the two texts say, or the number with which they are refused.
     pub fn accepted(&self, sheet: &[u8], script: &[u8]) -> Result<(Paper, Paper), u32> {
-        let number = |refusal: Reply| refusal.number;
-        let (said, answered) = match (read(sheet).map_err(number), read(script).map_err(number)) {
+        let said = self.sheet(sheet);
+        let answered = self.script(script, said.as_ref().ok());
+        let (said, answered) = match (said, answered) {
             (Ok(said), Ok(answered)) => (said, answered),
             (Err(first), Err(second)) => return Err(self.first_of(first, second)),
             (Ok(_), Err(_)) if self.trap == Trap::HeaderFirst && header(sheet) != header(script) => {

@@ -76,6 +76,28 @@ pub enum Trap {
     /// a doubled rule that names a hidden quantity passes
     PassesDoubledRule,
 
+    // how large a bound may be
+    /// a sheet's bounds may be as large as a script's
+    SheetAsScript,
+    /// a script's may be as large as a sheet's
+    ScriptAsSheet,
+    /// the script's limit goes by the sheet's hidden list
+    LimitBySheet,
+    /// it is doubled for every quantity, hidden or not
+    LimitByN,
+    /// it is doubled once where something is hidden
+    LimitDoubledOnce,
+    /// it is doubled as often as the last hidden quantity says
+    LimitByLast,
+    /// it is a number of 32 bits
+    LimitIn32Bits,
+    /// it is larger by so much
+    LimitMoved(i64),
+    /// a doubled term is halved before its bound is held against the limit
+    LimitHalved,
+    /// negative bounds have the sheet's limit
+    NegativeAsSheet,
+
     // state
     /// the verdict of the call before where the sheet is as long as it was
     Remembers,

@@ -6,7 +6,7 @@ mod trap;
 mod verdicts;
 
 use judge::library::{Reply, EQUAL, LOOSE, MISMATCH, NO_ASSIGNMENT};
-use judge::marking::due::{self, read};
+use judge::marking::due::{self, read, read_script};
 use judge::meaning::{terms, NO_RULE};
 use judge::naive;
 use judge::printed::programs::Printer;
@@ -27,7 +27,7 @@ impl Printer for Wrong {
 
     fn mark(&self, sheet: &[u8], script: &[u8]) -> Result<Vec<u8>, String> {
         let number = due::of(sheet, script)?.number;
-        Ok(self.told(match (read(sheet), read(script)) {
+        Ok(self.told(match (read(sheet), read_script(script)) {
             (Err(reply), _) => self.refusal(reply, Some("sheet")),
             (Ok(_), Err(reply)) => self.refusal(reply, Some("script")),
             (Ok(sheet), Ok(script)) => match number {

@@ -12,10 +12,13 @@ pub struct Marked {
 
 const A: Said = ("3", "2", &["+1+2:5", "+1-2:2", "+3-2:0"]);
 
+/// Its key has a bound that is past a sheet's limit.
+const FAR: Said = ("3", "2", &["+1-2:1000000000", "+2-3:1000000000"]);
+
 /// Only a half would fit.
 const NOTHING_ALLOWED: Said = ("1", "", &["+1+1:1", "-1-1:-1"]);
 
-pub const MARKED: [Marked; 8] = [
+pub const MARKED: [Marked; 10] = [
     Marked {
         sheet: A,
         script: ("3", "2", &["+1+1:7", "+1+3:5"]),
@@ -119,9 +122,31 @@ pub const MARKED: [Marked; 8] = [
             ("refused=3\npaper=script\nline=1\n", "line 1: 'refused=3\\n', due 'refused=4\\n'"),
         ],
     },
+    // bounds past a sheet's limit
+    Marked {
+        sheet: FAR,
+        script: ("3", "2", &["+1-3:2000000000"]),
+        right: &["verdict=equal\n"],
+        wrong: &[("refused=3\npaper=script\nline=4\n", "line 1: 'refused=3\\n', due 'verdict=equal\\n'")],
+    },
+    Marked {
+        sheet: FAR,
+        script: ("3", "2", &["+1-3:1999999999"]),
+        right: &["verdict=tight\nrule=+1-3:1999999999\nvalues=2000000000,1000000000,0\n"],
+        wrong: &[
+            (
+                "verdict=tight\nrule=+1-3:1000000000\nvalues=2000000000,1000000000,0\n",
+                "line 2: 'rule=+1-3:1000000000\\n', due 'rule=+1-3:1999999999\\n'",
+            ),
+            (
+                "verdict=tight\nrule=+1-3:1999999999\nvalues=1999999999,1000000000,0\n",
+                "the script allows these integers",
+            ),
+        ],
+    },
     Marked {
         sheet: A,
-        script: ("3", "2", &["+1:1000000001"]),
+        script: ("3", "2", &["+1:2000000001"]),
         right: &["refused=3\npaper=script\nline=4\n"],
         wrong: &[
             ("refused=3\npaper=sheet\nline=4\n", "line 2: 'paper=sheet\\n', due 'paper=script\\n'"),

@@ -5,7 +5,7 @@ mod rule;
 mod trap;
 
 use judge::library::{Marker, Told, EQUAL, LOOSE, MISMATCH, TIGHT};
-use judge::marking::due::read;
+use judge::marking::due::{read, read_script};
 use judge::meaning::{is_in, NO_RULE};
 use judge::plain_mark;
 use std::sync::atomic::{AtomicI64, Ordering::SeqCst};
@@ -96,7 +96,7 @@ impl Wrong {
             (Trap::Zeros, LOOSE) => values[..told.quantities].fill(0),
             // a script without rules allows all integers, and this sheet none
             (Trap::Others, LOOSE) if told.rule == [0, 0, NO_RULE] => {
-                let free = read(script).is_ok_and(|script| script.rules.is_empty() && !is_in(script.hidden, 1));
+                let free = read_script(script).is_ok_and(|script| script.rules.is_empty() && !is_in(script.hidden, 1));
                 values[0] += if free { self.calls.fetch_add(1, SeqCst) } else { 0 };
             }
             _ => {}

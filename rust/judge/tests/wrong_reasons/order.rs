@@ -2,7 +2,7 @@
 
 use super::{Trap, Wrong};
 use judge::library::{Told, BOTH, EQUAL, MISMATCH};
-use judge::marking::due::read;
+use judge::marking::due::{read, read_script};
 use judge::meaning::MOST_QUANTITIES;
 use judge::plain_reasons;
 
@@ -16,7 +16,7 @@ impl Wrong {
         let n = |text: &[u8]| read(text).map_or(0, |paper| paper.n);
         let needed = match (self.trap, number) {
             (Trap::SixBeforeScript, _) => n(sheet),
-            (Trap::SixByScript, MISMATCH) => n(script),
+            (Trap::SixByScript, MISMATCH) => read_script(script).map_or(0, |paper| paper.n),
             (Trap::SixByLargest, MISMATCH | EQUAL..) => MOST_QUANTITIES,
             (Trap::NoSix, _) | (Trap::SixAfterSeven, MISMATCH) | (Trap::SixWhereWritten, EQUAL) => 0,
             _ => return plain_reasons::mark_texts(sheet, script, values, told),

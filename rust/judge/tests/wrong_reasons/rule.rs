@@ -3,7 +3,7 @@
 use super::{Answered, Trap, Wrong};
 use judge::graph::Closure;
 use judge::library::{EQUAL, LOOSE, TIGHT};
-use judge::marking::due::{read, rules};
+use judge::marking::due::{read, read_script, rules};
 use judge::meaning::{self, Literal, Rule, LIMIT, NO_RULE};
 use judge::naive;
 
@@ -30,7 +30,8 @@ impl Wrong {
 
     /// A rule chosen from the key's, and from those of them that can be broken.
     fn of_key(&self, answered: &Answered, chosen: fn(&[Rule], &[Rule]) -> Option<Rule>) -> [i64; 3] {
-        let [sheet, script] = [answered.sheet, answered.script].map(|text| read(text).expect("both texts are read"));
+        let [sheet, script] =
+            [read(answered.sheet), read_script(answered.script)].map(|paper| paper.expect("both texts are read"));
         let written = rules(&sheet, &script);
         let key = naive::key(sheet.n, sheet.hidden, &sheet.sheet().table).expect("the sheet has an assignment");
         let listed = meaning::rules(sheet.n, &key);

@@ -26,7 +26,7 @@ const fn refused(number: u32, paper: u32, value: usize) -> Answer {
     Answer { number, paper, value, quantities: None, rule: None }
 }
 
-pub const REASONS: [Case; 24] = [
+pub const REASONS: [Case; 32] = [
     // document 01's sheet A
     (A, ("3", "2", &["+1+1:7", "+1+3:5"]), 3, equal(3)),
     (A, ("3", "2", &["+1:3"]), 3, shown(LOOSE, 3, [1, 3, 5])),
@@ -37,8 +37,16 @@ pub const REASONS: [Case; 24] = [
     (A, ("3", "2", &["+3+1:4", "+1+1:5"]), 4, shown(TIGHT, 3, [1, 0, 2])),
     (("2", "", &[]), ("2", "", &["+2-1:0"]), 2, shown(TIGHT, 2, [-1, 2, 0])),
     (("2", "", &["-2-1:-4"]), ("2", "", &[]), 2, shown(LOOSE, 2, [-1, -2, -4])),
-    // the key's bound is past the limits
+    // the key's bound is past a sheet's limit, and at a script's
     (FAR, ("3", "2", &[]), 3, shown(LOOSE, 3, [1, -3, 2_000_000_000])),
+    (FAR, ("3", "2", &["+1-3:2000000000"]), 3, equal(3)),
+    (FAR, ("3", "2", &["+1-3:1999999999"]), 3, shown(TIGHT, 3, [1, -3, 1_999_999_999])),
+    (FAR, ("3", "2", &["+1-3:2000000000", "-3-3:-2000000000"]), 3, shown(TIGHT, 3, [-3, 0, -1_000_000_000])),
+    (FAR, ("3", "2", &["+1-3:2000000001"]), 3, refused(3, SCRIPT, 4)),
+    (FAR, ("3", "2", &["+1-3:2000000000", "+1-1:2000000000"]), 3, refused(4, SCRIPT, 5)),
+    (FAR, ("3", "", &["+1-3:2000000000"]), 0, refused(3, SCRIPT, 4)),
+    (FAR, ("3", "1,2", &["+3:4000000000"]), 3, refused(MISMATCH, BOTH, 0)),
+    (FAR, ("3", "1,2", &["+3:0", "+3:-4000000001"]), 3, refused(3, SCRIPT, 5)),
     // the sheet allows nothing
     (NOTHING_ALLOWED, ("1", "", &[]), 1, shown(LOOSE, 1, [0, 0, NO_RULE])),
     (("1", "1", &["+1:3", "-1:-4"]), ("1", "1", &[]), 1, shown(LOOSE, 1, [0, 0, NO_RULE])),

@@ -9,7 +9,7 @@ use crate::sheets::Sheet;
 use crate::text::written::{self, Written};
 
 /// A rule as written: two signed quantities, the second 0 where there is none, and the bound.
-type Short = (i64, i64, i64);
+pub(crate) type Short = (i64, i64, i64);
 
 struct Example {
     n: usize,
@@ -62,7 +62,7 @@ fn stated(library: &dyn Library, example: &Example, sheet: &Sheet) -> Result<(),
 }
 
 /// The table that these rules are read into.
-fn table(n: usize, rules: &[Short]) -> Vec<i64> {
+pub(crate) fn table(n: usize, rules: &[Short]) -> Vec<i64> {
     let written = |&(first, second, bound): &Short| {
         let second = (second != 0).then(|| literal(second));
         Written { first: literal(first), second, bound }

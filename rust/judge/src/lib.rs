@@ -48,5 +48,6 @@ pub mod sheets;
 #[cfg(feature = "plain")]
 mod stand_in;
 pub mod state;
+pub mod table_marking;
 pub mod text;
 pub mod wrong;

@@ -19,6 +19,7 @@ mod first;
 mod integers;
 mod kinds;
 pub mod mismatch;
+mod own;
 pub mod pairs;
 pub mod reasons;
 pub mod run;

@@ -18,7 +18,7 @@ pub fn key(n: usize, hidden: u32, table: &mut [i64], workspace: &mut [i64]) -> R
     }
     let (table, workspace) = (&mut table[..2 * n * n], &mut workspace[..2 * n * n]);
     // as 64 bits, for a 32-bit number cannot be shifted by 32
-    if u64::from(hidden) >> n != 0 || !within_limits(table) {
+    if u64::from(hidden) >> n != 0 || !within(LIMIT, table) {
         return PAST_LIMIT;
     }
     workspace.copy_from_slice(table);
@@ -37,7 +37,7 @@ pub fn assignment(n: usize, table: &[i64], workspace: &mut [i64], values: &mut [
         return too_short(n);
     }
     let (table, workspace) = (&table[..2 * n * n], &mut workspace[..2 * n * n]);
-    if !within_limits(table) {
+    if !within(LIMIT, table) {
         return PAST_LIMIT;
     }
     workspace.copy_from_slice(table);
@@ -59,7 +59,8 @@ fn lengths(n: usize, table: &[i64], workspace: &[i64]) -> Result<(), Reply> {
     Ok(())
 }
 
-pub(crate) fn within_limits(table: &[i64]) -> bool {
-    let held = |&bound: &i64| bound == NO_RULE || (-LIMIT..=LIMIT).contains(&bound);
+/// Is every bound at most this in magnitude?
+pub(crate) fn within(limit: i64, table: &[i64]) -> bool {
+    let held = |&bound: &i64| bound == NO_RULE || (-limit..=limit).contains(&bound);
     table.iter().all(held)
 }

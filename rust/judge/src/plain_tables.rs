@@ -2,8 +2,8 @@
 //! only its length is looked at.
 
 use crate::library::{too_short, Header, Papers, Reply, TableMarker, MISMATCH, PAST_LIMIT, SIZE};
-use crate::meaning::{size, MOST_QUANTITIES};
-use crate::plain::within_limits;
+use crate::meaning::{script_limit, size, LIMIT, MOST_QUANTITIES};
+use crate::plain::within;
 use crate::plain_mark::Paper;
 use crate::plain_reasons::verdict;
 
@@ -30,7 +30,8 @@ fn checked(papers: Papers, workspace: usize, values: usize) -> Result<(Paper, Pa
     let paper = |table: &[i64]| Paper { header: Header { quantities: n, hidden }, table: table[..size(n)].to_vec() };
     let (sheet, script) = (paper(sheet), paper(script));
     // as 64 bits, for a 32-bit number cannot be shifted by 32
-    if u64::from(hidden) >> n != 0 || !within_limits(&sheet.table) || !within_limits(&script.table) {
+    let past_n = u64::from(hidden) >> n != 0;
+    if past_n || !within(LIMIT, &sheet.table) || !within(script_limit(hidden), &script.table) {
         return Err(PAST_LIMIT);
     }
     if !script.fits(&sheet) {

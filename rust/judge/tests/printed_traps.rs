@@ -16,7 +16,7 @@ const TRAPS: [(Trap, &str); 20] = [
     (Trap::LastBroken, "line 2: 'rule=-19-22:-1\\n', due 'rule=+19+22:1\\n'"),
     (Trap::RuleOfSheet, "line 2: 'rule=+2+8:165958084\\n', due 'rule=-5+7:972691734\\n'"),
     (Trap::HigherFirst, "line 2: 'rule=+22+19:1\\n', due 'rule=+19+22:1\\n'"),
-    (Trap::WithinLimits, "line 2: 'rule=+14:-1000000000\\n', due 'rule=+14:-5000000001\\n'"),
+    (Trap::WithinLimits, "line 2: 'rule=-1+5:1000000000\\n', due 'rule=-1+5:2000000000\\n'"),
     (Trap::NoEmptyRule, "line 2: 'values=0,0,0\\n', due 'rule=\\n'"),
     (Trap::OtherBroken, "the integers meet the rule +19+22:1"),
     (Trap::OppositeAtBound, "the script allows these integers"),

@@ -1,7 +1,7 @@
 //! judge [SEED [COUNT]]: judges the linked library on COUNT random sheets, then on as many random texts, then on as many
-//! random pairs of texts, on which the crate's enums are judged too; what the built programs print on a tenth as many
-//! sheets and pairs, and what the command `acornsled` says on these. Prints a line for each; at the first failure it prints
-//! what failed and the input, and exits with 1.
+//! random pairs of texts, on which the crate's enums are judged too, and on a quarter as many random pairs of tables; what the
+//! built programs print on a tenth as many sheets and pairs, and what the command `acornsled` says on these. Prints a line for
+//! each; at the first failure it prints what failed and the input, and exits with 1.
 
 use judge::command;
 use judge::command::program::Acornsled;
@@ -11,6 +11,7 @@ use judge::marking;
 use judge::printed;
 use judge::printed::programs::Built;
 use judge::run;
+use judge::table_marking;
 use judge::text;
 use std::env;
 use std::fmt::Display;
@@ -18,6 +19,9 @@ use std::process::exit;
 
 const SEED: u64 = 1;
 const COUNT: u64 = 20_000;
+
+/// Verdicts on tables are found as on texts, so that fewer of them are enough.
+const TABLES_SHARE: u64 = 4;
 
 /// A program takes about a millisecond to run, much more than a call.
 const PRINTED_SHARE: u64 = 10;
@@ -35,6 +39,7 @@ fn main() {
     report(seed, run::all(&Linked, seed, count));
     report(seed, text::run::all(&Linked, seed, count));
     report(seed, marking::run::all(&Linked, seed, count));
+    report(seed, table_marking::run::all(&Linked, seed, count / TABLES_SHARE));
     report(seed, enums::run::all(seed, count));
     report(seed, printed::run::all(&built, seed, count / PRINTED_SHARE));
     report(seed, command::run::all(&built, &acornsled, seed, count / PRINTED_SHARE));

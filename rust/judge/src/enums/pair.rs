@@ -16,6 +16,10 @@ pub fn texts(sheet: &[u8], script: &[u8], random: &mut Random) -> Result<bool, S
         return Ok(false);
     };
     tables(&sheet, &script)?;
+    // its bounds may be past those of a text that is read as a sheet
+    if let Ok(key) = sheet.clone().key() {
+        tables(&sheet, &key)?;
+    }
     match random.chance(50) {
         true => tables(&damaged(sheet, random), &script)?,
         false => tables(&sheet, &damaged(script, random))?,

@@ -9,14 +9,14 @@ use crate::plain_mark::Plain;
 use crate::random::Random;
 use crate::text::check::shown;
 
-/// Judges the marking of two texts, whatever they are.
+/// Judges the marking of two texts, whatever they are. Gives the number that was due.
 pub fn texts(
     library: &dyn Marker,
     sheet: &[u8],
     script: &[u8],
     random: &mut Random,
     counts: &mut Counts,
-) -> Result<(), String> {
+) -> Result<u32, String> {
     let stated = |e: String| format!("{e}\nsheet, {}\nscript, {}", shown(sheet), shown(script));
     let due = due::of(sheet, script).map_err(stated)?;
     let call = MarkCall::new(sheet, script, random);
@@ -30,7 +30,7 @@ pub fn texts(
     let kinds = both(library).map_err(stated)?;
     counts.marking(&due);
     counts.reasons(owed.answer().number, kinds);
-    Ok(())
+    Ok(due.number)
 }
 
 fn marking(library: &dyn Marker, due: u32, call: &MarkCall) -> Result<(), String> {

@@ -12,6 +12,8 @@ const NUMBERS: [u32; 9] = [1, 2, 3, 4, 6, 7, 100, 101, 102];
 #[derive(Default)]
 pub struct Counts {
     pub examples: usize,
+    /// sheets whose own key was handed in as the writer prints it
+    pub own_keys: usize,
     /// verdicts that were decided by enumeration too
     enumerated: usize,
     /// calls by their numbers
@@ -157,6 +159,7 @@ impl Counts {
 impl Tally for Counts {
     fn add(&mut self, other: &Counts) {
         self.examples += other.examples;
+        self.own_keys += other.own_keys;
         self.enumerated += other.enumerated;
         add_kinds(&mut self.numbers, &other.numbers);
         add_kinds(&mut self.reasons, &other.reasons);
@@ -166,8 +169,9 @@ impl Tally for Counts {
 
 impl fmt::Display for Counts {
     fn fmt(&self, f: &mut fmt::Formatter) -> fmt::Result {
-        let Counts { examples, enumerated, numbers, reasons, .. } = self;
-        write!(f, "examples={examples} pairs={} enumerated={enumerated}", numbers.values().sum::<usize>())?;
+        let Counts { examples, own_keys, enumerated, numbers, reasons, .. } = self;
+        write!(f, "examples={examples} pairs={} own-keys={own_keys}", numbers.values().sum::<usize>())?;
+        write!(f, " enumerated={enumerated}")?;
         numbers.iter().try_for_each(|(number, count)| write!(f, " number-{number}={count}"))?;
         write!(f, " with-reasons={}", reasons.values().sum::<usize>())?;
         reasons.iter().try_for_each(|(number, count)| write!(f, " number-{number}={count}"))?;

@@ -40,7 +40,7 @@ pub fn of(sheet: &[u8], script: &[u8]) -> Result<Due, String> {
                 let beside = Beside::Refused { paper: BOTH, line: 0 };
                 Ok(Due { number: MISMATCH, beside, quantities: Some(sheet.n), kinds, enumerated: false })
             }
-            None => marked(&sheet, &script),
+            None => fitting(&sheet, &script),
         },
     }
 }
@@ -80,7 +80,8 @@ fn written(paper: &Paper) -> Vec<Rule> {
     paper.rules.iter().map(Written::rule).collect()
 }
 
-fn marked(sheet: &Paper, script: &Paper) -> Result<Due, String> {
+/// The verdict on a script that fits the sheet.
+pub fn fitting(sheet: &Paper, script: &Paper) -> Result<Due, String> {
     let rules = rules(sheet, script);
     let difference = rules.by_paths();
     let enumerated = rules.small();

@@ -13,21 +13,25 @@ use crate::text::written::{self, Written};
 pub fn sheet(random: &mut Random) -> Sheet {
     let any = random.within(2, MOST_QUANTITIES as i64) as usize;
     let n = random.pick(&[3, 3, 4, 4, 5, any, any, MOST_QUANTITIES]);
-    let hidden = hidden_set(n, random);
+    let one = 1 << random.below(n);
+    let hidden = match hidden_set(n, random) {
+        0 => one,
+        set => set,
+    };
     let path = path(n, hidden, random);
     let bound = random.pick(&[LIMIT, LIMIT, LIMIT - 1, -LIMIT, 1 - LIMIT]);
     let rules: Vec<Written> = path.windows(2).map(|step| rule(step[0], step[1], bound)).collect();
     Sheet { n, hidden, table: written::table(n, &rules) }
 }
 
-/// Some hidden literals in any order, none of them twice, between two visible ones. A path that begins and ends with one
+/// One hidden literal or more in any order, none of them twice, between two visible ones. A path that begins and ends with one
 /// quantity is left as it is: it bounds the quantity alone, or says nothing.
 fn path(n: usize, hidden: u32, random: &mut Random) -> Vec<Literal> {
     let (mut passed, ends): (Vec<Literal>, Vec<Literal>) = (1..=n)
         .flat_map(|quantity| [1, -1].map(|sign| Literal { sign, quantity }))
         .partition(|x| is_in(hidden, x.quantity));
     random.shuffle(&mut passed);
-    passed.truncate(random.edge(passed.len() + 1));
+    passed.truncate(1 + random.edge(passed.len()));
     if !ends.is_empty() {
         passed.insert(0, random.pick(&ends));
         passed.push(random.pick(&ends));

@@ -109,8 +109,8 @@ pub fn length(due: &Due, random: &mut Random) -> usize {
     }
 }
 
-/// A rule as the call writes it: two signed quantity numbers, 0 for none, and the bound.
-fn words(rule: Option<Rule>) -> [i64; 3] {
+/// A rule as a call writes it: two signed quantity numbers, 0 for none, and the bound.
+pub(crate) fn words(rule: Option<Rule>) -> [i64; 3] {
     let Some(Rule { term, bound }) = rule else {
         return [0, 0, NO_RULE];
     };
@@ -131,7 +131,7 @@ fn same(number: u32, call: &ReasonsCall, due: Answer) -> Result<(), String> {
 }
 
 /// Is this written where it is due, and unchanged where nothing is?
-fn written<T: PartialEq + Debug>(name: &str, found: T, before: T, due: Option<T>) -> Result<(), String> {
+pub(crate) fn written<T: PartialEq + Debug>(name: &str, found: T, before: T, due: Option<T>) -> Result<(), String> {
     match due {
         Some(due) if found == due => Ok(()),
         Some(due) if found == before => Err(format!("{name} is not written, due {due:?}")),

@@ -31,6 +31,13 @@ pub fn of(sheet: &Sheet, random: &mut Random) -> Sheet {
     Sheet { n: sheet.n, hidden: sheet.hidden, table: draft.table }
 }
 
+/// The sheet's key as it is, or its own rules where it has none.
+pub fn key(sheet: &Sheet) -> Sheet {
+    let mut draft = Draft::new(sheet);
+    draft.key();
+    Sheet { n: sheet.n, hidden: sheet.hidden, table: draft.table }
+}
+
 impl Draft<'_> {
     /// Where many rules are, most of those that are changed alone follow from the others, so that all are changed too.
     const CHANGES: [fn(&mut Self, &mut Random); 15] = [

@@ -22,12 +22,8 @@ pub fn drawn(seed: u64, number: u64) -> [Input; 2] {
     }
 }
 
-/// Each third pair is small enough for enumeration.
 fn pairs(number: u64, random: &mut Random) -> [Input; 2] {
-    let pair = match number % 3 {
-        0 => Pair::small(random),
-        _ => Pair::any(random),
-    };
+    let pair = Pair::numbered(number, random);
     let (sheet, script) = damage::damaged(&pair, random);
     [Input::Mark(pair.sheet.text(), pair.script.text()), Input::Mark(sheet, script)]
 }

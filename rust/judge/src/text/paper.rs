@@ -1,7 +1,7 @@
 //! What an acceptable text says.
 
 use super::written::{self, Written};
-use crate::meaning::is_in;
+use crate::meaning::{is_in, rules, Rule};
 use crate::sheets::Sheet;
 
 #[derive(Clone, PartialEq, Debug)]
@@ -13,6 +13,13 @@ pub struct Paper {
 }
 
 impl Paper {
+    /// A paper with the rules of a table, in place order.
+    pub fn of(sheet: &Sheet) -> Paper {
+        let written = |rule: Rule| Written { first: rule.term.first, second: rule.term.second, bound: rule.bound };
+        let rules = rules(sheet.n, &sheet.table).into_iter().map(written).collect();
+        Paper { n: sheet.n, hidden: sheet.hidden, rules }
+    }
+
     /// The lines of its text, without their ends.
     pub fn lines(&self) -> Vec<Vec<u8>> {
         let hidden: Vec<String> = (1..=self.n).filter(|&q| is_in(self.hidden, q)).map(|q| q.to_string()).collect();

@@ -68,6 +68,9 @@ pub const SHEET: u32 = 1;
 pub const SCRIPT: u32 = 2;
 pub const BOTH: u32 = 3;
 
+/// The three words of a rule where there is none.
+pub const NOTHING: [i64; 3] = [0; 3];
+
 /// Shared by threads, as above.
 pub trait Marker: Sync {
     /// The number of the verdict on two texts, or of the refusal alone.

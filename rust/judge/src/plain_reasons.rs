@@ -2,7 +2,7 @@
 //! a loose verdict is looked for in the key and that of a tight one in the script's table, each by the tightest table of
 //! the other paper; the integers are those of that other paper with the rule's opposite put in.
 
-use crate::library::{too_short, Reply, Told, BOTH, EQUAL, LOOSE, MISMATCH, NO_PAPER, SCRIPT, SHEET, TIGHT};
+use crate::library::{too_short, Reply, Told, BOTH, EQUAL, LOOSE, MISMATCH, NOTHING, NO_PAPER, SCRIPT, SHEET, TIGHT};
 use crate::meaning::NO_RULE;
 use crate::plain::choose;
 use crate::plain::step::{eliminate, hide};
@@ -81,7 +81,7 @@ impl Broken {
     /// Two signed quantity numbers, 0 for none, and the bound.
     fn words(&self) -> [i64; 3] {
         if self.bound == NO_RULE {
-            return [0, 0, NO_RULE];
+            return NOTHING;
         }
         let (k, at) = self.block();
         let signed = |number: usize, minus: usize| if minus == 0 { number as i64 } else { -(number as i64) };

@@ -3,8 +3,7 @@
 use acornsled::{Paper, Refusal, Refused, Rule, Verdict};
 use judge::enums::mark::{same, Numbers};
 use judge::enums::table::same_refusal;
-use judge::library::{Reply, Told, BOTH, EQUAL, LOOSE, SCRIPT, TIGHT};
-use judge::meaning::NO_RULE;
+use judge::library::{Reply, Told, BOTH, EQUAL, LOOSE, NOTHING, SCRIPT, TIGHT};
 
 fn verdict(number: u32, rule: [i64; 3]) -> Numbers {
     Numbers { number, told: Told { paper: 0, value: 0, quantities: 3, rule }, values: vec![3, 0, 3] }
@@ -35,7 +34,7 @@ fn what_the_numbers_say_is_accepted() {
         (Ok(Verdict::Equal), verdict(EQUAL, [7; 3])),
         (loose(Some(TWO)), verdict(LOOSE, [1, -3, 5])),
         (loose(Some(ONE)), verdict(LOOSE, [-3, 0, -1])),
-        (loose(None), verdict(LOOSE, [0, 0, NO_RULE])),
+        (loose(None), verdict(LOOSE, NOTHING)),
         (tight(ONE), verdict(TIGHT, [-3, 0, -1])),
         (refusal(Paper::Script, Refusal::Cancelling { line: 5 }), refused(4, SCRIPT, 5)),
         (refusal(Paper::Both, Refusal::Mismatch), refused(7, BOTH, 0)),
@@ -56,9 +55,9 @@ fn what_they_do_not_say_is_refused() {
         (loose(Some(TWO)), verdict(LOOSE, [-3, 1, 5])),
         (loose(Some(TWO)), verdict(LOOSE, [1, 3, 5])),
         (loose(Some(TWO)), verdict(LOOSE, [1, -3, 6])),
-        (loose(Some(ONE)), verdict(LOOSE, [0, 0, NO_RULE])),
+        (loose(Some(ONE)), verdict(LOOSE, NOTHING)),
         (loose(None), verdict(LOOSE, [1, 0, 5])),
-        (loose(None), verdict(LOOSE, [0, 0, 0])),
+        (loose(None), verdict(LOOSE, [0, 0, i64::MAX])),
         (Ok(Verdict::Tight { rule: TWO, values: vec![3, 0] }), verdict(TIGHT, [1, -3, 5])),
         (Ok(Verdict::Tight { rule: TWO, values: vec![3, 3, 0] }), verdict(TIGHT, [1, -3, 5])),
         (Ok(Verdict::Equal), refused(7, BOTH, 0)),

@@ -35,8 +35,8 @@ const TRAPS: [(Trap, &str); 38] = [
     (Trap::FirstListed, "the rule is [11, 0, 1117520373], due [11, -12, 989655612]"),
     (Trap::WithinLimits, "the rule is [-1, 5, 1000000000], due [-1, 5, 2000000000]"),
     (Trap::Doubled, "the rule is [1, 1, 1998], due [1, 0, 999]"),
-    (Trap::NoRuleZero, "the rule is [0, 0, 0], due [0, 0, 9223372036854775807]"),
-    (Trap::NoRuleUnwritten, "the rule is not written, due [0, 0, 9223372036854775807]"),
+    (Trap::NoRuleWord, "the rule is [0, 0, 9223372036854775807], due [0, 0, 0]"),
+    (Trap::NoRuleUnwritten, "the rule is not written, due [0, 0, 0]"),
     (Trap::RuleWhenEqual, "the rule is changed, where nothing is due"),
     (Trap::RuleWhenRefused, "the rule is changed, where nothing is due"),
     // the integers

@@ -41,11 +41,11 @@ const TRAPS: [(Trap, &str); 46] = [
     (Trap::ValueBeside(3), "reply 3 with value 1, due 3 with value 0"),
     (Trap::ValueBeside(7), "reply 7 with value 1, due 7 with value 0"),
     // the rule
-    (Trap::RuleUnwritten, "the rule is not written, due [0, 0, 9223372036854775807]"),
+    (Trap::RuleUnwritten, "the rule is not written, due [0, 0, 0]"),
     (Trap::RuleExchanged, "the rule is [25, 4, 1], due [4, 25, 1]"),
     (Trap::BoundFirst, "the rule is [1, 4, 25], due [4, 25, 1]"),
     (Trap::RuleWithinLimit, "the rule is [-1, 5, 1000000000], due [-1, 5, 2000000000]"),
-    (Trap::NoRuleZero, "the rule is [0, 0, 0], due [0, 0, 9223372036854775807]"),
+    (Trap::NoRuleWord, "the rule is [0, 0, 9223372036854775807], due [0, 0, 0]"),
     (Trap::RuleWhenEqual, "the rule is changed, where nothing is due"),
     (Trap::RuleWhenRefused(3), "the rule is changed, where nothing is due"),
     (Trap::RuleWhenRefused(7), "the rule is changed, where nothing is due"),

@@ -1,9 +1,9 @@
 //! A verdict or a refusal of marking, against the number and what is told beside it.
 
 use super::table::same_refusal;
-use crate::library::{Marker, Reply, Told, BOTH, EQUAL, LOOSE, SCRIPT, SHEET, TIGHT};
+use crate::library::{Marker, Reply, Told, BOTH, EQUAL, LOOSE, NOTHING, SCRIPT, SHEET, TIGHT};
 use crate::linked::Linked;
-use crate::meaning::{MOST_QUANTITIES, NO_RULE};
+use crate::meaning::MOST_QUANTITIES;
 use acornsled::{Paper, Refused, Rule, Verdict};
 
 /// The number of marking, what is told beside it, and the integers.
@@ -83,7 +83,7 @@ fn same_paper(paper: Paper, number: u32) -> Result<(), String> {
 /// The three words of a rule, those of none where there is no rule.
 fn words(rule: Option<Rule>) -> [i64; 3] {
     match rule {
-        None => [0, 0, NO_RULE],
+        None => NOTHING,
         Some(Rule::One { term, bound }) => [term, 0, bound],
         Some(Rule::Two { first, second, bound }) => [first, second, bound],
     }

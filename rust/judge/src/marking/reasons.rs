@@ -4,8 +4,8 @@ use super::call::{MarkCall, ReasonsCall};
 use super::due::{Beside, Due};
 use super::shown::Shown;
 use crate::lent::further;
-use crate::library::{Marker, BOTH, NO_PAPER, SCRIPT, SHEET, SHORT};
-use crate::meaning::{Rule, MOST_QUANTITIES, NO_RULE};
+use crate::library::{Marker, BOTH, NOTHING, NO_PAPER, SCRIPT, SHEET, SHORT};
+use crate::meaning::{Rule, MOST_QUANTITIES};
 use crate::random::Random;
 use std::fmt::Debug;
 
@@ -112,7 +112,7 @@ pub fn length(due: &Due, random: &mut Random) -> usize {
 /// A rule as a call writes it: two signed quantity numbers, 0 for none, and the bound.
 pub(crate) fn words(rule: Option<Rule>) -> [i64; 3] {
     let Some(Rule { term, bound }) = rule else {
-        return [0, 0, NO_RULE];
+        return NOTHING;
     };
     let [first, second] = [Some(term.first), term.second].map(|x| x.map_or(0, |x| x.sign * x.quantity as i64));
     [first, second, bound]

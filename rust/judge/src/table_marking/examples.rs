@@ -4,22 +4,26 @@ use super::check::{self, Owed};
 use super::counts::Counts;
 use super::given::Given;
 use crate::document::{table, Short};
-use crate::library::{spelled, too_short, Reply, TableMarker, EQUAL, LOOSE, MISMATCH, PAST_LIMIT, SIZE, TIGHT};
-use crate::meaning::{size, LIMIT, NO_RULE};
+use crate::library::{
+    spelled, too_short, Reply, TableMarker, EQUAL, LOOSE, MISMATCH, NOTHING, PAST_LIMIT, SIZE, TIGHT,
+};
+use crate::meaning::{size, LIMIT};
 use crate::random::Random;
 
 /// How often an example is judged, with different memory.
 const TURNS: u64 = 4;
 
-/// A sheet and scripts for it, each with the number and the rule's words, all 0 where they stay.
+/// A script's rules, the number, and the rule's words where they are written.
+type Script = (&'static [Short], u32, Option<[i64; 3]>);
+
+/// A sheet and scripts for it.
 struct Group {
     n: usize,
     hidden: u32,
     sheet: &'static [Short],
-    scripts: &'static [(&'static [Short], u32, [i64; 3])],
+    scripts: &'static [Script],
 }
 
-const NONE: [i64; 3] = [0; 3];
 const PAST: u32 = PAST_LIMIT.number;
 /// The limit of a script with 31 hidden quantities.
 const FARTHEST: i64 = LIMIT << 31;
@@ -31,14 +35,14 @@ const GROUPS: [Group; 7] = [
         hidden: 0b010,
         sheet: &[(1, 2, 5), (1, -2, 2), (3, -2, 0)],
         scripts: &[
-            (&[(1, 0, 3), (1, 3, 5)], EQUAL, NONE),
-            (&[(1, 1, 7), (1, 3, 5)], EQUAL, NONE),
-            (&[(1, 0, 3)], LOOSE, [1, 3, 5]),
-            (&[(1, 0, 2), (1, 3, 5)], TIGHT, [1, 0, 2]),
-            (&[(1, 0, 2)], LOOSE, [1, 3, 5]),
-            (&[(1, 0, 3), (1, 3, 5), (2, 0, LIMIT)], MISMATCH, NONE),
-            (&[(1, 0, 3), (1, -2, 2 * LIMIT)], MISMATCH, NONE),
-            (&[(1, 0, 3), (1, -2, 2 * LIMIT + 1)], PAST, NONE),
+            (&[(1, 0, 3), (1, 3, 5)], EQUAL, None),
+            (&[(1, 1, 7), (1, 3, 5)], EQUAL, None),
+            (&[(1, 0, 3)], LOOSE, Some([1, 3, 5])),
+            (&[(1, 0, 2), (1, 3, 5)], TIGHT, Some([1, 0, 2])),
+            (&[(1, 0, 2)], LOOSE, Some([1, 3, 5])),
+            (&[(1, 0, 3), (1, 3, 5), (2, 0, LIMIT)], MISMATCH, None),
+            (&[(1, 0, 3), (1, -2, 2 * LIMIT)], MISMATCH, None),
+            (&[(1, 0, 3), (1, -2, 2 * LIMIT + 1)], PAST, None),
         ],
     },
     // the key's bound is at a script's limit, which is twice a sheet's
@@ -47,22 +51,22 @@ const GROUPS: [Group; 7] = [
         hidden: 0b010,
         sheet: &[(1, -2, LIMIT), (2, -3, LIMIT)],
         scripts: &[
-            (&[(1, -3, 2 * LIMIT)], EQUAL, NONE),
-            (&[(1, -3, 2 * LIMIT - 1)], TIGHT, [1, -3, 2 * LIMIT - 1]),
-            (&[(1, -3, 2 * LIMIT + 1)], PAST, NONE),
-            (&[(1, -3, 2 * LIMIT), (3, 0, -2 * LIMIT)], TIGHT, [3, 0, -2 * LIMIT]),
-            (&[(1, -3, 2 * LIMIT), (3, 0, -2 * LIMIT - 1)], PAST, NONE),
-            (&[(1, 0, 2 * LIMIT)], LOOSE, [1, -3, 2 * LIMIT]),
+            (&[(1, -3, 2 * LIMIT)], EQUAL, None),
+            (&[(1, -3, 2 * LIMIT - 1)], TIGHT, Some([1, -3, 2 * LIMIT - 1])),
+            (&[(1, -3, 2 * LIMIT + 1)], PAST, None),
+            (&[(1, -3, 2 * LIMIT), (3, 0, -2 * LIMIT)], TIGHT, Some([3, 0, -2 * LIMIT])),
+            (&[(1, -3, 2 * LIMIT), (3, 0, -2 * LIMIT - 1)], PAST, None),
+            (&[(1, 0, 2 * LIMIT)], LOOSE, Some([1, -3, 2 * LIMIT])),
         ],
     },
     // a sheet's limit is the same whatever is hidden
-    Group { n: 3, hidden: 0b010, sheet: &[(1, -3, LIMIT + 1)], scripts: &[(&[], PAST, NONE)] },
+    Group { n: 3, hidden: 0b010, sheet: &[(1, -3, LIMIT + 1)], scripts: &[(&[], PAST, None)] },
     // nothing is hidden
     Group {
         n: 1,
         hidden: 0,
         sheet: &[(1, 0, LIMIT)],
-        scripts: &[(&[(1, 0, LIMIT)], EQUAL, NONE), (&[(1, 0, LIMIT + 1)], PAST, NONE)],
+        scripts: &[(&[(1, 0, LIMIT)], EQUAL, None), (&[(1, 0, LIMIT + 1)], PAST, None)],
     },
     // as much as can be hidden with something to say
     Group {
@@ -70,12 +74,12 @@ const GROUPS: [Group; 7] = [
         hidden: u32::MAX >> 1,
         sheet: &[],
         scripts: &[
-            (&[], EQUAL, NONE),
-            (&[(32, 0, FARTHEST)], TIGHT, [32, 0, FARTHEST]),
-            (&[(-32, 0, -FARTHEST)], TIGHT, [-32, 0, -FARTHEST]),
-            (&[(32, 0, FARTHEST + 1)], PAST, NONE),
-            (&[(-32, 0, -FARTHEST - 1)], PAST, NONE),
-            (&[(31, 0, FARTHEST)], MISMATCH, NONE),
+            (&[], EQUAL, None),
+            (&[(32, 0, FARTHEST)], TIGHT, Some([32, 0, FARTHEST])),
+            (&[(-32, 0, -FARTHEST)], TIGHT, Some([-32, 0, -FARTHEST])),
+            (&[(32, 0, FARTHEST + 1)], PAST, None),
+            (&[(-32, 0, -FARTHEST - 1)], PAST, None),
+            (&[(31, 0, FARTHEST)], MISMATCH, None),
         ],
     },
     // all is hidden: one choice, which is allowed
@@ -84,9 +88,9 @@ const GROUPS: [Group; 7] = [
         hidden: u32::MAX,
         sheet: &[(1, 0, 0)],
         scripts: &[
-            (&[], EQUAL, NONE),
-            (&[(32, 0, 2 * FARTHEST)], MISMATCH, NONE),
-            (&[(32, 0, 2 * FARTHEST + 1)], PAST, NONE),
+            (&[], EQUAL, None),
+            (&[(32, 0, 2 * FARTHEST)], MISMATCH, None),
+            (&[(32, 0, 2 * FARTHEST + 1)], PAST, None),
         ],
     },
     // a sheet that nothing satisfies is marked, and a loose verdict has no rule
@@ -94,7 +98,7 @@ const GROUPS: [Group; 7] = [
         n: 1,
         hidden: 0,
         sheet: &[(1, 0, 0), (-1, 0, -1)],
-        scripts: &[(&[(1, 0, 0), (-1, 0, -1)], EQUAL, NONE), (&[], LOOSE, [0, 0, NO_RULE])],
+        scripts: &[(&[(1, 0, 0), (-1, 0, -1)], EQUAL, None), (&[], LOOSE, Some(NOTHING))],
     },
 ];
 
@@ -141,14 +145,14 @@ fn refusals(library: &dyn TableMarker) -> Result<usize, String> {
         (given(3, 2, &sheet, &sheet, 36, 3), Reply { number: MISMATCH, value: 0 }),
         (given(3, 0, &sheet, &sheet, 36, 3), Reply { number: EQUAL, value: 0 }),
     ];
-    cases.iter().try_for_each(|(given, reply)| example(library, given, *reply, NONE))?;
+    cases.iter().try_for_each(|(given, reply)| example(library, given, *reply, None))?;
     Ok(cases.len())
 }
 
 /// Judges a marking with this reply and this rule.
-fn example(library: &dyn TableMarker, given: &Given, reply: Reply, rule: [i64; 3]) -> Result<(), String> {
+fn example(library: &dyn TableMarker, given: &Given, reply: Reply, rule: Option<[i64; 3]>) -> Result<(), String> {
     let owed = Owed::of(given)?;
-    if (owed.reply(), owed.rule().unwrap_or(NONE)) != (reply, rule) {
+    if (owed.reply(), owed.rule()) != (reply, rule) {
         return Err(format!("the judges differ: {} and rule {rule:?} are stated for\n{given}", spelled(reply)));
     }
     (0..TURNS).try_for_each(|turn| {

@@ -4,9 +4,9 @@ mod order;
 mod rule;
 mod trap;
 
-use judge::library::{Marker, Told, EQUAL, LOOSE, MISMATCH, TIGHT};
+use judge::library::{Marker, Told, EQUAL, LOOSE, MISMATCH, NOTHING, TIGHT};
 use judge::marking::due::{read, read_script};
-use judge::meaning::{is_in, NO_RULE};
+use judge::meaning::is_in;
 use judge::plain_mark;
 use std::sync::atomic::{AtomicI64, Ordering::SeqCst};
 pub use trap::Trap;
@@ -95,7 +95,7 @@ impl Wrong {
             (Trap::HiddenZero, TIGHT) => hidden(sheet, values, 0),
             (Trap::Zeros, LOOSE) => values[..told.quantities].fill(0),
             // a script without rules allows all integers, and this sheet none
-            (Trap::Others, LOOSE) if told.rule == [0, 0, NO_RULE] => {
+            (Trap::Others, LOOSE) if told.rule == NOTHING => {
                 let free = read_script(script).is_ok_and(|script| script.rules.is_empty() && !is_in(script.hidden, 1));
                 values[0] += if free { self.calls.fetch_add(1, SeqCst) } else { 0 };
             }

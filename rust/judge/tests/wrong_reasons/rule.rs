@@ -2,21 +2,19 @@
 
 use super::{Answered, Trap, Wrong};
 use judge::graph::Closure;
-use judge::library::{EQUAL, LOOSE, TIGHT};
+use judge::library::{EQUAL, LOOSE, NOTHING, TIGHT};
 use judge::marking::due::{read, read_script, rules};
 use judge::meaning::{self, Literal, Rule, LIMIT, NO_RULE};
 use judge::naive;
-
-const NONE: [i64; 3] = [0, 0, NO_RULE];
 
 impl Wrong {
     pub fn rule(&self, answered: &mut Answered) {
         let [first, second, bound] = answered.told.rule;
         answered.told.rule = match (self.trap, answered.number) {
-            (Trap::RuleWhenEqual, EQUAL) | (Trap::RuleWhenRefused, 1..=7) => NONE,
-            (Trap::NoRuleZero, LOOSE) if answered.told.rule == NONE => [0; 3],
-            (Trap::NoRuleUnwritten, LOOSE) if answered.told.rule == NONE => answered.before.1.rule,
-            (_, LOOSE | TIGHT) if answered.told.rule == NONE => return,
+            (Trap::RuleWhenEqual, EQUAL) | (Trap::RuleWhenRefused, 1..=7) => NOTHING,
+            (Trap::NoRuleWord, LOOSE) if answered.told.rule == NOTHING => [0, 0, NO_RULE],
+            (Trap::NoRuleUnwritten, LOOSE) if answered.told.rule == NOTHING => answered.before.1.rule,
+            (_, LOOSE | TIGHT) if answered.told.rule == NOTHING => return,
             (Trap::SignsExchanged, LOOSE | TIGHT) => [-first, -second, bound],
             (Trap::HigherFirst, LOOSE | TIGHT) if second != 0 => [second, first, bound],
             (Trap::WithinLimits, LOOSE) => [first, second, bound.clamp(-LIMIT, LIMIT)],

@@ -56,8 +56,8 @@ pub enum Trap {
     WithinLimits,
     /// a lone term is doubled, and its bound
     Doubled,
-    /// where there is no rule the bound is 0
-    NoRuleZero,
+    /// where there is no rule the bound is a table's word for none
+    NoRuleWord,
     /// where there is no rule nothing is written
     NoRuleUnwritten,
     /// the words of no rule are written where the script is equal

@@ -3,7 +3,7 @@
 mod refusals;
 mod trap;
 
-use judge::library::{Papers, Reply, TableMarker, EQUAL, LOOSE, NO_ASSIGNMENT, TIGHT};
+use judge::library::{Papers, Reply, TableMarker, EQUAL, LOOSE, NOTHING, NO_ASSIGNMENT, TIGHT};
 use judge::meaning::{is_in, rules, script_limit, size, terms, LIMIT, MOST_QUANTITIES, NO_RULE};
 use judge::naive;
 use judge::plain_tables;
@@ -30,7 +30,7 @@ impl TableMarker for Wrong {
             }
         }
         if self.trap == Trap::RuleWhenRefused(reply.number) {
-            *rule = [0, 0, NO_RULE];
+            *rule = NOTHING;
         }
         spoil(values, self.trap == Trap::ValuesLost(reply.number));
         spoil(workspace, self.trap == Trap::WorkspaceLost(reply.number));
@@ -79,11 +79,11 @@ impl Wrong {
     fn rule(&self, number: u32, before: [i64; 3], rule: &mut [i64; 3]) {
         let [first, second, bound] = *rule;
         *rule = match (self.trap, number) {
-            (Trap::RuleWhenEqual, EQUAL) => [0, 0, NO_RULE],
+            (Trap::RuleWhenEqual, EQUAL) => NOTHING,
             (_, EQUAL) => return,
             (Trap::RuleUnwritten, _) => before,
-            (Trap::NoRuleZero, _) if bound == NO_RULE => [0; 3],
-            _ if bound == NO_RULE => return,
+            (Trap::NoRuleWord, _) if *rule == NOTHING => [0, 0, NO_RULE],
+            _ if *rule == NOTHING => return,
             (Trap::RuleExchanged, _) if second != 0 => [second, first, bound],
             (Trap::BoundFirst, _) => [bound, first, second],
             (Trap::RuleWithinLimit, _) => [first, second, bound.clamp(-LIMIT, LIMIT)],

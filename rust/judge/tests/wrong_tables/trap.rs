@@ -62,8 +62,8 @@ pub enum Trap {
     BoundFirst,
     /// a bound past a sheet's limit is brought to it
     RuleWithinLimit,
-    /// the words of no rule are all 0
-    NoRuleZero,
+    /// where there is no rule the bound is a table's word for none
+    NoRuleWord,
     /// written where the script is equal
     RuleWhenEqual,
     /// written where the call is refused with this number

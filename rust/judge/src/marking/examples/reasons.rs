@@ -1,9 +1,8 @@
 //! What is due of marking with reasons, stated by hand.
 
 use super::stated::Said;
-use crate::library::{BOTH, EQUAL, LOOSE, MISMATCH, NO_PAPER, SCRIPT, SHEET, TIGHT};
+use crate::library::{BOTH, EQUAL, LOOSE, MISMATCH, NOTHING, NO_PAPER, SCRIPT, SHEET, TIGHT};
 use crate::marking::reasons::Answer;
-use crate::meaning::NO_RULE;
 
 /// Two papers, how many words are lent for the integers, and the answer.
 pub type Case = (Said, Said, usize, Answer);
@@ -48,8 +47,8 @@ pub const REASONS: [Case; 32] = [
     (FAR, ("3", "1,2", &["+3:4000000000"]), 3, refused(MISMATCH, BOTH, 0)),
     (FAR, ("3", "1,2", &["+3:0", "+3:-4000000001"]), 3, refused(3, SCRIPT, 5)),
     // the sheet allows nothing
-    (NOTHING_ALLOWED, ("1", "", &[]), 1, shown(LOOSE, 1, [0, 0, NO_RULE])),
-    (("1", "1", &["+1:3", "-1:-4"]), ("1", "1", &[]), 1, shown(LOOSE, 1, [0, 0, NO_RULE])),
+    (NOTHING_ALLOWED, ("1", "", &[]), 1, shown(LOOSE, 1, NOTHING)),
+    (("1", "1", &["+1:3", "-1:-4"]), ("1", "1", &[]), 1, shown(LOOSE, 1, NOTHING)),
     (NOTHING_ALLOWED, ("1", "", &["+1:0", "-1:-1"]), 1, equal(1)),
     // too few words, whatever the verdict
     (A, ("3", "2", &["+1+1:7", "+1+3:5"]), 2, refused(6, BOTH, 3)),

@@ -111,6 +111,8 @@ fn parted(n: usize, hidden: u32) -> (Vec<usize>, Vec<usize>) {
 /// one step toward 0. By the fact above, the integers before the step are completed exactly when those after it are. If
 /// the gap is also wider than the key's largest magnitude plus 1, the key too allows both or none. So a wrong choice with
 /// such a gap leads to one nearer to 0 that is wrong in the same way, and the last one has no such gap.
+///
+/// It fits a word for every script: with k of 32 hidden there are 32 - k times at most 10⁹ · 2ᵏ.
 fn visible_radius(hidden: &[usize], visible: &[usize], sheet: &[Rule], key: &[Rule]) -> i64 {
     let parts = (hidden.len() as u64 + 1) * largest_bound(sheet);
     let gap = parts.max(largest_bound(key)) + 1;

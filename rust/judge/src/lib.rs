@@ -9,8 +9,9 @@
 //! What a text says is decided by spelling (`text`), and held against a parser in ordinary Rust (`plain_text`).
 //!
 //! What a script is worth is decided by the same two ways as a sheet's meaning, and no key is made for it; the rule and the
-//! integers of a verdict are held against the meaning (`marking`). Both calls that mark are held against the tightest tables
-//! of both papers in ordinary Rust (`plain_mark`, `plain_reasons`).
+//! integers of a verdict are held against the meaning, for two texts (`marking`) and for two tables (`table_marking`). All
+//! calls that mark are held against the tightest tables of both papers in ordinary Rust (`plain_mark`, `plain_reasons`,
+//! `plain_tables`).
 //!
 //! What hosts in Rust get by the crate's enums is held against the numbers (`enums`). What the programs print is judged to
 //! the byte (`printed`), and what the command `acornsled` says is held against that (`command`).

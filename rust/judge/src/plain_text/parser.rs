@@ -1,5 +1,5 @@
 //! One pass over a text, byte by byte. A line is read to its end before its numbers are compared with their limits, so
-//! that 2 comes before 3 and 3 before 4. The largest bound is a constant in the code for sheets.
+//! that 2 comes before 3 and 3 before 4.
 
 use super::place;
 use crate::library::{cancelling, malformed, past_limit, Reply, SIZE};

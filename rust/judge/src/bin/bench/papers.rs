@@ -18,7 +18,7 @@ const WORDS: usize = 4 * size(MOST_QUANTITIES);
 /// Every second quantity.
 const HIDDEN: u32 = 0x5555_5555;
 
-/// Small enough for every key to be a script: a bound of the key is a sum of at most 2n bounds of the sheet.
+/// Far from every limit, also when a bound of the key, a sum of at most 2n bounds of the sheet, is changed for a script.
 const REACH: i64 = LIMIT / 100;
 
 /// A sheet, its text, and the text of a script for each verdict.

@@ -1,5 +1,5 @@
--- Markers of two texts that the promises rule out on named texts: a script with another n, another hidden list or a hidden quantity in a rule marked; lengths asked
--- that are too large; an assignment changed that is to stay. Assumes nothing.
+-- Markers of two texts that the promises rule out on named texts: a script with another n, another hidden list or a hidden quantity in a rule marked; a script's range
+-- taken from the sheet's header; lengths asked that are too large; an assignment changed that is to stay. Assumes nothing.
 use mathlib.Core.Path.{_≡_, refl}
 use mathlib.Core.Bool.{false}
 use mathlib.Core.List.{List, [], _∷_}
@@ -10,7 +10,8 @@ use lib.IntN.{ℤ, pos}
 use Rattle.places.specs.Numbering.{blockStart}
 use Rattle.rules.specs.declared.paper.Paper.the-variants.{Sheet, Script}
 use Rattle.rules.specs.declared.refusal.Refusal.{Refusal}
-use Rattle.rules.specs.declared.refusal.Refusal.the-variants.{TooShort}
+use Rattle.rules.specs.declared.refusal.Refusal.the-variants.{OutOfLimit, TooShort}
+use Rattle.rules.specs.Refusal.{refusedAs}
 use Rattle.rules.specs.Refusing.{RefusedBy}
 use Rattle.rules.specs.Hidden.{isListed}
 use Rattle.rules.specs.Meaning.{names}
@@ -24,10 +25,14 @@ use Rattle.reading.specs.Texts.{Contents}
 use Rattle.reading.specs.Meaning.{Reads}
 use Rattle.reading.proofs.Means.{text-means, reads-same}
 use Rattle.reading.proofs.Frauds.{reading, textA, contentsA, sheetA-reads}
+use Rattle.reading.proofs.Ranges.{none-larger}
 use Rattle.scripts.specs.declared.room.Lengths.{Lengths}
 use Rattle.scripts.specs.declared.reply.Subject.{Subject}
 use Rattle.scripts.specs.declared.reply.Subject.the-variants.{Both}
+use Rattle.scripts.specs.declared.reply.Subject.the-variants.{Script as OfScript}
+use Rattle.scripts.specs.declared.reply.TextMarking.{TextMarking}
 use Rattle.scripts.specs.declared.reply.TextMarking.the-variants.{Marked, Refused}
+use Rattle.scripts.specs.Replies.{textsReturned, textSubjects}
 use Rattle.scripts.specs.Meaning.{Matches, pairNeeds}
 use Rattle.scripts.specs.Promises.{TextsJudged, TextsMarked, MarkedInOwnRoom}
 
@@ -81,6 +86,14 @@ pub hidden-named : (lent : Lengths) (n : ℕ) (v : Verdict) (values : List ℤ) 
 unfolding isListed names ruleOf writtenRule
 hidden-named lent n v values j =
     let e = marked-matches hiddenNamed named hiddenNamed-reads lent n v values j .visible 2 refl .0 in let z : _≡_ {A = ℕ} 0 1 = cc in omega arith
+
+-- ---- a script's range taken from the sheet's header
+
+-- sheet A hides 2, this script nothing: its bound is in the range of A's header and not of its own, so it is refused by 3 at its line, and neither marked nor refused by 7
+pub own-header : (lent : Lengths) (r : TextMarking) (values : List ℤ)
+    → TextsJudged textA (bytes "quantities=3\nhidden=\nrules=1\nrule=+1-3:2000000000\n") lent r values
+    → (textsReturned r ≡ refusedAs (OutOfLimit 4)) × (textSubjects r ≡ OfScript ∷ [])
+own-header lent r values j = j .refused OfScript (OutOfLimit 4) .1 (record { contents = contentsA; reads = sheetA-reads Sheet }, none-larger)
 
 -- ---- lengths: two texts of n 1 with no rules
 

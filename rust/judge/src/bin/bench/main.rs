@@ -4,6 +4,7 @@
 mod beyond;
 mod cell;
 mod grid;
+mod large;
 mod marks;
 mod papers;
 mod scripts;
@@ -37,6 +38,7 @@ fn main() {
     let grids = CALLS.map(|call| Grid::measured(call, &papers));
     grids.iter().for_each(Grid::print);
     beyond::print();
+    large::print();
     println!("\nGrowth: by what factor the library's time grows from each n to the next, then that of plain Rust.");
     println!("\n| Growth | rules | 4 → 8 | 8 → 16 | 16 → 32 |\n|---|---|---|---|---|");
     sizes::print_growth(&papers);

@@ -1,6 +1,7 @@
 /*
- * A host that makes all calls of acornsled.h, by the names that the header has, on document 01's sheet A and on input that
- * is refused, and holds numbers, values and lent memory against document 01. The first difference ends it with status 1.
+ * A host that makes all calls of acornsled.h, by the names that the header has, on document 01's sheet A, on large scripts and on
+ * input that is refused, and holds numbers, values and lent memory against the documents. The first difference ends it with
+ * status 1.
  */
 #include "acornsled.h"
 
@@ -242,11 +243,17 @@ static void writing(void)
     holds(wrote(written), "sheet A is written");
 }
 
-/* Marks a script against sheet A. No value is written. */
+/* Marks a script against a paper. No value is written. */
+static void marked_against(const char *paper_text, const char *script, uint32_t number)
+{
+    const uint8_t *text = (const uint8_t *)paper_text;
+    due("mark", acornsled_mark(text, strlen(paper_text), (const uint8_t *)script, strlen(script)), number, BEFORE);
+}
+
+/* Against sheet A. */
 static void marked(const char *script, uint32_t number)
 {
-    const uint8_t *text = (const uint8_t *)sheet;
-    due("mark", acornsled_mark(text, strlen(sheet), (const uint8_t *)script, strlen(script)), number, BEFORE);
+    marked_against(sheet, script, number);
 }
 
 static void marking(void)
@@ -256,6 +263,28 @@ static void marking(void)
     marked("quantities=3\nhidden=2\nrules=1\nrule=+1:3\n", ACORNSLED_LOOSE);
     marked("quantities=3\nhidden=2\nrules=2\nrule=+1:2\nrule=+1+3:5\n", ACORNSLED_TIGHT);
     marked(sheet, ACORNSLED_MISMATCH);
+}
+
+/* Document 02, request 1: bounds of a script past a sheet's limit, in the range of the script's own header. */
+static void marking_large(void)
+{
+    const char *chain = "quantities=3\nhidden=2\nrules=2\nrule=+1-2:1000000000\nrule=+2-3:1000000000\n";
+    const char *hides = "1,2,3,4,5,6,7,8,9,10,11,12,13,14,15,16,17,18,19,20,21,22,23,24,25,26,27,28,29,30,31";
+    char none[200], script[200];
+
+    lend(NULL, 0);
+    marked_against(chain, "quantities=3\nhidden=2\nrules=1\nrule=+1-3:2000000000\n", ACORNSLED_EQUAL);
+    marked_against(chain, "quantities=3\nhidden=2\nrules=1\nrule=+1-3:2000000001\n", ACORNSLED_PAST_LIMIT);
+    marked_against(chain, "quantities=3\nhidden=2\nrules=1\nrule=+1-3:1999999999\n", ACORNSLED_TIGHT);
+    marked_against(chain, "quantities=3\nhidden=\nrules=1\nrule=+1-3:2000000000\n", ACORNSLED_PAST_LIMIT);
+    marked_against(chain, "quantities=3\nhidden=1,2\nrules=1\nrule=+3:4000000000\n", ACORNSLED_MISMATCH);
+    marked_against(chain, "quantities=3\nhidden=1,2\nrules=1\nrule=+3:4000000001\n", ACORNSLED_PAST_LIMIT);
+    marked_against(chain, "quantities=3\nhidden=1,2\nrules=1\nrule=+3-3:4000000000\n", ACORNSLED_CANCELLING);
+    snprintf(none, sizeof none, "quantities=32\nhidden=%s\nrules=0\n", hides);
+    snprintf(script, sizeof script, "quantities=32\nhidden=%s\nrules=1\nrule=+32:2147483648000000000\n", hides);
+    marked_against(none, script, ACORNSLED_TIGHT);
+    snprintf(script, sizeof script, "quantities=32\nhidden=%s\nrules=1\nrule=+32:2147483648000000001\n", hides);
+    marked_against(none, script, ACORNSLED_PAST_LIMIT);
 }
 
 /* Marks a script against sheet A with the reasons: the paper and the value, then n and the rule, BEFORE where they stay. */
@@ -361,6 +390,7 @@ int main(void)
     keying();
     writing();
     marking();
+    marking_large();
     reasoning();
     marking_tables();
     return printf("calls: %u calls from C answered as is due\n", calls) < 0 || fflush(stdout) != 0;

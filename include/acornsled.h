@@ -24,10 +24,15 @@
 #define ACORNSLED_VERSION_PATCH 0
 #define ACORNSLED_VERSION "0.1.0"
 
-/* The limits of a sheet. Bounds are from -ACORNSLED_MOST_BOUND to ACORNSLED_MOST_BOUND; for a script, whose other limits are the
- * same, ACORNSLED_MOST_BOUND is doubled once for each hidden quantity, and those of a key are never larger. */
+/*
+ * The limits of a sheet. Its bounds are from -ACORNSLED_MOST_BOUND to ACORNSLED_MOST_BOUND, as they are written, a doubled term
+ * too. A script's other limits are the same; for its bounds ACORNSLED_MOST_BOUND is doubled once for each quantity that is
+ * hidden, in a text by its own hidden list. A key's bounds are never past that: a sheet's key, handed in as its script, is
+ * equal. Where a call has a text or a table that is not a script's, it is held to a sheet's limits, so that a key may be past
+ * them (3).
+ */
 #define ACORNSLED_MOST_QUANTITIES 32
-#define ACORNSLED_MOST_BOUND 1000000000
+#define ACORNSLED_MOST_BOUND INT64_C(1000000000)
 #define ACORNSLED_MOST_RULES 2048
 #define ACORNSLED_MOST_BYTES 65536
 #define ACORNSLED_NO_RULE INT64_MAX
@@ -74,8 +79,8 @@ extern "C" {
  */
 
 /*
- * Reads a text: 0, or 1, 2, 3, 4, 6. With 0 the table's first 2n^2 words hold the text's rules, and `quantities` and
- * `hidden` its n and its hidden set. ACORNSLED_TABLE_WORDS are enough for every text.
+ * Reads the text of a sheet: 0, or 1, 2, 3, 4, 6. With 0 the table's first 2n^2 words hold the text's rules, and `quantities`
+ * and `hidden` its n and its hidden set. ACORNSLED_TABLE_WORDS are enough for every text.
  */
 uint32_t acornsled_read(const uint8_t *text, size_t text_length, int64_t *table, size_t table_length,
                         size_t *quantities, uint32_t *hidden, size_t *value);
@@ -88,14 +93,14 @@ uint32_t acornsled_write(size_t n, uint32_t hidden, const int64_t *table, size_t
                          size_t out_length, size_t *value);
 
 /*
- * Makes the key: 0, or 1, 3, 5, 6. The workspace needs 2n^2 words. With 0 the table's first 2n^2 words have become the key,
+ * Makes the key of a sheet: 0, or 1, 3, 5, 6. The workspace needs 2n^2 words. With 0 the table's first 2n^2 words have become the key,
  * and the workspace's are free. The call takes some 27 KiB of the stack.
  */
 uint32_t acornsled_key(size_t n, uint32_t hidden, int64_t *table, size_t table_length, int64_t *workspace,
                        size_t workspace_length, size_t *value);
 
 /*
- * Finds an assignment: 0, or 1, 3, 5, 6. The workspace needs 2n^2 words and `values` n. With 0 the first n words of `values`
+ * Finds an assignment of a sheet: 0, or 1, 3, 5, 6. The workspace needs 2n^2 words and `values` n. With 0 the first n words of `values`
  * are integers from -2^62 to 2^62 that satisfy the table, and the workspace's first 2n^2 words are free.
  */
 uint32_t acornsled_assignment(size_t n, const int64_t *table, size_t table_length, int64_t *workspace,

@@ -75,8 +75,8 @@ pub record SetFits (members : ℕ → Bool) (n : ℕ) (t : List ℤ) : Type 0 wh
   pub within : WordsWithin (blockStart n) (pos limit) t
   pub last : limit * 2 ^ hiddenCount members n < 2 ^ 62
 
--- with any quantities eliminated, where rules name members alone: a step on another enlarges nothing. A table within the sheet's limits does, since 10 ^ 9 * 2 ^ 32 is
--- below 2 ^ 62
+-- with any quantities eliminated, where rules name members alone: a step on another enlarges nothing. A sheet does, since 10 ^ 9 * 2 ^ 32 is
+-- below 2 ^ 62; and so do a key and a script with k hidden quantities, whose bounds are 10 ^ 9 * 2 ^ k, since they name the n - k visible ones alone
 pub record Fits (n : ℕ) (t : List ℤ) : Type 0 where
   pub members : ℕ → Bool
   pub sums : SetFits members n t

@@ -20,7 +20,7 @@ unfoldable pub signedDecimal : ℤ → List ℕ
 signedDecimal (pos v) = decimal v
 signedDecimal (negsuc v) = minus ∷ decimal (suc v)
 
--- the program reads a numeral's value up to this, which is above every limit of a sheet: of all larger values it needs to know no more
+-- the program reads a numeral's value up to this, which is above every limit of a paper: of all larger values it needs to know no more
 abbrev pub cap : ℕ
 cap = 9000000000000000000
 

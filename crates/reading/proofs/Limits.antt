@@ -1,7 +1,7 @@
 -- The limit of a paper's bounds: the reader tells every number up to it, and none is the no-rule word; a script's goes by how many quantities its header lists.
 -- Assumes nothing.
-use mathlib.Core.Path.{_≡_}
-use mathlib.Core.List.{List}
+use mathlib.Core.Path.{_≡_, refl}
+use mathlib.Core.List.{List, []}
 use Prim.Native.Nat.{ℕ, _*_, _^_, _<_, _≤_}
 use native.Mathlib.Nat.{mul-le-mul-left}
 use native.Mathlib.Omega.{arith}
@@ -21,11 +21,11 @@ use Rattle.rules.specs.Hidden.{hiddenIn, setOf, hiddenCount}
 use Rattle.rules.specs.Limits.{maxQuantities, maxBound, boundLimit}
 use Rattle.rules.proofs.Counts.{count-most}
 use Rattle.tables.proofs.Tests.{both-true}
-use Rattle.lines.specs.Spelling.{lineWithin}
+use Rattle.lines.specs.Spelling.{hidden, lineWithin}
 use Rattle.lines.proofs.CappedIntegers.{cap-word}
 use Rattle.lines.proofs.SetCounts.{set-count}
 use Rattle.reading.specs.Texts.{Contents}
-use Rattle.reading.specs.Meaning.{contentsLimit, FineLines, Spells}
+use Rattle.reading.specs.Meaning.{Opening, start, counted, headed, ruled, linesOf, countOf, hiddensOf, limitAt, Fine, AllFine, RangeByList, contentsLimit, FineLines, Spells}
 
 -- with n in its range it is below what numerals are told to
 pub limit-told : (paper : Paper) (n set : ℕ) → n ≤ maxQuantities → boundLimit paper n set < cap
@@ -47,17 +47,34 @@ contents-told paper limit c f = limit-told paper (c .count) _ (fine-count limit 
 
 -- ---- the script's, by the numbers that its hidden list has
 
-pub contents-count : (limit : ℕ) (c : Contents) → FineLines limit c → hiddenCount (hiddenIn (setOf (c .hiddens))) (c .count) ≡ length (c .hiddens)
+by-count : (n set k : ℕ) → hiddenCount (hiddenIn set) n ≡ k → boundLimit Script n set ≡ maxBound * 2 ^ k
+unfolding boundLimit
+by-count n set k e = rw e
+
+line-count : (n limit : ℕ) (qs : List ℕ) → Fine n limit (hidden qs) → hiddenCount (hiddenIn (setOf qs)) n ≡ length qs
 unfolding lineWithin
-contents-count limit c f = set-count (c .count) (c .hiddens) (f .1 .0 .formed) (f .1 .0 .within)
+line-count n limit qs f = set-count n qs (f .formed) (f .within)
 
 pub contents-script : (limit : ℕ) (c : Contents) → FineLines limit c → contentsLimit Script c ≡ maxBound * 2 ^ length (c .hiddens)
-unfolding boundLimit
-contents-script limit c f = rw (contents-count limit c f)
+contents-script limit c f = by-count (c .count) (setOf (c .hiddens)) (length (c .hiddens)) (line-count (c .count) limit (c .hiddens) (f .1 .0))
 
 -- of a text: so many numbers listed in its header, and as often is 1,000,000,000 doubled
 pub spelled-script : (limit : ℕ) (s : List ℕ) (c : Contents) → Spells limit s c → contentsLimit Script c ≡ 1000000000 * 2 ^ length (c .hiddens)
 spelled-script limit s c p = contents-script limit c (p .fine)
+
+-- wherever the text is read to; where the list is not yet read, nothing is hidden
+pub reached-range : (s : List ℕ) → RangeByList s
+unfolding setOf
+reached-range s o line u r = go o (r .fine)
+  where
+    listed : (n : ℕ) (qs : List ℕ) → Fine n (boundLimit Script n (setOf qs)) (hidden qs) → boundLimit Script n (setOf qs) ≡ maxBound * 2 ^ length qs
+    listed n qs f = by-count n (setOf qs) (length qs) (line-count n (boundLimit Script n (setOf qs)) qs f)
+
+    go : (o : Opening) → AllFine (countOf o) (limitAt Script o) (linesOf o) → limitAt Script o ≡ maxBound * 2 ^ length (hiddensOf o)
+    go start f = by-count 0 0 0 (set-count 0 [] tt refl)
+    go (counted n) f = by-count n 0 0 (set-count n [] tt refl)
+    go (headed n qs) f = listed n qs (f .1 .0)
+    go (ruled n qs m rs) f = listed n qs (f .1 .0)
 
 -- ---- as the program has it
 

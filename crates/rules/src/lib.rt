@@ -1,4 +1,4 @@
-// Rules by value, the sheet's limits, the hidden set and the numbered refusals: the vocabulary of every crate above.
+// Rules by value, the limits of papers, the hidden set and the numbered refusals: the vocabulary of every crate above.
 pub mod hidden;
 pub mod literal;
 pub mod paper;

@@ -13,7 +13,7 @@ use Rattle.rules.specs.Hidden.{hiddenIn}
 use Rattle.rules.specs.Meaning.{hasTerm}
 use Rattle.rules.specs.Refusal.{refusalNumber, Returned, refusedAs}
 use Rattle.rules.specs.Refusing.{RefusedBy}
-use Rattle.rules.specs.RuleWords.{ruleValues, noWords, ruleOfWords}
+use Rattle.rules.specs.RuleWords.{ruleValues, noRuleWords, ruleOfWords}
 use Rattle.rules.proofs.Refusals.{same-refusal-value, same-refusal, refusal-below}
 use Rattle.tables.specs.Meaning.{Satisfies, Unsatisfiable}
 use Rattle.tables.proofs.Tests.{clash}
@@ -72,7 +72,7 @@ loose-none n set sheet script rule (inr x) = (
 module _ {n set : ℕ} {sheet script w u w' u' : List ℤ} where
   -- where its words are all 0
   loose-words : (before : List ℤ) (x : Marking) → TablesMarked n set sheet script w u x w' u' → (markingNumber x ≡ 101)
-      → Unsatisfiable n sheet ↔ (ruleGiven before x ≡ noWords)
+      → Unsatisfiable n sheet ↔ (ruleGiven before x ≡ noRuleWords)
   loose-words before (Marked Equal) m e = absurd (omega arith)
   loose-words before (Marked (Loose rule)) m e =
       let t = loose-none n set sheet script rule (m .means refl .loose rule refl .0) in

@@ -11,7 +11,7 @@ use Rattle.rules.specs.declared.refusal.Refusal.{Refusal}
 use Rattle.rules.specs.Limits.{maxQuantities}
 use Rattle.rules.specs.Refusal.{refusalNumber, refusalValue}
 use Rattle.rules.specs.Refusing.{DecidedBy}
-use Rattle.rules.specs.RuleWords.{ruleValues, noWords, ruleOfWords}
+use Rattle.rules.specs.RuleWords.{ruleValues, noRuleWords, ruleOfWords}
 use Rattle.tables.specs.Replies.{replyNumber, replyValue}
 use Rattle.tables.specs.Meaning.{Satisfies, Unsatisfiable}
 use Rattle.keys.specs.Keys.{keyReply, assignmentReply}
@@ -175,7 +175,7 @@ pub record MarkTablesAnswer (n set : ℕ) (sheet script workspace values rule : 
   pub means : 100 ≤ r
       → VerdictMeans n set (Satisfies n sheet) (Satisfies n script) sheet script (record { number = r; values = ruleValues (ruleOfWords rule') }) values'
   -- a loose verdict has no rule, and its words are all 0, exactly where no integers satisfy the sheet
-  pub none : (r ≡ 101) → Unsatisfiable n sheet ↔ (rule' ≡ noWords)
+  pub none : (r ≡ 101) → Unsatisfiable n sheet ↔ (rule' ≡ noRuleWords)
   -- a sheet's own key, with the lent words there, is equal
   pub own-key : OwnKey n set sheet script → workspaceSize n ≤ length workspace → n ≤ length values → r ≡ 100
   -- 5 is no reply of marking

@@ -20,7 +20,7 @@ use Rattle.rules.specs.Refusing.{Needs, passed, _or_then_}
 use Rattle.tables.specs.declared.reply.Reply.{Reply}
 use Rattle.tables.specs.declared.reply.Reply.the-variants.{Done, Refused}
 use Rattle.tables.specs.Tables.{tableSize, serves}
-use Rattle.tables.specs.Meaning.{TableSized, Satisfiable, Unsatisfiable}
+use Rattle.tables.specs.Meaning.{TableSized, Satisfiable, Unsatisfiable, BoundsWithin}
 use Rattle.tables.specs.Promises.{InLimit}
 use Rattle.tables.proofs.Tests.{both-true, refused-done, clash}
 use Rattle.tables.proofs.Limits.{wordsInLimit-within}
@@ -30,7 +30,7 @@ use Rattle.tables.specs.Replies.{check}
 use Rattle.elimination.specs.Hiding.{every}
 use Rattle.keys.specs.Keys.{refuted, boundsInLimit, lentChecks, keyReply, assignmentReply}
 use Rattle.keys.specs.Inner.{Fits, KeyChecked, AssignmentChecked}
-use Rattle.keys.specs.Meaning.{BoundsWithin, NumbersWithin, keyNeeds, assignmentNeeds}
+use Rattle.keys.specs.Meaning.{NumbersWithin, keyNeeds, assignmentNeeds}
 use Rattle.keys.proofs.Several.{refuted-false}
 use Rattle.keys.proofs.Fitting.{sheet-fits, hide-ample}
 use Rattle.keys.proofs.Deciding.{refuted-exactly}

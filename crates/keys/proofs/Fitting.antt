@@ -18,7 +18,7 @@ use Rattle.rules.specs.declared.paper.Paper.the-variants.{Sheet, Script}
 use Rattle.rules.specs.Limits.{maxQuantities, maxBound, boundLimit}
 use Rattle.rules.specs.Hidden.{hiddenIn, hiddenCount}
 use Rattle.rules.proofs.Counts.{count-most}
-use Rattle.tables.specs.Meaning.{WordsWithin}
+use Rattle.tables.specs.Meaning.{WordsWithin, BoundsWithin}
 use Rattle.tables.proofs.Tests.{clash}
 use Rattle.elimination.specs.Hiding.{every, eliminated}
 use Rattle.elimination.specs.Magnitude.{Unnamed}
@@ -180,7 +180,7 @@ script-limit n set = refl
 
 -- so sums fit in the table of a sheet, whichever quantities are eliminated
 pub sheet-sums : (members : ℕ → Bool) (n set : ℕ) (t : List ℤ) → n ≤ maxQuantities → blockStart n ≤ length t
-    → WordsWithin (blockStart n) (pos (boundLimit Sheet n set)) t → SetFits members n t
+    → BoundsWithin Sheet n set t → SetFits members n t
 sheet-sums members n set t h l w = record {
   most = h;
   room = l;
@@ -196,7 +196,7 @@ sheet-sums members n set t h l w = record {
 }
 
 pub sheet-fits : (n set : ℕ) (t : List ℤ) → n ≤ maxQuantities → blockStart n ≤ length t
-    → WordsWithin (blockStart n) (pos (boundLimit Sheet n set)) t → Fits n t
+    → BoundsWithin Sheet n set t → Fits n t
 sheet-fits n set t h l w = record { members = every; sums = sheet-sums every n set t h l w; rest = λ j g e. clash refl e }
 
 -- and with none left out in particular
@@ -205,7 +205,7 @@ none-set zero = refl
 none-set (suc j) = let z : 0 / 2 ^ j ≡ 0 = zero-div (2 ^ j) in rw z
 
 pub whole-fits : (n set : ℕ) (t : List ℤ) → n ≤ maxQuantities → blockStart n ≤ length t
-    → WordsWithin (blockStart n) (pos (boundLimit Sheet n set)) t → RestFits n 0 t
+    → BoundsWithin Sheet n set t → RestFits n 0 t
 whole-fits n set t h l w = record {
   sums = sheet-sums (outside 0) n set t h l w;
   alone = λ i g e. clash (rw (none-set (suc i), le-leb 0 i (omega arith))) e;

@@ -16,11 +16,11 @@ use Rattle.rules.specs.Hidden.{hiddenIn}
 use Rattle.rules.specs.Limits.{boundLimit}
 use Rattle.rules.specs.Refusing.{passed, AllMet}
 use Rattle.tables.specs.Tables.{tableSize}
-use Rattle.tables.specs.Meaning.{Satisfiable, Unsatisfiable}
+use Rattle.tables.specs.Meaning.{Satisfiable, Unsatisfiable, BoundsWithin}
 use Rattle.tables.proofs.Tests.{clash}
 use Rattle.elimination.specs.Hiding.{every}
 use Rattle.keys.specs.Keys.{keyOf}
-use Rattle.keys.specs.Meaning.{BoundsWithin, keyNeedsThen}
+use Rattle.keys.specs.Meaning.{keyNeedsThen}
 use Rattle.keys.specs.Inner.{Fits, RestFits, Decided, SetHidden, KeyTried}
 use Rattle.keys.proofs.Several.{key-exact, allows-own, refuted-false, rest-key, key-length}
 use Rattle.keys.proofs.Fitting.{hide-ample, sheet-fits}

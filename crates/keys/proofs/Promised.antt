@@ -19,10 +19,10 @@ use Rattle.rules.proofs.Refusals.{refusal-number}
 use Rattle.rules.specs.Hidden.{hiddenIn}
 use Rattle.tables.specs.declared.reply.Reply.{Reply}
 use Rattle.tables.specs.declared.reply.Reply.the-variants.{Done, Refused}
-use Rattle.tables.specs.Meaning.{Satisfiable, Unsatisfiable}
+use Rattle.tables.specs.Meaning.{Satisfiable, Unsatisfiable, BoundsWithin}
 use Rattle.tables.proofs.Sizes.{serves-sized}
 use Rattle.tables.proofs.Refusing.{tied-decided}
-use Rattle.keys.specs.Meaning.{BoundsWithin, keyNeedsThen, assignmentNeedsThen}
+use Rattle.keys.specs.Meaning.{keyNeedsThen, assignmentNeedsThen}
 use Rattle.tables.specs.Replies.{replyNumber, check}
 use Rattle.elimination.specs.Hiding.{every}
 use Rattle.keys.specs.Keys.{keyOf, refuted, lentChecks, keyReply, assignmentReply, freesWorkspace}

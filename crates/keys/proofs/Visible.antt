@@ -15,11 +15,10 @@ use Rattle.rules.specs.declared.paper.Paper.the-variants.{Sheet}
 use Rattle.rules.specs.Hidden.{hiddenIn, hiddenCount}
 use Rattle.rules.specs.Limits.{maxQuantities, boundLimit}
 use Rattle.rules.specs.Meaning.{names}
-use Rattle.tables.specs.Meaning.{HoldsRule, ruleIn, NamesVisible, WordsWithin}
+use Rattle.tables.specs.Meaning.{HoldsRule, ruleIn, NamesVisible, WordsWithin, BoundsWithin}
 use Rattle.tables.proofs.Tests.{clash}
 use Rattle.elimination.specs.Magnitude.{Unnamed}
 use Rattle.keys.specs.Keys.{keyOf}
-use Rattle.keys.specs.Meaning.{BoundsWithin}
 use Rattle.keys.specs.Inner.{outside, RestFits}
 use Rattle.keys.proofs.Several.{key-visible, key-length}
 use Rattle.keys.proofs.Fitting.{key-within, limit-doubled}

@@ -4,25 +4,19 @@ use mathlib.Core.Bool.{Bool, true, false}
 use mathlib.Core.Path.{_≡_}
 use mathlib.Core.List.{List}
 use Prim.Native.Nat.{ℕ, suc, _≤_, _<_}
-use lib.IntN.{ℤ, pos}
+use lib.IntN.{ℤ}
 use lib.ListN.{length}
 use Rattle.places.specs.Numbering.{blockStart}
-use Rattle.rules.specs.declared.paper.Paper.{Paper}
 use Rattle.rules.specs.declared.paper.Paper.the-variants.{Sheet}
 use Rattle.rules.specs.declared.refusal.Refusal.the-variants.{Size, OutOfLimit, NoAssignment, TooShort}
 use Rattle.rules.specs.Hidden.{setWithin}
-use Rattle.rules.specs.Limits.{boundLimit}
 use Rattle.rules.specs.Refusing.{Needs, passed, _or_then_}
-use Rattle.tables.specs.Meaning.{TableSized, Satisfiable, WordsWithin}
+use Rattle.tables.specs.Meaning.{TableSized, Satisfiable, BoundsWithin}
 use Rattle.elimination.specs.ByRules.{HiddenByRules}
 
 -- ---- what the calls need, in the order of their checks
 
--- the bounds of a table are in the limit of a paper with this hidden set in its header
-abbrev pub BoundsWithin : Paper → ℕ → ℕ → List ℤ → Type 0
-BoundsWithin paper n set t = WordsWithin (blockStart n) (pos (boundLimit paper n set)) t
-
--- and the hidden set names no quantity past n
+-- the bounds of a sheet are in their limit, and the hidden set names no quantity past n
 abbrev pub NumbersWithin : ℕ → ℕ → List ℤ → Type 0
 NumbersWithin n set t = (setWithin n set ≡ true) × BoundsWithin Sheet n set t
 

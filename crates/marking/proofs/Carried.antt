@@ -19,7 +19,7 @@ use Rattle.rules.specs.Meaning.{Assignment, hasTerm}
 use Rattle.rules.specs.Refusal.{refusalNumber}
 use Rattle.rules.specs.Steps.{trivialRule, isNone, ruleOf}
 use Rattle.rules.proofs.Refusals.{refusal-below}
-use Rattle.rules.specs.RuleWords.{ruleValues, noWords, ruleWords, ruleOfWords}
+use Rattle.rules.specs.RuleWords.{ruleValues, noRuleWords, ruleWords, ruleOfWords}
 use Rattle.tables.specs.Places.{ruleAt}
 use Rattle.tables.specs.Meaning.{Solutions}
 use Rattle.tables.proofs.Tests.{clash}
@@ -112,11 +112,11 @@ words-values (Two x y c) = rw (signed-some x, signed-some y, signed-back x, sign
 words-values (Nothing c) = refl
 
 -- so the words of a rule with a term are not all 0
-signed-word : (x : ℕ) {q c : ℤ} → signedOf x ∷ q ∷ c ∷ [] ≡ noWords → ⊥
+signed-word : (x : ℕ) {q c : ℤ} → signedOf x ∷ q ∷ c ∷ [] ≡ noRuleWords → ⊥
 signed-word x e = clash (ap (λ (w : List ℤ). isNone (getD w 0 (pos 0))) e) (signed-some x)
 
 -- and those of one without are
-pub words-none : (r : Rule) → (ruleWords r ≡ noWords) ↔ (hasTerm r ≡ false)
+pub words-none : (r : Rule) → (ruleWords r ≡ noRuleWords) ↔ (hasTerm r ≡ false)
 words-none (One x c) = (λ e. absurd (signed-word x e), λ e. clash refl e)
 words-none (Two x y c) = (λ e. absurd (signed-word x e), λ e. clash refl e)
 words-none (Nothing c) = (λ e. refl, λ e. refl)

@@ -16,14 +16,14 @@ use Rattle.rules.specs.Limits.{maxQuantities}
 use Rattle.rules.specs.Refusing.{AllMet}
 use Rattle.tables.specs.declared.reply.Reply.the-variants.{Done, Refused}
 use Rattle.tables.specs.Tables.{serves, tableNamesHidden}
-use Rattle.tables.specs.Meaning.{TableSized}
+use Rattle.tables.specs.Meaning.{TableSized, BoundsWithin}
 use Rattle.tables.specs.Replies.{check}
 use Rattle.tables.proofs.Tests.{both-true}
 use Rattle.tables.proofs.Sizes.{small-start, serves-tells, serves-sized}
 use Rattle.tables.proofs.Refusing.{Tied, tied-done, tied-more}
 use Rattle.tables.proofs.Naming.{names-test}
 use Rattle.keys.specs.Keys.{boundsInLimit}
-use Rattle.keys.specs.Meaning.{BoundsWithin, NumbersWithin}
+use Rattle.keys.specs.Meaning.{NumbersWithin}
 use Rattle.keys.proofs.Checking.{length-test, bounds}
 use Rattle.marking.specs.Meaning.{workspaceSize, markNeeds}
 use Rattle.marking.specs.Marking.{numbersWithin, markChecks}

@@ -13,9 +13,8 @@ use Rattle.rules.specs.Hidden.{hiddenIn}
 use Rattle.rules.specs.Limits.{boundLimit}
 use Rattle.rules.specs.Refusal.{refusedAs}
 use Rattle.rules.specs.Refusing.{AllMet, DecidedBy}
-use Rattle.tables.specs.Meaning.{Satisfies, NamesVisible}
+use Rattle.tables.specs.Meaning.{Satisfies, NamesVisible, BoundsWithin}
 use Rattle.keys.specs.Keys.{keyOf}
-use Rattle.keys.specs.Meaning.{BoundsWithin}
 use Rattle.keys.specs.Promises.{KeyMade}
 use Rattle.keys.proofs.Fitting.{sheet-fits}
 use Rattle.keys.proofs.Parts.{front-word}
@@ -45,11 +44,11 @@ module _ (n set : ℕ) (sheet script : List ℤ) (o : OwnKey n set sheet script)
   key = keyOf (hiddenIn set) n sheet
 
   made : KeyMade n set sheet key
-  made = key-made n set sheet (sheet-fits n set sheet (o .sheet-sized .most) (o .sheet-sized .room) (o .within .1)) (o .within .1) (o .some)
+  made = key-made n set sheet (sheet-fits n set sheet (o .sized .most) (o .sized .room) (o .within .1)) (o .within .1) (o .some)
 
   -- the script has the key's words
   same : SameTable n key script
-  same = record { mine = omega (arith, key-length (hiddenIn set) n sheet, o .sheet-sized .room); theirs = o .script-sized .room; words = front-word (blockStart n) key script (o .same) }
+  same = record { mine = omega (arith, key-length (hiddenIn set) n sheet, o .sized .room); theirs = o .room; words = front-word (blockStart n) key script (o .same) }
 
   script-bounds : BoundsWithin Script n set script
   script-bounds = same-within n (boundLimit Script n set) key script same (made .like .growth)
@@ -58,7 +57,7 @@ module _ (n set : ℕ) (sheet script : List ℤ) (o : OwnKey n set sheet script)
   script-names = record { each = λ k p q e. made .like .visible .each k (holds-same n key script k same p) q (rw (same .words k (p .inside)) at e) }
 
   pub own-met : (w v : ℕ) → workspaceSize n ≤ w → n ≤ v → AllMet (markNeeds n set sheet script w v)
-  own-met w v l h = ((o .sheet-sized, o .script-sized), (l, (h, ((o .within, script-bounds), (script-names, tt)))))
+  own-met w v l h = ((o .sized, record { some = o .sized .some; most = o .sized .most; room = o .room }), (l, (h, ((o .within, script-bounds), (script-names, tt)))))
 
   pub own-allows : AllowSame (hiddenIn set) (Satisfies n sheet) (Satisfies n script)
   own-allows σ = (

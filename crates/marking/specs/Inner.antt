@@ -20,11 +20,10 @@ use Rattle.rules.specs.Hidden.{hiddenIn, hiddenCount, setWithin}
 use Rattle.rules.specs.Meaning.{Meets, names}
 use Rattle.tables.specs.Places.{ruleAt}
 use Rattle.tables.specs.Tables.{hasRule}
-use Rattle.tables.specs.Meaning.{ruleIn, Satisfies, Unsatisfiable, Solutions, Breaks, NamesVisible, assignmentOf}
+use Rattle.tables.specs.Meaning.{ruleIn, Satisfies, Unsatisfiable, Solutions, Breaks, NamesVisible, assignmentOf, BoundsWithin}
 use Rattle.elimination.specs.Magnitude.{ValuesWithin}
 use Rattle.elimination.specs.Inner.{among, Listed}
 use Rattle.keys.specs.Keys.{keyOf, refuted}
-use Rattle.keys.specs.Meaning.{BoundsWithin}
 use Rattle.keys.specs.Inner.{outside, LiveAlone, SetFits, Fits, AtTurns}
 use Rattle.keys.specs.Breaking.{RuleBreakable}
 use Rattle.tightening.specs.Below.{LivePlace}

@@ -16,10 +16,10 @@ use Rattle.rules.specs.Hidden.{hiddenIn}
 use Rattle.rules.specs.Refusing.{Needs, passed, _or_then_}
 use Rattle.rules.specs.Refusal.{Returned}
 use Rattle.rules.specs.Meaning.{Assignment, Meets, hasTerm}
-use Rattle.tables.specs.Meaning.{TableSized, HoldsRule, ruleIn, Satisfiable, Unsatisfiable, Solutions, Completes, SheetAllows, ScriptAllows, ScriptForbids, Breaks, NamesVisible, SameVisible, assignmentOf}
+use Rattle.tables.specs.Meaning.{TableSized, HoldsRule, ruleIn, Satisfiable, Unsatisfiable, Solutions, Completes, SheetAllows, ScriptAllows, ScriptForbids, Breaks, NamesVisible, SameVisible, assignmentOf, BoundsWithin}
 use Rattle.elimination.specs.Magnitude.{ValuesWithin}
 use Rattle.keys.specs.Keys.{keyOf}
-use Rattle.keys.specs.Meaning.{BoundsWithin, NumbersWithin}
+use Rattle.keys.specs.Meaning.{NumbersWithin}
 use Rattle.keys.specs.Promises.{KeyMade}
 use Rattle.marking.specs.declared.verdict.Verdict.the-variants.{Loose, Tight}
 use Rattle.marking.specs.Verdicts.{verdictReturned}
@@ -140,8 +140,8 @@ markNeeds n set sheet script w v =
 
 -- the script is the plain key of its sheet, one that the key call accepts: its first words are those of the table that the call leaves
 pub record OwnKey (n set : ℕ) (sheet script : List ℤ) : Type 0 where
-  pub sheet-sized : TableSized n (length sheet)
-  pub script-sized : TableSized n (length script)
+  pub sized : TableSized n (length sheet)
+  pub room : blockStart n ≤ length script
   pub within : NumbersWithin n set sheet
   pub some : Satisfiable n sheet
   pub same : take (blockStart n) script ≡ take (blockStart n) (keyOf (hiddenIn set) n sheet)

@@ -14,14 +14,14 @@ ruleValues (Two x y c) = signedOf x ∷ signedOf y ∷ c ∷ []
 ruleValues (Nothing c) = []
 
 -- three words that are no rule
-abbrev pub noWords : List ℤ
-noWords = pos 0 ∷ pos 0 ∷ pos 0 ∷ []
+abbrev pub noRuleWords : List ℤ
+noRuleWords = pos 0 ∷ pos 0 ∷ pos 0 ∷ []
 
 -- the same as three words for a host, which document 01 does not have: two signed quantity numbers, 0 for one that is not there, and the bound; all 0 where it is none
 abbrev pub ruleWords : Rule → List ℤ
 ruleWords (One x c) = signedOf x ∷ pos 0 ∷ c ∷ []
 ruleWords (Two x y c) = signedOf x ∷ signedOf y ∷ c ∷ []
-ruleWords (Nothing c) = noWords
+ruleWords (Nothing c) = noRuleWords
 
 -- the rule of three words: the one that the constructor makes of them
 abbrev pub ruleOfWords : List ℤ → Rule

@@ -12,10 +12,9 @@ use Rattle.rules.specs.declared.paper.Paper.the-variants.{Sheet}
 use Rattle.rules.specs.Hidden.{hiddenIn, setWithin, isListed}
 use Rattle.rules.specs.Limits.{maxQuantities, maxText}
 use Rattle.rules.specs.Meaning.{Assignment}
-use Rattle.tables.specs.Meaning.{TableSized, Satisfies, SheetAllows, joined, KeyLike}
+use Rattle.tables.specs.Meaning.{TableSized, Satisfies, SheetAllows, joined, KeyLike, BoundsWithin}
 use Rattle.tables.proofs.Lists.{tableOf-length}
 use Rattle.keys.specs.Keys.{keyOf, refuted}
-use Rattle.keys.specs.Meaning.{BoundsWithin}
 use Rattle.keys.specs.Inner.{Fits}
 use Rattle.keys.proofs.Several.{hideUpTo-length, key-exact, key-visible}
 use Rattle.keys.proofs.Fitting.{sheet-fits, hide-ample, key-within, script-limit}

@@ -15,6 +15,7 @@ use Rattle.rules.specs.Limits.{maxQuantities, boundLimit}
 use Rattle.rules.specs.Literal.{negated}
 use Rattle.rules.specs.Meaning.{Assignment, Meets, boundOf, names}
 use Rattle.rules.specs.Steps.{halvedOf}
+use Rattle.rules.specs.declared.paper.Paper.{Paper}
 use Rattle.rules.specs.declared.paper.Paper.the-variants.{Script}
 use Rattle.rules.specs.Hidden.{hiddenIn}
 use Rattle.tables.specs.Places.{ruleAt}
@@ -128,8 +129,12 @@ SameVisible n hidden σ τ = (q : ℕ) → 1 ≤ q → q ≤ n → hidden q ≡ 
 pub record WordsWithin (m : ℕ) (B : ℤ) (t : List ℤ) : Type 0 where
   pub each : (k : ℕ) → k < m → k < length t → hasRule (wordAt t k) ≡ true → Within B (wordAt t k)
 
+-- the bounds of a table are in the limit of a paper over n quantities with this hidden set in its header
+abbrev pub BoundsWithin : Paper → ℕ → ℕ → List ℤ → Type 0
+BoundsWithin paper n set t = WordsWithin (blockStart n) (pos (boundLimit paper n set)) t
+
 -- a table is like a key: its rules name visible quantities alone, and its bounds are in a script's limit, which is a sheet's, doubled with each hidden quantity (document 01: "One hiding step at
 -- most doubles the largest magnitude of a bound")
 pub record KeyLike (n set : ℕ) (table : List ℤ) : Type 0 where
   pub visible : NamesVisible n (hiddenIn set) table
-  pub growth : WordsWithin (blockStart n) (pos (boundLimit Script n set)) table
+  pub growth : BoundsWithin Script n set table

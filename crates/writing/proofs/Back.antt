@@ -24,7 +24,7 @@ use Rattle.rules.specs.Literal.{quantityOf}
 use Rattle.rules.specs.Meaning.{boundOf}
 use Rattle.tables.specs.Places.{ruleAt, HasPlace}
 use Rattle.tables.specs.Tables.{hasRule}
-use Rattle.tables.specs.Meaning.{WordsWithin, KeyLike}
+use Rattle.tables.specs.Meaning.{WordsWithin, KeyLike, BoundsWithin}
 use Rattle.tables.proofs.Places.{ruleAt-bound, ruleAt-hasPlace}
 use Rattle.lines.specs.Spelling.{Written, rule, quantityWithin, lineWithin, cancelling}
 use Rattle.lines.specs.Lines.{accepted}
@@ -58,11 +58,11 @@ rule-fine n limit (Two x y c) u w = record {
 rule-fine n limit (Nothing c) u w = absurd u
 
 -- each of the first m words that holds a rule is in the limit
-abbrev pub BoundsWithin : ℕ → ℕ → List ℤ → Type 0
-BoundsWithin m limit t = (k : ℕ) → k < m → k < length t → hasRule (wordAt t k) ≡ true → natAbs (wordAt t k) ≤ limit
+abbrev pub AtMostIn : ℕ → ℕ → List ℤ → Type 0
+AtMostIn m limit t = (k : ℕ) → k < m → k < length t → hasRule (wordAt t k) ≡ true → natAbs (wordAt t k) ≤ limit
 
 -- where they are, the rules of words from place i on may stand in a text
-pub rules-fine : (n limit i : ℕ) (t : List ℤ) → i + length t ≤ blockStart n → BoundsWithin (length t) limit t → AllFine n limit (ruleLines (rulesAt i t))
+pub rules-fine : (n limit i : ℕ) (t : List ℤ) → i + length t ≤ blockStart n → AtMostIn (length t) limit t → AllFine n limit (ruleLines (rulesAt i t))
 unfolding rulesAt
 rules-fine n limit i [] l f = tt
 rules-fine n limit i (w ∷ t) l f = go (rules-fine n limit (suc i) t (omega arith) (λ k b c e. f (suc k) (omega arith) (omega arith) e)) (hasRule w) refl
@@ -106,7 +106,7 @@ module _ (n set : ℕ) (t : List ℤ) (some : 1 ≤ n) (most : n ≤ maxQuantiti
       few = rules-most n t most
 
   -- every line is fine, in a limit that the words that hold a rule are in
-  written-spells : (limit : ℕ) → BoundsWithin (blockStart n) limit t → Spells limit (writtenText n set t) (contentsOf n set t)
+  written-spells : (limit : ℕ) → AtMostIn (blockStart n) limit t → Spells limit (writtenText n set t) (contentsOf n set t)
   unfolding writtenText
   written-spells limit words = record {
     text = refl;
@@ -116,7 +116,7 @@ module _ (n set : ℕ) (t : List ℤ) (some : 1 ≤ n) (most : n ≤ maxQuantiti
       front : List ℤ
       front = take (blockStart n) t
 
-      inside : BoundsWithin (length front) limit front
+      inside : AtMostIn (length front) limit front
       inside k b c e = let w = front-word (blockStart n) t k b in rw (w .2) (words k (w .0) (w .1) (rw (w .2) at e))
 
   -- of any words
@@ -128,7 +128,7 @@ module _ (n set : ℕ) (t : List ℤ) (some : 1 ≤ n) (most : n ≤ maxQuantiti
   spells-within limit words = written-spells limit (λ k b c e. bound-magnitude limit (wordAt t k) (words .each k b c e))
 
   -- of words in a paper's limit, with a hidden set in its range: where it is not too long, such a text is fine, and these are its contents
-  pub written-reads : (paper : Paper) → setWithin n set ≡ true → WordsWithin (blockStart n) (pos (boundLimit paper n set)) t
+  pub written-reads : (paper : Paper) → setWithin n set ≡ true → BoundsWithin paper n set t
       → length (writtenText n set t) ≤ maxText → Reads paper (writtenText n set t) (contentsOf n set t)
   written-reads paper within words short = record {
     small = short;
@@ -138,11 +138,11 @@ module _ (n set : ℕ) (t : List ℤ) (some : 1 ≤ n) (most : n ≤ maxQuantiti
   -- ---- as a sheet
 
   -- it is never too long
-  pub sheet-reads : setWithin n set ≡ true → WordsWithin (blockStart n) (pos (boundLimit Sheet n set)) t → Reads Sheet (writtenText n set t) (contentsOf n set t)
+  pub sheet-reads : setWithin n set ≡ true → BoundsWithin Sheet n set t → Reads Sheet (writtenText n set t) (contentsOf n set t)
   sheet-reads within words = written-reads Sheet within words (longest-sheet n set t most (rw (sheet-limit n set) at words))
 
   -- read into any table that is long enough, it gives n, the hidden set and the table's words back
-  pub written-back : setWithin n set ≡ true → WordsWithin (blockStart n) (pos (boundLimit Sheet n set)) t → blockStart n ≤ length t
+  pub written-back : setWithin n set ≡ true → BoundsWithin Sheet n set t → blockStart n ≤ length t
       → Clean (blockStart n) t → (u : List ℤ) → blockStart n ≤ length u → ReadBack n set t (writtenText n set t) u
   unfolding readReply replyTo readTable filled
   written-back within words room clean u enough = record { reply = reply; words = rw (reply, checked, table-back n t room clean) }
@@ -160,7 +160,7 @@ module _ (n set : ℕ) (t : List ℤ) (some : 1 ≤ n) (most : n ≤ maxQuantiti
   key-reads within room key = written-reads Script within (key .growth) (key-short n set t most room key)
 
   -- with n, the hidden set and rules that make the table's words again
-  pub written-script : setWithin n set ≡ true → WordsWithin (blockStart n) (pos (boundLimit Script n set)) t → length (writtenText n set t) ≤ maxText
+  pub written-script : setWithin n set ≡ true → BoundsWithin Script n set t → length (writtenText n set t) ≤ maxText
       → blockStart n ≤ length t → Clean (blockStart n) t → ReadAsScript n set t (writtenText n set t)
   written-script within words short room clean = record {
     reads = written-reads Script within words short;

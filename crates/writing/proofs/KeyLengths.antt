@@ -20,7 +20,7 @@ use Rattle.rules.specs.declared.paper.Paper.the-variants.{Script}
 use Rattle.rules.specs.Hidden.{hiddenIn, hiddenCount}
 use Rattle.rules.specs.Limits.{boundLimit, maxQuantities, maxBound, maxText}
 use Rattle.rules.proofs.Counts.{count-most}
-use Rattle.tables.specs.Meaning.{WordsWithin, KeyLike}
+use Rattle.tables.specs.Meaning.{KeyLike, BoundsWithin}
 use Rattle.numerals.specs.Decimal.{signedDecimal}
 use Rattle.numerals.proofs.Decimals.{signed-width}
 use Rattle.writing.specs.Writing.{tableRules, writtenText}
@@ -41,7 +41,7 @@ script-limit n set = refl
 
 -- so the bounds in it are short, as a key's are
 pub grown-numerals : (n set : ℕ) (t : List ℤ) → n ≤ maxQuantities
-    → WordsWithin (blockStart n) (pos (boundLimit Script n set)) t → NumeralsWithin (blockStart n) wordWidth t
+    → BoundsWithin Script n set t → NumeralsWithin (blockStart n) wordWidth t
 grown-numerals n set t h w j b c e = grown-width (wordAt t j) (within-mono most (w .each j b c e))
   where
     most : boundLimit Script n set ≤ maxBound * 2 ^ maxQuantities

@@ -42,7 +42,7 @@ use Rattle.reading.proofs.Promised.{reading-kept}
 use Rattle.writing.specs.Writing.{writtenOf, rulesAt, tableRules, hiddenList, contentsOf, writtenText}
 use Rattle.writing.specs.Promises.{PastLimit, FirstPast, lineAt, RefusedPast}
 use Rattle.writing.proofs.Meanings.{front-word}
-use Rattle.writing.proofs.Back.{literal-within, rules-fine, BoundsWithin, bound-magnitude, opening-fine}
+use Rattle.writing.proofs.Back.{literal-within, rules-fine, AtMostIn, bound-magnitude, opening-fine}
 use Rattle.writing.proofs.Members.{hidden-back}
 use Rattle.writing.proofs.Texts.{rules-append, lines-append}
 
@@ -190,7 +190,7 @@ module _ (n set : ℕ) (t : List ℤ) (some : 1 ≤ n) (most : n ≤ maxQuantiti
       short : 0 + length (take k t) ≤ blockStart n
       short = omega (arith, length-take k t, f .past .holds .inside)
 
-      inside : BoundsWithin (length (take k t)) limit (take k t)
+      inside : AtMostIn (length (take k t)) limit (take k t)
       inside j b c e =
           let w = front-word k t j b in
           rw (w .2) (bound-magnitude limit (wordAt t j) (f .before .each j (w .0) (w .1) (rw (w .2) at e)))

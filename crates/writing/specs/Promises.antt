@@ -18,7 +18,7 @@ use Rattle.rules.specs.Hidden.{setWithin, setOf}
 use Rattle.rules.specs.Limits.{boundLimit, maxRules, maxText}
 use Rattle.rules.specs.Meaning.{Assignment}
 use Rattle.tables.specs.Tables.{tableOf}
-use Rattle.tables.specs.Meaning.{TableSized, HoldsRule, Satisfies, MeetsAll, WordsWithin, KeyLike}
+use Rattle.tables.specs.Meaning.{TableSized, HoldsRule, Satisfies, MeetsAll, WordsWithin, KeyLike, BoundsWithin}
 use Rattle.lines.specs.Spelling.{writtenRules}
 use Rattle.reading.specs.declared.read.Reading.the-variants.{Accepted}
 use Rattle.reading.specs.Meaning.{Spells, Reads}
@@ -96,9 +96,9 @@ pub record TextMade (n set : ℕ) (table : List ℤ) (r : Writing) (s : List ℕ
   -- the text of a key is never too long for the reader
   pub key-short : KeyLike n set table → length s ≤ maxText
   -- read into any table that is long enough, the text gives the table back, where its words are in the sheet's limit
-  pub back : WordsWithin (blockStart n) (pos (boundLimit Sheet n set)) table → (t : List ℤ) → blockStart n ≤ length t → ReadBack n set table s t
+  pub back : BoundsWithin Sheet n set table → (t : List ℤ) → blockStart n ≤ length t → ReadBack n set table s t
   -- read as a script, where the words are in a script's limit and the text is not too long, as no key's is, it gives the table back too
-  pub script : WordsWithin (blockStart n) (pos (boundLimit Script n set)) table → length s ≤ maxText → ReadAsScript n set table s
+  pub script : BoundsWithin Script n set table → length s ≤ maxText → ReadAsScript n set table s
   -- where some bound is outside the sheet's, and the text not too long to be read, reading it is refused with 3, whatever table it is read into
   pub past : length s ≤ maxText → (k : ℕ) → PastLimit n set table k → (t : List ℤ) → RefusedPast n set table s t
 

@@ -14,20 +14,21 @@ use Rattle.tables.specs.declared.reply.Reply.the-variants.{Done}
 use Rattle.tables.specs.declared.reply.Reply.the-variants.{Refused as NotDone}
 use Rattle.keys.specs.Promises.{Keyed, Assigned}
 use Rattle.rules.specs.declared.refusal.Refusal.{Refusal}
+use Rattle.rules.specs.Hidden.{hiddenIn}
 use Rattle.rules.specs.Limits.{maxQuantities}
 use Rattle.rules.specs.declared.paper.Paper.the-variants.{Sheet as OfSheet, Script as OfScript}
 use Rattle.rules.specs.Refusal.{refusalNumber, refusalValue, Returned, refusedAs}
 use Rattle.rules.proofs.Refusals.{same-refusal-value, same-refusal, refusal-number, refusal-below}
-use Rattle.rules.specs.RuleWords.{ruleValues, ruleOfWords}
+use Rattle.rules.specs.RuleWords.{ruleValues, noRuleWords, ruleOfWords}
 use Rattle.tables.specs.Replies.{replyReturned, replyNumber, replyValue}
-use Rattle.tables.specs.Meaning.{Solutions}
+use Rattle.tables.specs.Meaning.{Unsatisfiable, Solutions}
 use Rattle.tables.proofs.Tests.{clash}
 use Rattle.tables.proofs.Refusing.{decided-as}
 use Rattle.marking.specs.declared.verdict.Verdict.{Verdict}
 use Rattle.marking.specs.declared.verdict.Verdict.the-variants.{Equal, Loose, Tight}
 use Rattle.marking.specs.Verdicts.{verdictNumber, carriedWords}
 use Rattle.marking.specs.Meaning.{VerdictMeans}
-use Rattle.marking.proofs.Carried.{verdict-from, words-values}
+use Rattle.marking.proofs.Carried.{verdict-from, words-values, loose-words}
 use Rattle.scripts.specs.declared.reply.Subject.{Subject}
 use Rattle.scripts.specs.declared.reply.Subject.the-variants.{Sheet, Script, Both}
 use Rattle.scripts.specs.declared.room.Lengths.{Lengths}
@@ -36,7 +37,7 @@ use Rattle.scripts.specs.declared.reply.TextMarking.the-variants.{Marked}
 use Rattle.scripts.specs.declared.reply.TextMarking.the-variants.{Refused as NotMarked}
 use Rattle.scripts.specs.Replies.{textsReturned, textNumber, textValue, paperNumber, textPaper}
 use Rattle.scripts.specs.Marking.{textsReply, countIn}
-use Rattle.scripts.specs.Meaning.{AcceptedPair, RefusedPair, ownLengths}
+use Rattle.scripts.specs.Meaning.{setIn, tableIn, AcceptedPair, RefusedPair, ownLengths}
 use Rattle.scripts.specs.Promises.{PairJudged, TextsJudged, MarkedInOwnRoom}
 use Rattle.scripts.proofs.Sheets.{fine-table}
 use Rattle.scripts.proofs.OwnKeys.{own-in-room}
@@ -45,7 +46,7 @@ use Rattle.scripts.proofs.OwnRoom.{same-reply}
 use Rattle.reading.specs.declared.read.Reading.{Reading}
 use Rattle.reading.specs.declared.read.Reading.the-variants.{Accepted, Refused}
 use Rattle.reading.specs.Reading.{readingReturned, readingNumber, readingValue}
-use Rattle.reading.specs.Meaning.{Readable, AcceptedAs}
+use Rattle.reading.specs.Meaning.{Readable, rulesOf, AcceptedAs}
 use Rattle.reading.specs.Promises.{ReadInto}
 use Rattle.writing.specs.declared.write.Writing.{Writing}
 use Rattle.writing.specs.declared.write.Writing.the-variants.{Text}
@@ -236,6 +237,16 @@ judged-told t before x values j = record {
   means = means-told _ (textsReturned x) refl (told-same before x) (j .means);
 }
 
+-- the words of a loose verdict are all 0 where no integers satisfy the sheet, and only there
+told-none : {sheet script : List ℕ} {lent : Lengths} (t : AcceptedPair sheet script lent) (before : List ℤ) (x : TextMarking) (values : List ℤ)
+    → PairJudged t (textsReturned x) values → (textNumber x ≡ 101)
+    → Unsatisfiable (t .of-sheet .count) (tableIn (t .of-sheet)) ↔ (ruleMarked before x ≡ noRuleWords)
+told-none t before (Marked n Equal) values j e = absurd (omega arith)
+told-none t before (Marked n (Loose rule)) values j e =
+    loose-words (hiddenIn (setIn (t .of-sheet))) (t .of-sheet .count) (tableIn (t .of-sheet)) (rulesOf (t .of-script)) rule (j .means .loose rule refl .0)
+told-none t before (Marked n (Tight rule)) values j e = absurd (omega arith)
+told-none t before (NotMarked w f) values j e = absurd (omega (arith, refusal-below f))
+
 -- what a host is told of a reply
 reply-told : (sheet script : List ℕ) (lent : Lengths) (reply : TextMarking) (n : ℕ) (rule values : List ℤ) → TextsJudged sheet script lent reply values
     → Told sheet script lent (textNumber reply) (textPaper reply) (textValue reply) (countMarked n reply) (ruleMarked rule reply) values
@@ -244,6 +255,7 @@ reply-told sheet script lent reply n rule values j = record {
   accepted = reply-accepted reply j;
   count = told-count n reply j;
   judged = λ t. judged-told t rule reply values (j .judged t);
+  none = λ e t. told-none t rule reply values (j .judged t) e;
 }
 
 -- marking without the reasons gives the same number, where the assignment is not too short

@@ -1,16 +1,13 @@
 -- The contract of marking two tables for hosts, from that of the call. Assumes nothing.
 use mathlib.Core.Path.{_≡_, refl, sym, ap, _∙_}
-use mathlib.Core.Bool.{true, false}
+use mathlib.Core.Bool.{true}
 use mathlib.Core.Logic.{_↔_, inl, inr}
 use mathlib.Core.List.{List}
 use Prim.Native.Nat.{ℕ, _<_, _≤_}
 use native.Mathlib.Omega.{arith}
 use lib.IntN.{ℤ}
-use Rattle.words.specs.Change.{wordAt}
-use Rattle.rules.specs.declared.rule.Rule.{Rule}
 use Rattle.rules.specs.declared.refusal.Refusal.{Refusal}
 use Rattle.rules.specs.Hidden.{hiddenIn}
-use Rattle.rules.specs.Meaning.{hasTerm}
 use Rattle.rules.specs.Refusal.{refusalNumber, Returned, refusedAs}
 use Rattle.rules.specs.Refusing.{RefusedBy}
 use Rattle.rules.specs.RuleWords.{ruleValues, noRuleWords, ruleOfWords}
@@ -18,15 +15,14 @@ use Rattle.rules.proofs.Refusals.{same-refusal-value, same-refusal, refusal-bel
 use Rattle.tables.specs.Meaning.{Satisfies, Unsatisfiable}
 use Rattle.tables.proofs.Tests.{clash}
 use Rattle.tables.proofs.Refusing.{decided-as}
-use Rattle.keys.specs.Keys.{keyOf}
 use Rattle.marking.specs.declared.verdict.Verdict.{Verdict}
 use Rattle.marking.specs.declared.verdict.Verdict.the-variants.{Equal, Loose, Tight}
 use Rattle.marking.specs.declared.verdict.Marking.{Marking}
 use Rattle.marking.specs.declared.verdict.Marking.the-variants.{Marked, Refused}
 use Rattle.marking.specs.Verdicts.{verdictNumber, carriedWords, markingReturned, markingNumber, markingValue, isMarked}
-use Rattle.marking.specs.Meaning.{LooseRule, markNeeds}
+use Rattle.marking.specs.Meaning.{markNeeds}
 use Rattle.marking.specs.Promises.{TablesMarked}
-use Rattle.marking.proofs.Carried.{verdict-from, verdict-refusal, words-values, words-none, ruleAt-term}
+use Rattle.marking.proofs.Carried.{verdict-from, verdict-refusal, words-values, loose-words}
 use Rattle.acornsled.specs.Promises.{TellsRefusal, ruleGiven, MarkTablesAnswer}
 use Rattle.acornsled.proofs.Promised.{number, means-told}
 
@@ -61,25 +57,14 @@ needs-never f (inr (a, inr (b, inr (c, inr (d, inr x))))) e = x .1
 
 -- ---- a loose verdict without a rule
 
--- no integers satisfy the sheet exactly where the rule of a loose verdict has no term
-loose-none : (n set : ℕ) (sheet script : List ℤ) (rule : Rule) → LooseRule (hiddenIn set) n sheet (Satisfies n script) rule → Unsatisfiable n sheet ↔ (hasTerm rule ≡ false)
-loose-none n set sheet script rule (inl x) = (λ none. x .1, λ e. x .0)
-loose-none n set sheet script rule (inr x) = (
-  λ none. absurd (none (x .0 .assignment) (x .0 .satisfies)),
-  λ e. clash (ap hasTerm (x .1 .is) ∙ ruleAt-term (x .1 .place) (wordAt (keyOf (hiddenIn set) n sheet) (x .1 .place))) e,
-)
-
 module _ {n set : ℕ} {sheet script w u w' u' : List ℤ} where
-  -- where its words are all 0
-  loose-words : (before : List ℤ) (x : Marking) → TablesMarked n set sheet script w u x w' u' → (markingNumber x ≡ 101)
+  -- its words are all 0
+  given-none : (before : List ℤ) (x : Marking) → TablesMarked n set sheet script w u x w' u' → (markingNumber x ≡ 101)
       → Unsatisfiable n sheet ↔ (ruleGiven before x ≡ noRuleWords)
-  loose-words before (Marked Equal) m e = absurd (omega arith)
-  loose-words before (Marked (Loose rule)) m e =
-      let t = loose-none n set sheet script rule (m .means refl .loose rule refl .0) in
-      let z = words-none rule in
-      (λ none. z .1 (t .0 none), λ d. t .1 (z .0 d))
-  loose-words before (Marked (Tight rule)) m e = absurd (omega arith)
-  loose-words before (Refused f) m e = absurd (omega (arith, refusal-below f))
+  given-none before (Marked Equal) m e = absurd (omega arith)
+  given-none before (Marked (Loose rule)) m e = loose-words (hiddenIn set) n sheet (Satisfies n script) rule (m .means refl .loose rule refl .0)
+  given-none before (Marked (Tight rule)) m e = absurd (omega arith)
+  given-none before (Refused f) m e = absurd (omega (arith, refusal-below f))
 
   -- and 5 is no number of a reply
   marked-never : (x : Marking) → TablesMarked n set sheet script w u x w' u' → (markingNumber x ≡ 5) → ⊥
@@ -98,7 +83,7 @@ tables-answer n set sheet script w u rule w' u' rule' reply r v m e d c = record
   decided = rw (e, d) (decided-as (m .decided) (marking-told reply) (marking-from reply));
   call = rw (m .reply) at m;
   means = rw (e, c) (λ h. means-told _ (markingReturned reply) refl (given-same rule reply) (m .means (marking-from reply .0 h)));
-  none = rw (e, c) (loose-words rule reply m);
+  none = rw (e, c) (given-none rule reply m);
   own-key = λ k l h. e ∙ ap number (m .own-key k l h);
   never = rw e (marked-never reply m);
 }

@@ -38,7 +38,7 @@ use Rattle.scripts.specs.declared.reply.TextMarking.{TextMarking}
 use Rattle.scripts.specs.declared.reply.TextMarking.the-variants.{Marked}
 use Rattle.scripts.specs.declared.reply.TextMarking.the-variants.{Refused as NotMarked}
 use Rattle.scripts.specs.Replies.{textsReturned, textNumber, textValue, textPaper, paperNumber, isTextShown}
-use Rattle.scripts.specs.Meaning.{AcceptedPair, RefusedPair, OwnKeyText, ownLengths}
+use Rattle.scripts.specs.Meaning.{tableIn, AcceptedPair, RefusedPair, OwnKeyText, ownLengths}
 use Rattle.scripts.specs.Marking.{textsReply, countIn}
 use Rattle.scripts.specs.Promises.{PairJudged, TextsJudged}
 
@@ -135,6 +135,8 @@ pub record Told (sheet script : List ℕ) (lent : Lengths) (r p v n : ℕ) (rule
   pub count : (t : AcceptedPair sheet script lent) → n ≡ t .of-sheet .count
   -- it means what demand 3 says; the rule of a loose or tight verdict is the one of these words, and the assignment shows the verdict and breaks it
   pub judged : (t : AcceptedPair sheet script lent) → PairJudged t (record { number = r; values = ruleValues (ruleOfWords rule) }) values
+  -- a loose verdict has no rule, and its words are all 0, exactly where no integers satisfy the sheet
+  pub none : (r ≡ 101) → (t : AcceptedPair sheet script lent) → Unsatisfiable (t .of-sheet .count) (tableIn (t .of-sheet)) ↔ (rule ≡ noRuleWords)
 
 -- marking two texts with the reasons: n, the rule's words and the assignment before the call, then the number r, the paper p and the line or length v, and the
 -- same three after it

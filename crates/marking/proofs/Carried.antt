@@ -21,7 +21,8 @@ use Rattle.rules.specs.Steps.{trivialRule, isNone, ruleOf}
 use Rattle.rules.proofs.Refusals.{refusal-below}
 use Rattle.rules.specs.RuleWords.{ruleValues, noRuleWords, ruleWords, ruleOfWords}
 use Rattle.tables.specs.Places.{ruleAt}
-use Rattle.tables.specs.Meaning.{Solutions}
+use Rattle.tables.specs.Meaning.{Unsatisfiable, Solutions}
+use Rattle.keys.specs.Keys.{keyOf}
 use Rattle.tables.proofs.Tests.{clash}
 use Rattle.marking.specs.declared.verdict.Verdict.{Verdict}
 use Rattle.marking.specs.declared.verdict.Verdict.the-variants.{Equal, Loose, Tight}
@@ -129,6 +130,15 @@ ruleAt-term k c = go (isOne k)
     go : (b : Bool) → hasTerm (cond b (One (higherAt k) c) (Two (lowerAt k) (higherAt k) c)) ≡ true
     go true = refl
     go false = refl
+
+-- so the words of a loose verdict's rule are all 0 exactly where no integers satisfy the sheet
+pub loose-words : (hidden : ℕ → Bool) (n : ℕ) (sheet : List ℤ) (script : Solutions) (r : Rule) → LooseRule hidden n sheet script r
+    → Unsatisfiable n sheet ↔ (ruleWords r ≡ noRuleWords)
+loose-words hidden n sheet script r (inl x) = (λ none. words-none r .1 (x .1), λ e. x .0)
+loose-words hidden n sheet script r (inr x) = (
+  λ none. absurd (none (x .0 .assignment) (x .0 .satisfies)),
+  λ e. clash (ap hasTerm (x .1 .is) ∙ ruleAt-term (x .1 .place) (wordAt (keyOf hidden n sheet) (x .1 .place))) (words-none r .0 e),
+)
 
 -- a rule with no term asks nothing to be broken
 bare-broken : (σ : Assignment) (r : Rule) → hasTerm r ≡ false → BreaksCarried σ r

@@ -25,7 +25,7 @@ use Rattle.lines.specs.Spelling.{hidden, lineWithin}
 use Rattle.lines.proofs.CappedIntegers.{cap-word}
 use Rattle.lines.proofs.SetCounts.{set-count}
 use Rattle.reading.specs.Texts.{Contents}
-use Rattle.reading.specs.Meaning.{Opening, start, counted, headed, ruled, linesOf, countOf, hiddensOf, limitAt, Fine, AllFine, RangeByList, contentsLimit, FineLines, Spells}
+use Rattle.reading.specs.Meaning.{Opening, start, counted, headed, ruled, linesOf, countOf, hiddensOf, limitAt, Fine, AllFine, RangeByList, contentsLimit, FineLines}
 
 -- with n in its range it is below what numerals are told to
 pub limit-told : (paper : Paper) (n set : ℕ) → n ≤ maxQuantities → boundLimit paper n set < cap
@@ -54,13 +54,6 @@ by-count n set k e = rw e
 line-count : (n limit : ℕ) (qs : List ℕ) → Fine n limit (hidden qs) → hiddenCount (hiddenIn (setOf qs)) n ≡ length qs
 unfolding lineWithin
 line-count n limit qs f = set-count n qs (f .formed) (f .within)
-
-pub contents-script : (limit : ℕ) (c : Contents) → FineLines limit c → contentsLimit Script c ≡ maxBound * 2 ^ length (c .hiddens)
-contents-script limit c f = by-count (c .count) (setOf (c .hiddens)) (length (c .hiddens)) (line-count (c .count) limit (c .hiddens) (f .1 .0))
-
--- of a text: so many numbers listed in its header, and as often is 1,000,000,000 doubled
-pub spelled-script : (limit : ℕ) (s : List ℕ) (c : Contents) → Spells limit s c → contentsLimit Script c ≡ 1000000000 * 2 ^ length (c .hiddens)
-spelled-script limit s c p = contents-script limit c (p .fine)
 
 -- wherever the text is read to; where the list is not yet read, nothing is hidden
 pub reached-range : (s : List ℕ) → RangeByList s

@@ -20,7 +20,7 @@ use Rattle.places.specs.declared.Place.{Place}
 use Rattle.places.specs.declared.Place.the-variants.{At, Nowhere}
 use Rattle.places.specs.Numbering.{blockStart}
 use Rattle.rules.specs.declared.rule.Rule.{Rule}
-use Rattle.rules.specs.Hidden.{hiddenIn, hiddenCount}
+use Rattle.rules.specs.Hidden.{hiddenIn, memberCount}
 use Rattle.rules.specs.Limits.{maxQuantities}
 use Rattle.rules.specs.Meaning.{boundOf, names}
 use Rattle.rules.specs.Steps.{oppositeOf}
@@ -130,7 +130,7 @@ module _ (n set : ℕ) (sheet : List ℤ) (r : Rule) (w v u part : List ℤ) (p 
   key = keyOf (hiddenIn set) n sheet
 
   abbrev wide : ℕ
-  wide = p .breakable .fits .sums .limit * 2 ^ hiddenCount (outside set) n - p .breakable .fits .sums .limit
+  wide = p .breakable .fits .sums .limit * 2 ^ memberCount (outside set) n - p .breakable .fits .sums .limit
 
   key-same : SameTable n key part
   key-same = record {
@@ -168,7 +168,7 @@ module _ (n set : ℕ) (sheet : List ℤ) (r : Rule) (w v u part : List ℤ) (p 
 
     -- the values complete the sheet and break the rule
     pub sheet-shown : (v' : List ℤ) → v' ≡ readBack set Inside n z n v₁ → SheetShown n sheet r v'
-    unfolding hideUpTo hiddenCount readable
+    unfolding hideUpTo memberCount readable
     sheet-shown v' e = rw e (record {
       satisfies = rw none at (read-satisfies set Inside n wide sheet z v₁ readable alone (same-satisfies n part key (assignmentOf v₁) (same-back n key part key-same) (b .satisfies)) n
           (omega arith));

@@ -15,7 +15,7 @@ use Rattle.words.specs.Change.{wordAt}
 use Rattle.places.specs.Numbering.{blockStart}
 use Rattle.rules.specs.declared.rule.Rule.{Rule}
 use Rattle.rules.specs.declared.paper.Paper.the-variants.{Sheet}
-use Rattle.rules.specs.Hidden.{hiddenIn, hiddenCount}
+use Rattle.rules.specs.Hidden.{hiddenIn, memberCount}
 use Rattle.rules.specs.Limits.{maxQuantities, boundLimit}
 use Rattle.rules.specs.Steps.{oppositeOf}
 use Rattle.rules.proofs.Meanings.{opposite-bound}
@@ -112,8 +112,8 @@ module _ (n set : ℕ) (sheet script : List ℤ) (w v : ℕ) (m : TablesAccepted
     limit = boundLimit Sheet n set;
     within = m .limits .sheet-within;
     last = let one : limit ≤ limit = omega arith in
-        let most : hiddenCount (hiddenIn set) n ≤ n = omega (arith, count-both (hiddenIn set) n) in
-        omega (arith, mul-le-mul one (pow-mono {i = hiddenCount (hiddenIn set) n} {j = n} most), limit-small, add-mul limit 1 (2 ^ n));
+        let most : memberCount (hiddenIn set) n ≤ n = omega (arith, count-both (hiddenIn set) n) in
+        omega (arith, mul-le-mul one (pow-mono {i = memberCount (hiddenIn set) n} {j = n} most), limit-small, add-mul limit 1 (2 ^ n));
   }
 
   -- the key itself is like a key,
@@ -169,8 +169,8 @@ module _ (n set : ℕ) (sheet script : List ℤ) (w v : ℕ) (m : TablesAccepted
 
   -- where all values fit
   pub tight-values : (k : ℕ) (values : List ℤ) (p : HoldsRule n script k) (l : n ≤ length values) (b : Breaks (Satisfies n (keyOf (hiddenIn set) n sheet)) (ruleIn script k))
-      → (tight-breakable k values p l b .fits .sums .limit * 2 ^ hiddenCount (outside set) n - tight-breakable k values p l b .fits .sums .limit)
-      + (sheet-hides .limit * 2 ^ hiddenCount (hiddenIn set) n - sheet-hides .limit) < 2 ^ 62
+      → (tight-breakable k values p l b .fits .sums .limit * 2 ^ memberCount (outside set) n - tight-breakable k values p l b .fits .sums .limit)
+      + (sheet-hides .limit * 2 ^ memberCount (hiddenIn set) n - sheet-hides .limit) < 2 ^ 62
   unfolding tight-breakable sheet-hides
   tight-values k values p l b =
       rw (opposed-limit n set limit script key k limit-small (m .sized .most) script-like key-like p values l b) (values-small n set limit limit-small)

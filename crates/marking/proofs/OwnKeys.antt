@@ -1,12 +1,12 @@
 -- A sheet's own key is accepted as its script and found equal: its bounds are in a script's limit, it names visible quantities alone, and by demand 2 it allows what the sheet
 -- allows. Assumes nothing.
-use mathlib.Core.Path.{_≡_, refl, ap}
+use mathlib.Core.Path.{_≡_, refl, _∙_, ap}
 use mathlib.Core.Bool.{true, false}
 use mathlib.Core.List.{List}
 use Prim.Native.Nat.{ℕ, _≤_}
 use native.Mathlib.Omega.{arith}
 use lib.IntN.{ℤ}
-use lib.ListN.{length}
+use lib.ListN.{length, length-take}
 use Rattle.places.specs.Numbering.{blockStart}
 use Rattle.rules.specs.declared.paper.Paper.the-variants.{Script}
 use Rattle.rules.specs.Hidden.{hiddenIn}
@@ -19,7 +19,7 @@ use Rattle.keys.specs.Promises.{KeyMade}
 use Rattle.keys.proofs.Fitting.{sheet-fits}
 use Rattle.keys.proofs.Parts.{front-word}
 use Rattle.keys.proofs.Several.{key-length}
-use Rattle.keys.proofs.Copying.{SameTable, same-back, holds-same, same-satisfies, same-within}
+use Rattle.keys.proofs.Copying.{SameTable, same-back, holds-same, same-satisfies, same-within, same-key}
 use Rattle.keys.proofs.Promised.{key-made}
 use Rattle.tables.proofs.Tests.{clash}
 use Rattle.marking.specs.declared.verdict.Verdict.{Verdict}
@@ -46,12 +46,24 @@ module _ (n set : ℕ) (sheet script : List ℤ) (o : OwnKey n set sheet script)
   made : KeyMade n set sheet key
   made = key-made n set sheet (sheet-fits n set sheet (o .sized .most) (o .sized .room) (o .within .1)) (o .within .1) (o .some)
 
-  -- the script has the key's words
+  -- the key call was lent the sheet's words
+  copied : SameTable n sheet (o .copy)
+  copied = record {
+    mine = o .sized .room;
+    theirs = omega (arith, length-take (blockStart n) (o .copy), ap length (o .copied), length-take (blockStart n) sheet, o .sized .room);
+    words = front-word (blockStart n) sheet (o .copy) (o .copied);
+  }
+
+  -- so the script has the key's
   same : SameTable n key script
-  same = record { mine = omega (arith, key-length (hiddenIn set) n sheet, o .sized .room); theirs = o .room; words = front-word (blockStart n) key script (o .same) }
+  same = record {
+    mine = omega (arith, key-length (hiddenIn set) n sheet, o .sized .room);
+    theirs = o .room;
+    words = λ k h. front-word (blockStart n) (keyOf (hiddenIn set) n (o .copy)) script (o .same) k h ∙ same-key (hiddenIn set) n sheet (o .copy) copied .words k h;
+  }
 
   script-bounds : BoundsWithin Script n set script
-  script-bounds = same-within n (boundLimit Script n set) key script same (made .like .growth)
+  script-bounds = same-within n (boundLimit Script n set) key script same (made .like .within)
 
   script-names : NamesVisible n (hiddenIn set) script
   script-names = record { each = λ k p q e. made .like .visible .each k (holds-same n key script k same p) q (rw (same .words k (p .inside)) at e) }

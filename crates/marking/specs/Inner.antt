@@ -16,7 +16,7 @@ use Rattle.places.specs.Numbering.{blockStart}
 use Rattle.rules.specs.declared.rule.Rule.{Rule}
 use Rattle.rules.specs.declared.paper.Paper.the-variants.{Sheet, Script}
 use Rattle.rules.specs.Limits.{maxQuantities}
-use Rattle.rules.specs.Hidden.{hiddenIn, hiddenCount, setWithin}
+use Rattle.rules.specs.Hidden.{hiddenIn, memberCount, setWithin}
 use Rattle.rules.specs.Meaning.{Meets, names}
 use Rattle.tables.specs.Places.{ruleAt}
 use Rattle.tables.specs.Tables.{hasRule}
@@ -145,8 +145,8 @@ pub record SheetBreakable (n set : ℕ) (sheet : List ℤ) (r : Rule) (workspace
   pub hides : SetFits (hiddenIn set) n sheet
   pub breakable : RuleBreakable n set (keyOf (hiddenIn set) n sheet) r values
   pub visible : (q : ℕ) → names q r ≡ true → hiddenIn set q ≡ false
-  pub small : (breakable .fits .sums .limit * 2 ^ hiddenCount (outside set) n - breakable .fits .sums .limit)
-      + (hides .limit * 2 ^ hiddenCount (hiddenIn set) n - hides .limit) < 2 ^ 62
+  pub small : (breakable .fits .sums .limit * 2 ^ memberCount (outside set) n - breakable .fits .sums .limit)
+      + (hides .limit * 2 ^ memberCount (hiddenIn set) n - hides .limit) < 2 ^ 62
   pub room : workspaceSize n ≤ length workspace
 
 pub record SomeSheetBreakable (n set : ℕ) (r : Rule) (workspace values : List ℤ) : Type 0 where

@@ -138,10 +138,13 @@ markNeeds n set sheet script w v =
 
 -- ---- a sheet's own key
 
--- the script is the plain key of its sheet, one that the key call accepts: its first words are those of the table that the call leaves
+-- the script is the plain key of its sheet, one that the key call accepts. The call replaces the table that it is lent, so it is lent a copy: the script's first words are
+-- those that it leaves there
 pub record OwnKey (n set : ℕ) (sheet script : List ℤ) : Type 0 where
   pub sized : TableSized n (length sheet)
   pub room : blockStart n ≤ length script
   pub within : NumbersWithin n set sheet
   pub some : Satisfiable n sheet
-  pub same : take (blockStart n) script ≡ take (blockStart n) (keyOf (hiddenIn set) n sheet)
+  pub copy : List ℤ
+  pub copied : take (blockStart n) copy ≡ take (blockStart n) sheet
+  pub same : take (blockStart n) script ≡ take (blockStart n) (keyOf (hiddenIn set) n copy)

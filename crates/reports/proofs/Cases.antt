@@ -29,7 +29,7 @@ use Rattle.numerals.proofs.Decimals.{up-to-enough}
 use Rattle.numerals.specs.Parsing.{andThen, expect, digitsFrom, numeralOf}
 use Rattle.lines.specs.Spelling.{two, termText, ruleText, joinedText, listText, valueText, lineText, cancelling, writtenRule}
 use Rattle.lines.specs.Lines.{ended, countLine, membersAfter, membersFrom, listOf, hiddenLine, termOf, boundAt, boundLine, afterTerm, ruleLine, judged, countJudged, hiddenJudged, ruleJudged}
-use Rattle.rules.specs.Hidden.{hiddenIn, setOf, hiddenCount}
+use Rattle.rules.specs.Hidden.{hiddenIn, setOf, memberCount}
 use Rattle.reading.specs.Texts.{Contents, linesText, headerText, sheetText}
 use Rattle.reading.specs.Meaning.{rulesOf}
 use Rattle.reading.specs.Reading.{onward, rulesFrom, linesFrom, checkText}
@@ -189,7 +189,7 @@ unfolding
     blockStart placeOfOne placeOfPair placeOfTwo findTwo blockUpTo blockOf offsetOf isOne higherAt lowerAt
     names ruleOf oppositeOf halvedOf ruleAt findPlace putAt putHalved putRule putAll cleared
     withSum withHalf bareBelow pairWord onOne onTwo liveAt pairing anyBare paired contradicts eliminated
-    boundLimit hiddenCount hideUpTo keyOf refutedUpTo refuted
+    boundLimit memberCount hideUpTo keyOf refutedUpTo refuted
     breakable firstRule firstBroken verdictOf namesHidden anyNamesHidden
     andThen expect digitsFrom numeralOf cancelling writtenRule
     ended countLine membersAfter membersFrom listOf hiddenLine termOf boundAt boundLine afterTerm ruleLine judged countJudged hiddenJudged ruleJudged setOf

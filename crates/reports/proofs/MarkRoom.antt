@@ -12,7 +12,7 @@ use Rattle.rules.specs.declared.rule.Rule.{Rule}
 use Rattle.rules.specs.declared.rule.Rule.the-variants.{One, Two, Nothing}
 use Rattle.rules.specs.declared.paper.Paper.the-variants.{Sheet, Script}
 use Rattle.rules.specs.declared.refusal.Refusal.{Refusal}
-use Rattle.rules.specs.Limits.{maxQuantities, maxRules}
+use Rattle.rules.specs.Limits.{maxQuantities, boundLimit, maxRules}
 use Rattle.rules.specs.Hidden.{hiddenIn}
 use Rattle.rules.specs.Meaning.{hasTerm}
 use Rattle.rules.specs.Refusal.{refusalLine}
@@ -24,7 +24,6 @@ use Rattle.marking.specs.declared.verdict.Verdict.{Verdict}
 use Rattle.marking.specs.declared.verdict.Verdict.the-variants.{Equal, Loose, Tight}
 use Rattle.marking.specs.Meaning.{LooseRule, TightRule}
 use Rattle.reading.specs.Texts.{Contents}
-use Rattle.reading.specs.Meaning.{contentsLimit}
 use Rattle.reading.proofs.Limits.{limit-told}
 use Rattle.writing.specs.Writing.{ruleLineText}
 use Rattle.writing.specs.Promises.{maxLine}
@@ -62,16 +61,16 @@ loose-line : (c : Contents) → FineSheet c → {paper : Solutions} {r : Rule} �
 loose-line c s {paper} {r} =
     ⊎-elim (λ a. bare-line r (a .1))
     (λ b.
-    let small : contentsLimit Script c < 2 ^ 63 = omega (arith, limit-told Script (c .count) (setIn c) (s .most)) in
-    broken-short (contentsLimit Script c) (b .1) (s .most) small (key-like c s .growth))
+    let small : boundLimit Script (c .count) (setIn c) < 2 ^ 63 = omega (arith, limit-told Script (c .count) (setIn c) (s .most)) in
+    broken-short (boundLimit Script (c .count) (setIn c)) (b .1) (s .most) small (key-like c s .within))
 
 -- the line of a tight verdict's rule
 tight-line : (c d : Contents) → FineSheet c → FineTable Script d → d .count ≡ c .count → {paper : Solutions} {r : Rule}
     → TightRule (c .count) paper (tableIn d) r → length (ruleLineText r) ≤ maxLine
 tight-line c d s u e l =
-    let small : contentsLimit Script d < 2 ^ 63 = omega (arith, limit-told Script (d .count) (setIn d) (u .most)) in
-    broken-short (contentsLimit Script d) l (s .most) small
-    (subst (λ (n : ℕ). WordsWithin (blockStart n) (pos (contentsLimit Script d)) (tableIn d)) e (u .bounds))
+    let small : boundLimit Script (d .count) (setIn d) < 2 ^ 63 = omega (arith, limit-told Script (d .count) (setIn d) (u .most)) in
+    broken-short (boundLimit Script (d .count) (setIn d)) l (s .most) small
+    (subst (λ (n : ℕ). WordsWithin (blockStart n) (pos (boundLimit Script (d .count) (setIn d))) (tableIn d)) e (u .bounds))
 
 -- that line and the line of an assignment in its range
 shown-short : (n : ℕ) (r : Rule) (values : List ℤ) → n ≤ maxQuantities → length (ruleLineText r) ≤ maxLine → ValuesWithin n values

@@ -6,12 +6,12 @@ use mathlib.Core.List.{List, _++_}
 use mathlib.Core.Logic.{_↔_, _⊎_, inl, inr, ⊎-elim}
 use Prim.Native.Nat.{ℕ, _≤_}
 use native.Mathlib.Omega.{arith}
-use lib.ListN.{length, drop, length-append}
-use lib.Seq.{length-take-le}
+use lib.ListN.{length, take, drop, length-append}
+use lib.Seq.{take-all, length-take-le, take-append-seam}
+use Rattle.places.specs.Numbering.{blockStart}
 use Rattle.rules.specs.declared.paper.Paper.the-variants.{Sheet}
 use Rattle.rules.specs.declared.refusal.Refusal.{Refusal}
 use Rattle.rules.specs.declared.refusal.Refusal.the-variants.{NoAssignment}
-use Rattle.rules.specs.Limits.{maxQuantities}
 use Rattle.rules.specs.Meaning.{Assignment}
 use Rattle.keys.specs.Keys.{refuted}
 use Rattle.numerals.specs.Writing.{Spliced}
@@ -27,11 +27,8 @@ use Rattle.reports.specs.Reports.{tableReport, reportOf, keyReport}
 use Rattle.reports.specs.Meaning.{KeyText, Unmet}
 use Rattle.reports.specs.Promises.{KeyPrinted}
 use Rattle.reading.proofs.Means.{Means, text-means, reads-check}
-use Rattle.marking.specs.declared.verdict.Verdict.the-variants.{Equal}
-use Rattle.scripts.specs.declared.reply.TextMarking.the-variants.{Marked}
-use Rattle.scripts.specs.Marking.{textsReply}
-use Rattle.scripts.specs.Meaning.{setIn, tableIn, keyIn, ownLengths}
-use Rattle.scripts.proofs.OwnKeys.{key-reads, key-spares, key-rules, own-in-room}
+use Rattle.scripts.specs.Meaning.{setIn, tableIn, keyIn, OwnKeyText}
+use Rattle.scripts.proofs.OwnKeys.{key-reads, key-spares, key-rules, own-reply}
 use Rattle.scripts.proofs.Sheets.{FineSheet, fine-table, sheet-refuted, sheet-unmet, sheet-met, key-text-short}
 use Rattle.reports.proofs.RefusalLengths.{refusal-width}
 use Rattle.reports.proofs.PrintedReplies.{refusal-same, fails-number, text-unlike}
@@ -88,12 +85,19 @@ report-some s c p σ₀ m =
       meaning = key-rules c t σ₀ m;
     }
 
--- which is equal as the sheet's script
-report-own : (s : List ℕ) (c : Contents) → Reads Sheet s c → (σ : Assignment) → rulesOf c σ → textsReply s (keyReport s) (ownLengths maxQuantities) ≡ Marked (c .count) Equal
+-- which is that of the sheet's own key
+pub report-own : (s : List ℕ) (c : Contents) → Reads Sheet s c → (σ : Assignment) → rulesOf c σ → OwnKeyText s (keyReport s)
 report-own s c p σ m =
     let t = fine-table Sheet c (p .spelled .fine) in
-    let e = report-accepted s c p ∙ report-key c (sheet-met c t σ m) in
-    own-in-room s (keyReport s) maxQuantities (record { contents = c; reads = p; integers = σ; satisfied = m; text = e }) (t .most)
+    record {
+      contents = c;
+      reads = p;
+      integers = σ;
+      satisfied = m;
+      table = tableIn c;
+      held = take-all (blockStart (c .count)) (tableIn c) (omega (arith, t .size));
+      text = report-accepted s c p ∙ report-key c (sheet-met c t σ m);
+    }
 
 -- what is printed is a refusal's text: it is the text's own, or 5 and no integers meet its rules
 report-tells : (s : List ℕ) (f : Refusal) → keyReport s ≡ refusalText f → FailsFor Sheet s f ⊎ ((f ≡ NoAssignment) × Unmet s)
@@ -125,9 +129,11 @@ five-exactly s = (
 
 -- the record of the contract, where the text printed is known
 pub printed : {s out text : List ℕ} {end : ℕ} {out' : List ℕ} → keyReport s ≡ text → Spliced out 0 text end out' → KeyPrinted s out end out'
+unfolding report-own
 printed {s} {out} {text} {end} {out'} e w =
     let count : end ≡ length (keyReport s) = omega (arith, w .cursor, ap length e) in
     let bytes : out' ≡ keyReport s ++ drop (length (keyReport s)) out = rw e (w .buffer ∙ splice-start out text) in
+    let text : take end out' ≡ keyReport s = rw (count, bytes) (take-append-seam (keyReport s) (drop (length (keyReport s)) out)) in
     let room : end ≤ length out' = omega (arith, ap length bytes, length-append (keyReport s) (drop (length (keyReport s)) out)) in
     record {
       count = count;
@@ -137,5 +143,6 @@ printed {s} {out} {text} {end} {out'} e w =
       refused = refused-exactly s;
       five = five-exactly s;
       some = report-some s;
-      own-script = report-own s;
+      own-key = λ c p σ m. rw text (report-own s c p σ m);
+      own-script = λ c p σ m lent enough. own-reply s (take end out') lent (rw text (report-own s c p σ m)) enough;
     }

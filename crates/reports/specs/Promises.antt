@@ -15,11 +15,12 @@ use Rattle.marking.specs.declared.verdict.Verdict.{Verdict}
 use Rattle.marking.specs.declared.verdict.Verdict.the-variants.{Equal}
 use Rattle.reading.specs.Texts.{Contents}
 use Rattle.reading.specs.Meaning.{Reads, rulesOf, FailsFor}
+use Rattle.scripts.specs.declared.room.Lengths.{Lengths}
 use Rattle.scripts.specs.declared.reply.Subject.{Subject}
 use Rattle.scripts.specs.declared.reply.TextMarking.{TextMarking}
 use Rattle.scripts.specs.declared.reply.TextMarking.the-variants.{Marked}
 use Rattle.scripts.specs.Promises.{TextsJudged}
-use Rattle.scripts.specs.Meaning.{AcceptedPair, RefusedPair, OwnKeyText, ownLengths}
+use Rattle.scripts.specs.Meaning.{AcceptedPair, RefusedPair, Room, OwnKeyText, ownLengths}
 use Rattle.scripts.specs.Marking.{textsReply}
 use Rattle.reports.specs.Refusals.{refusalText}
 use Rattle.reports.specs.Marks.{verdictText, refusedMarkText, markText}
@@ -37,9 +38,10 @@ pub record KeyPrinted (s : List ℕ) (out : List ℕ) (end : ℕ) (out' : List �
   pub refused : (f : Refusal) → (f ≡ NoAssignment → ⊥) → (keyReport s ≡ refusalText f) ↔ FailsFor Sheet s f
   pub five : (keyReport s ≡ refusalText NoAssignment) ↔ Unmet s
   pub some : (c : Contents) → Reads Sheet s c → (σ : Assignment) → rulesOf c σ → KeyText c (keyReport s)
-  -- handed in as the sheet's script, what is printed then is accepted and found equal
-  pub own-script : (c : Contents) → Reads Sheet s c → (σ : Assignment) → rulesOf c σ
-      → textsReply s (keyReport s) (ownLengths maxQuantities) ≡ Marked (c .count) Equal
+  -- what is printed then is the text of the sheet's own key, and handed in as its script it is accepted and found equal, with the lent words there
+  pub own-key : (c : Contents) → Reads Sheet s c → (σ : Assignment) → rulesOf c σ → OwnKeyText s (take end out')
+  pub own-script : (c : Contents) → Reads Sheet s c → (σ : Assignment) → rulesOf c σ → (lent : Lengths) → Room (c .count) lent
+      → textsReply s (take end out') lent ≡ Marked (c .count) Equal
 
 -- ---- *mark*
 

@@ -1,13 +1,14 @@
 -- The text of a sheet's own key, read as its script, is accepted and found equal: every line of it is fine in a script's limit, it is not too long, it names no hidden quantity,
 -- and by demand 2 its rules allow what the sheet allows. Assumes nothing.
-use mathlib.Core.Path.{_≡_, refl, _∙_}
+use mathlib.Core.Path.{_≡_, refl, sym, _∙_, ap}
 use mathlib.Core.Bool.{Bool, true, false, cond}
 use mathlib.Core.List.{List, [], _∷_}
 use Prim.Native.Nat.{ℕ, suc, _+_, _≤_, _<_}
 use native.Mathlib.Nat.{add-zero, zero-add, add-suc, suc-add}
 use native.Mathlib.Omega.{arith}
-use lib.IntN.{ℤ}
-use lib.ListN.{length, take}
+use lib.IntN.{ℤ, pos}
+use lib.ListN.{length, take, length-take}
+use lib.Seq.{take-all, length-take-le, getD-take, ext-getD}
 use Rattle.words.specs.Change.{wordAt}
 use Rattle.places.specs.Numbering.{blockStart}
 use Rattle.places.proofs.Numbering.{blockStart-mono}
@@ -21,12 +22,16 @@ use Rattle.tables.specs.Tables.{hasRule}
 use Rattle.tables.specs.Meaning.{HoldsRule, ruleIn, Satisfies, NamesVisible, NoneNames}
 use Rattle.tables.proofs.Tests.{clash}
 use Rattle.lines.specs.Spelling.{writtenRules}
-use Rattle.reading.specs.Texts.{Contents}
+use Rattle.reading.specs.Texts.{Contents, sheetText}
 use Rattle.reading.specs.Meaning.{Reads, rulesOf}
 use Rattle.reading.proofs.Means.{reads-check}
-use Rattle.writing.specs.Writing.{writtenOf, rulesAt, tableRules, writtenText}
-use Rattle.writing.proofs.Meanings.{written-rule, front-word, table-meaning}
+use Rattle.writing.specs.Writing.{writtenOf, rulesAt, tableRules, hiddenList, writtenText}
+use Rattle.writing.proofs.Meanings.{written-rule, table-meaning}
+use Rattle.writing.proofs.Meanings.{front-word as written-word}
 use Rattle.writing.proofs.Back.{key-reads as written-key}
+use Rattle.keys.specs.Keys.{keyOf}
+use Rattle.keys.proofs.Parts.{front-word}
+use Rattle.keys.proofs.Copying.{SameTable, same-key}
 use Rattle.marking.specs.declared.verdict.Verdict.the-variants.{Equal}
 use Rattle.marking.specs.Meaning.{AllowSame}
 use Rattle.marking.specs.Marking.{verdictOf}
@@ -51,6 +56,37 @@ keyContents c = record { count = c .count; hiddens = c .hiddens; written = table
 
 pub key-reads : (c : Contents) → FineSheet c → Reads Script (writtenText (c .count) (setIn c) (keyIn c)) (keyContents c)
 key-reads c s = rw (s .back) at (written-key (c .count) (setIn c) (keyIn c) (s .some) (s .most) (s .range) (omega (arith, key-length c s)) (key-like c s))
+
+-- tables that are the same have the same first words, and so the same text
+same-front : (n : ℕ) (t u : List ℤ) → SameTable n t u → take (blockStart n) u ≡ take (blockStart n) t
+same-front n t u s = ext-getD (pos 0) (take (blockStart n) u) (take (blockStart n) t) (omega (arith, mine, theirs)) each
+  where
+    mine : length (take (blockStart n) t) ≡ blockStart n
+    mine = length-take-le (blockStart n) t (s .mine)
+
+    theirs : length (take (blockStart n) u) ≡ blockStart n
+    theirs = length-take-le (blockStart n) u (s .theirs)
+
+    each : (k : ℕ) → k < length (take (blockStart n) u) → wordAt (take (blockStart n) u) k ≡ wordAt (take (blockStart n) t) k
+    each k h =
+        let b : k < blockStart n = omega (arith, theirs) in
+        getD-take (blockStart n) u k (pos 0) b ∙ s .words k b ∙ sym (getD-take (blockStart n) t k (pos 0) b)
+
+same-text : (n set : ℕ) (t u : List ℤ) → SameTable n t u → writtenText n set u ≡ writtenText n set t
+unfolding writtenText
+same-text n set t u s = ap (λ (front : List ℤ). sheetText (record { count = n; hiddens = hiddenList n set; written = rulesAt 0 front })) (same-front n t u s)
+
+-- so whatever table the key is made in, its text is that of the key of the rules
+held-text : (c : Contents) (t : List ℤ) → FineSheet c → take (blockStart (c .count)) t ≡ tableIn c
+    → writtenText (c .count) (setIn c) (keyOf (hiddenIn (setIn c)) (c .count) t) ≡ writtenText (c .count) (setIn c) (keyIn c)
+held-text c t f e = same-text (c .count) (setIn c) (keyIn c) (keyOf (hiddenIn (setIn c)) (c .count) t) (same-key (hiddenIn (setIn c)) (c .count) (tableIn c) t same)
+  where
+    same : SameTable (c .count) (tableIn c) t
+    same = record {
+      mine = omega (arith, f .size);
+      theirs = omega (arith, length-take (blockStart (c .count)) t, ap length e, f .size);
+      words = front-word (blockStart (c .count)) (tableIn c) t (e ∙ sym (take-all (blockStart (c .count)) (tableIn c) (omega (arith, f .size))));
+    }
 
 own-reads : (c : Contents) (s : List ℕ) → FineSheet c → s ≡ writtenText (c .count) (setIn c) (keyIn c) → Reads Script s (keyContents c)
 own-reads c s f e = rw e (key-reads c f)
@@ -83,7 +119,7 @@ table-spares n hidden t v q h = words-spare q 0 (take (blockStart n) t) each
 
     each : EachSpares q 0 (take (blockStart n) t)
     each k l e =
-        let w = front-word (blockStart n) t k l in
+        let w = written-word (blockStart n) t k l in
         rw (zero-add k, w .2) (spared k (record { inside = w .0; there = w .1; rule = rw (w .2) at e }) (names q (ruleIn t k)) refl)
 
 -- so none of a key's does
@@ -116,7 +152,7 @@ module _ (sheet script : List ℕ) (lent : Lengths) (k : OwnKeyText sheet script
   fine = fine-table Sheet c (k .reads .spelled .fine)
 
   script-reads : Reads Script script d
-  script-reads = own-reads c script fine (k .text)
+  script-reads = own-reads c script fine (k .text ∙ held-text c (k .table) fine (k .held))
 
   written : FineTable Script d
   written = fine-table Script d (script-reads .spelled .fine)

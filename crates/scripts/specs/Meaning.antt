@@ -4,7 +4,7 @@ use mathlib.Core.Bool.{true}
 use mathlib.Core.List.{List}
 use Prim.Native.Nat.{ℕ, _≤_}
 use lib.IntN.{ℤ}
-use lib.ListN.{length}
+use lib.ListN.{length, take}
 use Rattle.places.specs.Numbering.{blockStart}
 use Rattle.rules.specs.declared.paper.Paper.the-variants.{Sheet, Script}
 use Rattle.rules.specs.declared.refusal.Refusal.{Refusal}
@@ -102,10 +102,13 @@ pub record Room (n : ℕ) (lent : Lengths) : Type 0 where
   pub workspace-room : workspaceSize n ≤ lent .workspace
   pub values-room : n ≤ lent .values
 
--- the script is the writer's text of the plain key of its sheet, a fine text whose rules some integers satisfy
+-- the script is the writer's text of the plain key of its sheet, a fine text whose rules some integers satisfy. The key is made in a table that holds these rules in its first
+-- words, as reading leaves it
 pub record OwnKeyText (sheet script : List ℕ) : Type 0 where
   pub contents : Contents
   pub reads : Reads Sheet sheet contents
   pub integers : Assignment
   pub satisfied : rulesOf contents integers
-  pub text : script ≡ writtenText (contents .count) (setIn contents) (keyIn contents)
+  pub table : List ℤ
+  pub held : take (blockStart (contents .count)) table ≡ tableIn contents
+  pub text : script ≡ writtenText (contents .count) (setIn contents) (keyOf (hiddenIn (setIn contents)) (contents .count) table)

@@ -13,7 +13,7 @@ use Rattle.integers.proofs.Parts.{positivePart, negativePart}
 use Rattle.integers.proofs.Within.{within-mono, within-of}
 use Rattle.words.specs.Change.{wordAt, change, fillFrom}
 use Rattle.words.proofs.Change.{change-length, change-drop, change-below}
-use Rattle.rules.specs.Hidden.{hiddenIn, hiddenCount}
+use Rattle.rules.specs.Hidden.{hiddenIn, memberCount}
 use Rattle.tables.specs.Meaning.{Satisfies, assignmentOf}
 use Rattle.tables.proofs.Tests.{clash}
 use Rattle.elimination.specs.Magnitude.{valueLimit}
@@ -60,7 +60,7 @@ module _ (n set : ℕ) (table values : List ℤ) where
 
   -- and then are an assignment of it
   pub filled : (values' : List ℤ) → Fillable n set table values → values' ≡ readBack set Outside n table n (change n (fillFrom 0 (pos 0)) values) → Filled n set table values values'
-  unfolding hideUpTo hiddenCount reduced-readable
+  unfolding hideUpTo memberCount reduced-readable
   filled values' f e = rw e (record {
     meaning = λ t r. meaning t r;
     zero = λ i h d. read-others set Outside n 0 (f .from) table zeroed (readable f) (f .reduced .fits .alone) n (omega arith) i (rw d) ∙ zeroed-word (f .values-room) i h;
@@ -80,7 +80,7 @@ module _ (n set : ℕ) (table values : List ℤ) where
 
       small : (t : List ℤ) (r : Reduced n set t table)
           → 0 + (memberLimit (outside set) (r .fits .sums .limit) n - memberLimit (outside set) (r .fits .sums .limit) (n - n))
-          ≤ r .fits .sums .limit * 2 ^ hiddenCount (outside set) n - r .fits .sums .limit
+          ≤ r .fits .sums .limit * 2 ^ memberCount (outside set) n - r .fits .sums .limit
       small t r = rw none (omega arith)
 
       meaning : (t : List ℤ) → Reduced n set t table → Satisfies n t (assignmentOf (readBack set Outside n table n zeroed))

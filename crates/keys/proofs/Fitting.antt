@@ -16,7 +16,7 @@ use Rattle.integers.proofs.Within.{within-mono}
 use Rattle.places.specs.Numbering.{blockStart}
 use Rattle.rules.specs.declared.paper.Paper.the-variants.{Sheet, Script}
 use Rattle.rules.specs.Limits.{maxQuantities, maxBound, boundLimit}
-use Rattle.rules.specs.Hidden.{hiddenIn, hiddenCount}
+use Rattle.rules.specs.Hidden.{hiddenIn, memberCount}
 use Rattle.rules.proofs.Counts.{count-most}
 use Rattle.tables.specs.Meaning.{WordsWithin, BoundsWithin}
 use Rattle.tables.proofs.Tests.{clash}
@@ -83,15 +83,15 @@ doubled B c = rw (two-pow-succ c) (mul-add B (2 ^ c) (2 ^ c))
 
 -- a limit doubled for each member among the first j quantities
 abbrev pub memberLimit : (ℕ → Bool) → ℕ → ℕ → ℕ
-memberLimit members L j = L * 2 ^ hiddenCount members j
+memberLimit members L j = L * 2 ^ memberCount members j
 
 -- one quantity more: a member doubles it, another leaves it
 pub limit-step : (members : ℕ → Bool) (L j : ℕ) → members (suc j) ≡ true → memberLimit members L (suc j) ≡ memberLimit members L j + memberLimit members L j
-unfolding hiddenCount
-limit-step members L j e = rw (e, doubled L (hiddenCount members j))
+unfolding memberCount
+limit-step members L j e = rw (e, doubled L (memberCount members j))
 
 pub limit-stays : (members : ℕ → Bool) (L j : ℕ) → members (suc j) ≡ false → memberLimit members L (suc j) ≡ memberLimit members L j
-unfolding hiddenCount
+unfolding memberCount
 limit-stays members L j e = rw e
 
 limit-more : (members : ℕ → Bool) (L j : ℕ) → memberLimit members L j ≤ memberLimit members L (suc j)
@@ -114,7 +114,7 @@ limit-rises members L a (suc b) h = go (ltb b a) refl (limit-rises members L a b
 pub hidden-within : (hidden members : ℕ → Bool) (n m L : ℕ) (t : List ℤ) → m ≤ n → blockStart n ≤ length t → WordsWithin (blockStart n) (pos L) t
     → ((j : ℕ) → j < n → hidden (suc j) ≡ true → (members (suc j) ≡ true) ⊎ Unnamed n j t)
     → WordsWithin (blockStart n) (pos (memberLimit members L m)) (hideUpTo hidden n m t)
-unfolding hiddenCount
+unfolding memberCount
 hidden-within hidden members n m L t h l w named = hide-within hidden n m (memberLimit members L) t h (record {
   room = l;
   start = words-mono (blockStart n) L (L * 2 ^ 0) t (omega arith) w;
@@ -128,7 +128,7 @@ hidden-within hidden members n m L t h l w named = hide-within hidden n m (membe
 
 -- so a key of a table within B, with k quantities hidden, is within B * 2 ^ k
 pub key-within : (hidden : ℕ → Bool) (n B : ℕ) (t : List ℤ) → blockStart n ≤ length t → WordsWithin (blockStart n) (pos B) t
-    → WordsWithin (blockStart n) (pos (B * 2 ^ hiddenCount hidden n)) (keyOf hidden n t)
+    → WordsWithin (blockStart n) (pos (B * 2 ^ memberCount hidden n)) (keyOf hidden n t)
 unfolding keyOf
 key-within hidden n B t l w = hidden-within hidden hidden n n B t (omega arith) l w (λ j g e. inl e)
 
@@ -174,7 +174,7 @@ limit-doubled n set h =
     omega (arith, mul-le-mul one (pow-mono {i = n} {j = maxQuantities} h))
 
 -- a script's is the limit of a key
-pub script-limit : (n set : ℕ) → boundLimit Sheet n set * 2 ^ hiddenCount (hiddenIn set) n ≡ boundLimit Script n set
+pub script-limit : (n set : ℕ) → boundLimit Sheet n set * 2 ^ memberCount (hiddenIn set) n ≡ boundLimit Script n set
 unfolding boundLimit
 script-limit n set = refl
 
@@ -189,7 +189,7 @@ sheet-sums members n set t h l w = record {
   last = let one : boundLimit Sheet n set ≤ boundLimit Sheet n set = omega arith in
       omega (
         arith,
-        mul-le-mul one (pow-mono {i = hiddenCount members n} {j = n} (count-most members n)),
+        mul-le-mul one (pow-mono {i = memberCount members n} {j = n} (count-most members n)),
         add-mul (boundLimit Sheet n set) 1 (2 ^ n),
         limit-doubled n set h,
       );

@@ -95,7 +95,7 @@ key-made n set t f b s = record {
   steps = key-turns (hiddenIn set) n t (s .assignment) (f .sums .room) (hide-ample (hiddenIn set) n t f) (s .satisfies);
   like = record {
     visible = key-visible (hiddenIn set) n t (f .sums .room);
-    growth = rw (script-limit n set) at (key-within (hiddenIn set) n (boundLimit Sheet n set) t (f .sums .room) b);
+    within = rw (script-limit n set) at (key-within (hiddenIn set) n (boundLimit Sheet n set) t (f .sums .room) b);
   };
 }
 

@@ -16,7 +16,7 @@ use Rattle.integers.proofs.Within.{within-mono}
 use Rattle.words.specs.Change.{wordAt}
 use Rattle.words.proofs.Change.{change-drop}
 use Rattle.places.specs.Numbering.{blockStart}
-use Rattle.rules.specs.Hidden.{hiddenCount}
+use Rattle.rules.specs.Hidden.{memberCount}
 use Rattle.rules.specs.Meaning.{literalValue}
 use Rattle.tables.specs.Tables.{hasRule}
 use Rattle.tables.specs.Meaning.{assignmentOf}
@@ -188,7 +188,7 @@ read-more set part n j t values u h g e =
 
 pub read-ready : (n set : ℕ) (part : Part) (t values u : List ℤ) (j : ℕ) → PartReadable n set part t values → 0 < j → j ≤ n → u ≡ readBack set part n t (n - j) values
     → ChoiceReady n set part (j - 1) u
-unfolding hiddenCount
+unfolding memberCount
 read-ready n set part t values u j r h g e = rw e (record {
   room = omega (arith, read-length set part n (r .wide) (r .from) t values (r .readable) (r .alone) (n - j), r .readable .values-room);
   each = λ i b d. within-mono (omega (arith, r .readable .last, limit-rises (memberOf set part) (r .readable .fits .limit) 0 (n - (n - j)) (omega arith)))

@@ -12,7 +12,7 @@ use lib.Pow.{pow-mono, pow-add, pow-pos}
 use borrow.Author.Tests.{le-leb}
 use Rattle.places.specs.Numbering.{blockStart}
 use Rattle.rules.specs.declared.paper.Paper.the-variants.{Sheet}
-use Rattle.rules.specs.Hidden.{hiddenIn, hiddenCount}
+use Rattle.rules.specs.Hidden.{hiddenIn, memberCount}
 use Rattle.rules.specs.Limits.{maxQuantities, boundLimit}
 use Rattle.rules.specs.Meaning.{names}
 use Rattle.tables.specs.Meaning.{HoldsRule, ruleIn, NamesVisible, WordsWithin, BoundsWithin}
@@ -26,15 +26,15 @@ use Rattle.keys.proofs.Fitting.{key-within, limit-doubled}
 -- ---- a table that names visible quantities alone
 
 -- hidden and visible quantities together are all
-pub count-both : (hidden : ℕ → Bool) (n : ℕ) → hiddenCount hidden n + hiddenCount (λ q. not (hidden q)) n ≡ n
-unfolding hiddenCount
+pub count-both : (hidden : ℕ → Bool) (n : ℕ) → memberCount hidden n + memberCount (λ q. not (hidden q)) n ≡ n
+unfolding memberCount
 count-both hidden zero = refl
 count-both hidden (suc j) = go (count-both hidden j) (hidden (suc j))
   where
     v : ℕ
-    v = hiddenCount (λ q. not (hidden q)) j
+    v = memberCount (λ q. not (hidden q)) j
 
-    go : hiddenCount hidden j + v ≡ j → (b : Bool) → cond b (suc (hiddenCount hidden j)) (hiddenCount hidden j) + cond (not b) (suc v) v ≡ suc j
+    go : memberCount hidden j + v ≡ j → (b : Bool) → cond b (suc (memberCount hidden j)) (memberCount hidden j) + cond (not b) (suc v) v ≡ suc j
     go ih true = omega arith
     go ih false = omega arith
 
@@ -48,7 +48,7 @@ visible-unnamed hidden n j t v h = record { each = λ k p. go k p (names (suc j)
 
 -- sums fit in a table within L whose hidden quantities no rule names, where L, doubled for each visible quantity, stays below 2 ^ 62
 pub visible-rest : (n set L : ℕ) (t : List ℤ) → n ≤ maxQuantities → blockStart n ≤ length t → WordsWithin (blockStart n) (pos L) t
-    → ((j : ℕ) → hiddenIn set (suc j) ≡ true → Unnamed n j t) → L * 2 ^ hiddenCount (outside set) n < 2 ^ 62 → RestFits n set t
+    → ((j : ℕ) → hiddenIn set (suc j) ≡ true → Unnamed n j t) → L * 2 ^ memberCount (outside set) n < 2 ^ 62 → RestFits n set t
 visible-rest n set L t m l w u h = record {
   sums = record { most = m; room = l; limit = L; within = w; last = h };
   alone = λ i g e. go i (hiddenIn set (suc i)) refl (leb 0 i) refl e;
@@ -60,7 +60,7 @@ visible-rest n set L t m l w u h = record {
     go i false e false f d = clash (le-leb 0 i (omega arith)) f
 
 pub visible-limit : (n set L : ℕ) (t : List ℤ) (m : n ≤ maxQuantities) (l : blockStart n ≤ length t) (w : WordsWithin (blockStart n) (pos L) t)
-    (u : (j : ℕ) → hiddenIn set (suc j) ≡ true → Unnamed n j t) (h : L * 2 ^ hiddenCount (outside set) n < 2 ^ 62)
+    (u : (j : ℕ) → hiddenIn set (suc j) ≡ true → Unnamed n j t) (h : L * 2 ^ memberCount (outside set) n < 2 ^ 62)
     → visible-rest n set L t m l w u h .sums .limit ≡ L
 unfolding visible-rest
 visible-limit n set L t m l w u h = refl
@@ -69,7 +69,7 @@ visible-limit n set L t m l w u h = refl
 
 -- every bound of the key of a sheet within B is within this
 abbrev pub keyLimit : ℕ → ℕ → ℕ → ℕ
-keyLimit n set B = B * 2 ^ hiddenCount (hiddenIn set) n
+keyLimit n set B = B * 2 ^ memberCount (hiddenIn set) n
 
 -- one more than that, doubled for each visible quantity, is B doubled for every one and 1 for each visible one
 key-doubled : (B k v : ℕ) → (B * 2 ^ k + 1) * 2 ^ v ≡ B * 2 ^ (k + v) + 2 ^ v
@@ -78,27 +78,27 @@ key-doubled B k v =
     rw (add-mul (B * 2 ^ k) 1 (2 ^ v), whole) (omega arith)
 
 module _ (n set B : ℕ) (h : (B + 1) * 2 ^ n < 2 ^ 62) where
-  whole : (keyLimit n set B + 1) * 2 ^ hiddenCount (outside set) n ≡ B * 2 ^ n + 2 ^ hiddenCount (outside set) n
-  whole = rw (count-both (hiddenIn set) n) at (key-doubled B (hiddenCount (hiddenIn set) n) (hiddenCount (outside set) n))
+  whole : (keyLimit n set B + 1) * 2 ^ memberCount (outside set) n ≡ B * 2 ^ n + 2 ^ memberCount (outside set) n
+  whole = rw (count-both (hiddenIn set) n) at (key-doubled B (memberCount (hiddenIn set) n) (memberCount (outside set) n))
 
-  visible-most : 2 ^ hiddenCount (outside set) n ≤ 2 ^ n
-  visible-most = pow-mono {i = hiddenCount (outside set) n} {j = n} (omega (arith, count-both (hiddenIn set) n))
+  visible-most : 2 ^ memberCount (outside set) n ≤ 2 ^ n
+  visible-most = pow-mono {i = memberCount (outside set) n} {j = n} (omega (arith, count-both (hiddenIn set) n))
 
   -- so it is below 2 ^ 62,
-  pub key-fits : (keyLimit n set B + 1) * 2 ^ hiddenCount (outside set) n < 2 ^ 62
+  pub key-fits : (keyLimit n set B + 1) * 2 ^ memberCount (outside set) n < 2 ^ 62
   key-fits = omega (arith, whole, visible-most, h, add-mul B 1 (2 ^ n))
 
   -- itself a word's,
   pub key-word : keyLimit n set B + 1 < 9223372036854775807
   key-word =
       let one : keyLimit n set B + 1 ≤ keyLimit n set B + 1 = omega arith in
-      omega (arith, key-fits, mul-le-mul one (pow-pos (hiddenCount (outside set) n)))
+      omega (arith, key-fits, mul-le-mul one (pow-pos (memberCount (outside set) n)))
 
   -- and the values that break a rule of the key's size and complete the sheet are in their range: B * 2 ^ n - B + 2 ^ v - 1 at most, with v visible quantities
-  pub values-small : ((keyLimit n set B + 1) * 2 ^ hiddenCount (outside set) n - (keyLimit n set B + 1)) + (B * 2 ^ hiddenCount (hiddenIn set) n - B) < 2 ^ 62
+  pub values-small : ((keyLimit n set B + 1) * 2 ^ memberCount (outside set) n - (keyLimit n set B + 1)) + (B * 2 ^ memberCount (hiddenIn set) n - B) < 2 ^ 62
   values-small =
       let one : keyLimit n set B + 1 ≤ keyLimit n set B + 1 = omega arith in
-      omega (arith, whole, visible-most, h, add-mul B 1 (2 ^ n), mul-le-mul one (pow-pos (hiddenCount (outside set) n)))
+      omega (arith, whole, visible-most, h, add-mul B 1 (2 ^ n), mul-le-mul one (pow-pos (memberCount (outside set) n)))
 
 -- ---- a table like a key
 
@@ -113,7 +113,7 @@ pub like-rest : (n set B : ℕ) (t : List ℤ) → (B + 1) * 2 ^ n < 2 ^ 62 → 
 like-rest n set B t h m r =
     visible-rest n set (keyLimit n set B) t m (r .room) (r .within) (λ j g. visible-unnamed (hiddenIn set) n j t (r .visible) g)
     (let one : keyLimit n set B ≤ keyLimit n set B + 1 = omega arith in
-    let same : 2 ^ hiddenCount (outside set) n ≤ 2 ^ hiddenCount (outside set) n = omega arith in omega (arith, key-fits n set B h, mul-le-mul one same))
+    let same : 2 ^ memberCount (outside set) n ≤ 2 ^ memberCount (outside set) n = omega arith in omega (arith, key-fits n set B h, mul-le-mul one same))
 
 -- the key of a sheet is
 pub key-like : (n set B : ℕ) (t : List ℤ) → blockStart n ≤ length t → WordsWithin (blockStart n) (pos B) t → LikeKey n set B (keyOf (hiddenIn set) n t)

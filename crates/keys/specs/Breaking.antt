@@ -10,7 +10,7 @@ use Rattle.words.specs.Change.{wordAt}
 use Rattle.words.specs.Lent.{Lent}
 use Rattle.places.specs.Numbering.{blockStart}
 use Rattle.rules.specs.declared.rule.Rule.{Rule}
-use Rattle.rules.specs.Hidden.{hiddenIn, hiddenCount}
+use Rattle.rules.specs.Hidden.{hiddenIn, memberCount}
 use Rattle.rules.specs.Meaning.{Meets}
 use Rattle.rules.specs.Steps.{oppositeOf}
 use Rattle.tables.specs.Places.{ruleAt}
@@ -39,4 +39,4 @@ pub record RuleBroken (n set : ℕ) (table : List ℤ) (r : Rule) (values table'
   pub broken : Meets (assignmentOf values') r → ⊥
   pub zero : (i : ℕ) → i < n → hiddenIn set (suc i) ≡ true → wordAt values' i ≡ pos 0
   pub within : (f : RestFits n set (putRule table (oppositeOf r))) → (i : ℕ) → i < n
-      → Within (pos (f .sums .limit * 2 ^ hiddenCount (outside set) n - f .sums .limit)) (wordAt values' i)
+      → Within (pos (f .sums .limit * 2 ^ memberCount (outside set) n - f .sums .limit)) (wordAt values' i)

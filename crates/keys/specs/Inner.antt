@@ -18,7 +18,7 @@ use Rattle.words.specs.Lent.{Lent}
 use Rattle.places.specs.Numbering.{blockStart, isOne, higherAt, lowerAt}
 use Rattle.rules.specs.Refusing.{passed, AllMet}
 use Rattle.rules.specs.declared.refusal.Refusal.{Refusal}
-use Rattle.rules.specs.Hidden.{hiddenIn, hiddenCount}
+use Rattle.rules.specs.Hidden.{hiddenIn, memberCount}
 use Rattle.rules.specs.Limits.{maxQuantities}
 use Rattle.tables.specs.declared.reply.Reply.{Reply}
 use Rattle.tables.specs.declared.reply.Reply.the-variants.{Done, Refused}
@@ -73,7 +73,7 @@ pub record SetFits (members : ℕ → Bool) (n : ℕ) (t : List ℤ) : Type 0 wh
   pub room : blockStart n ≤ length t
   pub limit : ℕ
   pub within : WordsWithin (blockStart n) (pos limit) t
-  pub last : limit * 2 ^ hiddenCount members n < 2 ^ 62
+  pub last : limit * 2 ^ memberCount members n < 2 ^ 62
 
 -- with any quantities eliminated, where rules name members alone: a step on another enlarges nothing. A sheet does, since 10 ^ 9 * 2 ^ 32 is
 -- below 2 ^ 62; and so do a key and a script with k hidden quantities, whose bounds are 10 ^ 9 * 2 ^ k, since they name the n - k visible ones alone
@@ -137,7 +137,7 @@ pub record Readable (members : ℕ → Bool) (n wide : ℕ) (t table values : Li
   pub room : blockStart n ≤ length table
   pub values-room : n ≤ length values
   pub others : (i : ℕ) → i < n → members (suc i) ≡ false → Within (pos wide) (wordAt values i)
-  pub last : wide + (fits .limit * 2 ^ hiddenCount members n - fits .limit) < 2 ^ 62
+  pub last : wide + (fits .limit * 2 ^ memberCount members n - fits .limit) < 2 ^ 62
 
 -- a part of a table in which it was eliminated
 pub record PartReadable (n set : ℕ) (part : Part) (table values : List ℤ) : Type 0 where
@@ -179,7 +179,7 @@ pub record Filled (n set : ℕ) (table values values' : List ℤ) : Type 0 where
   pub meaning : (t : List ℤ) → Reduced n set t table → Satisfies n t (assignmentOf values')
   pub zero : (i : ℕ) → i < n → hiddenIn set (suc i) ≡ true → wordAt values' i ≡ pos 0
   pub within : (t : List ℤ) (r : Reduced n set t table) → (i : ℕ) → i < n
-      → Within (pos (r .fits .sums .limit * 2 ^ hiddenCount (outside set) n - r .fits .sums .limit)) (wordAt values' i)
+      → Within (pos (r .fits .sums .limit * 2 ^ memberCount (outside set) n - r .fits .sums .limit)) (wordAt values' i)
   pub lent : Lent n true values values'
 
 -- ---- one turn

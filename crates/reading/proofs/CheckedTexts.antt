@@ -13,7 +13,6 @@ use Rattle.reading.specs.Texts.{Contents}
 use Rattle.reading.specs.Meaning.{Passes}
 use Rattle.reading.specs.Reading.{checkText, checkedOf}
 use Rattle.reading.specs.Promises.{TextChecked}
-use Rattle.reading.proofs.Limits.{reached-range}
 use Rattle.reading.proofs.Means.{text-means, reads-check}
 use Rattle.reading.proofs.Numbers.{returned-failed, returned-passed}
 
@@ -63,5 +62,4 @@ module _ (paper : Paper) (s : List ℕ) (r : Checked) (e : r ≡ checkedOf (chec
         (λ q. m .0 (failed-refused f (w .0 q)), λ h. w .1 (refused-failed f (m .1 h)));
     passed = λ n set m body. let w = returned-passed r n set m body in
         (λ q. checked-passes n set m body (w .0 q), λ p. w .1 (passes-checked n set m body p));
-    range = reached-range s;
   }

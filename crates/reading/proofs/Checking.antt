@@ -8,7 +8,7 @@ use borrow.Author.Tests.{lt-ltb, le-ltb}
 use Rattle.rules.specs.declared.paper.Paper.{Paper}
 use Rattle.rules.specs.declared.refusal.Refusal.{Refusal}
 use Rattle.rules.specs.declared.refusal.Refusal.the-variants.{Size}
-use Rattle.rules.specs.Limits.{maxQuantities, boundLimit, maxRules, maxText}
+use Rattle.rules.specs.Limits.{maxQuantities, boundRange, boundLimit, maxRules, maxText}
 use Rattle.lines.specs.Spelling.{Line, Written, quantities, hidden, rules, quantitiesKey, rulesKey, lineText, allWithin}
 use Rattle.lines.specs.Lines.{Judged, accepted, refused, never, between, countLine, hiddenLine, countJudged, hiddenJudged}
 use Rattle.rules.specs.Hidden.{setOf}
@@ -76,10 +76,12 @@ module _ (paper : Paper) (s : List ℕ) (h : length s ≤ maxText) where
       third-checked f g = rw (le-ltb maxText (length s) h, e, d, g)
 
       -- the lines of the rules decide
-      pub rules-checked : (set m body : ℕ) → set ≡ setOf qs → body ≤ length s → countJudged rulesKey 0 maxRules 3 v ≡ accepted m (drop body s)
+      pub rules-checked : (set m body : ℕ) → set ≡ setOf qs → boundLimit paper n (setOf qs) ≡ boundRange paper n (length qs) → body ≤ length s
+          → countJudged rulesKey 0 maxRules 3 v ≡ accepted m (drop body s)
           → checkedRules n set m body (rulesFrom n (boundLimit paper n set) m 4 (drop body s)) ≡ checkedOf (checkText paper s)
       unfolding checkText linesFrom onward checkedOf checkedRules
-      rules-checked set m body told l g = rw (told, le-ltb maxText (length s) h, e, d, g) (go (rulesFrom n (boundLimit paper n (setOf qs)) m 4 (drop body s)) refl)
+      rules-checked set m body told limit l g =
+          rw (told, limit, le-ltb maxText (length s) h, e, d, g) (go (rulesFrom n (boundRange paper n (length qs)) m 4 (drop body s)) refl)
         where
           made : List Written → Contents
           made ws = record { count = n; hiddens = qs; written = ws }
@@ -87,9 +89,9 @@ module _ (paper : Paper) (s : List ℕ) (h : length s ≤ maxText) where
           begins : (ws : List Written) → length ws ≡ m → body ≡ length (headerText (made ws))
           begins ws k = omega (arith, header-end (made ws) s u v (drop body s) e d (rw k g), length-drop body s)
 
-          go : (j : Judged (List Written)) → rulesFrom n (boundLimit paper n (setOf qs)) m 4 (drop body s) ≡ j
+          go : (j : Judged (List Written)) → rulesFrom n (boundRange paper n (length qs)) m 4 (drop body s) ≡ j
               → checkedRules n (setOf qs) m body j ≡ checkedOf (onward j (λ rs. accepted (made rs)))
           go (accepted ws x) q =
-              let k : length ws ≡ m = rules-count n (boundLimit paper n (setOf qs)) m 4 (drop body s) ws x q .0 in
+              let k : length ws ≡ m = rules-count n (boundRange paper n (length qs)) m 4 (drop body s) ws x q .0 in
               ap₂ (Passed n (setOf qs)) (sym k) (begins ws k)
           go (refused f) q = refl

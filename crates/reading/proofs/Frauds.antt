@@ -19,8 +19,8 @@ use Rattle.rules.specs.declared.paper.Paper.{Paper}
 use Rattle.rules.specs.declared.paper.Paper.the-variants.{Sheet, Script}
 use Rattle.rules.specs.declared.refusal.Refusal.{Refusal}
 use Rattle.rules.specs.declared.refusal.Refusal.the-variants.{Malformed, OutOfLimit, Cancelling, TooShort}
-use Rattle.rules.specs.Hidden.{setOf, hiddenCount}
-use Rattle.rules.specs.Limits.{boundLimit, noRule}
+use Rattle.rules.specs.Hidden.{setOf}
+use Rattle.rules.specs.Limits.{noRule}
 use Rattle.rules.specs.Refusal.{Returned}
 use Rattle.rules.specs.Steps.{ruleOf, halvedOf}
 use Rattle.tables.specs.Places.{findPlace}
@@ -61,7 +61,7 @@ putting = tt
 
 unfoldable pub reading : Unit {0}
 unfolding
-    andThen expect digitsFrom numeralOf cancelling setOf hiddenCount boundLimit
+    andThen expect digitsFrom numeralOf cancelling setOf
     ended countLine membersAfter membersFrom listOf hiddenLine termOf boundAt boundLine afterTerm ruleLine judged countJudged hiddenJudged ruleJudged
     onward rulesFrom linesFrom checkText replyTo readReply filled readTable
 reading = tt
@@ -93,7 +93,7 @@ meets f w u = record { formed = f; within = w; uncancelled = u }
 
 -- it is spelled so, and every line is fine, on either paper
 pub sheetA-reads : (paper : Paper) → Reads paper textA contentsA
-unfolding spelling lineWithin cancelling setOf hiddenCount boundLimit
+unfolding spelling lineWithin cancelling setOf
 sheetA-reads paper = record { small = lit≤ tt; spelled = record { text = refl; fine = fine paper } }
   where
     fine : (paper : Paper) → FineLines (contentsLimit paper contentsA) contentsA

@@ -15,7 +15,7 @@ use Rattle.lines.proofs.Spellings.{rule-complete}
 use Rattle.reading.specs.Texts.{Contents, ruleLines, linesText, headerText, sheetText}
 use Rattle.reading.specs.Meaning.{Fine, AllFine, contentsLimit, Spells, Passes}
 use Rattle.reading.specs.Reading.{onward, rulesFrom}
-use Rattle.reading.proofs.Limits.{fine-count, contents-told}
+use Rattle.reading.proofs.Limits.{fine-count, contents-limit, contents-told}
 use Rattle.reading.proofs.FineRules.{contents-accepted}
 
 -- a fine rule line is accepted, and so are all
@@ -61,4 +61,6 @@ spelled-opened paper s c p =
 pub passed-opened : (paper : Paper) (s : List ℕ) (n set count body : ℕ) (p : Passes paper s n set count body)
     → Opened (boundLimit paper n set) s n count body (p .contents .written)
 passed-opened paper s n set count body p =
-    rw (p .counts, p .hides, p .rules, p .begins) (spelled-opened paper s (p .contents) (p .reads .spelled))
+    let c = p .contents in
+    let r = p .reads .spelled in
+    rw (p .counts, p .hides, p .rules, p .begins, contents-limit paper (contentsLimit paper c) c (r .fine)) (spelled-opened paper s c r)

@@ -10,8 +10,7 @@ use lib.ListN.{length, length-append}
 use borrow.Author.Tests.{lt-ltb}
 use Rattle.numerals.specs.Parsing.{Parsed}
 use Rattle.rules.specs.declared.paper.Paper.{Paper}
-use Rattle.rules.specs.Hidden.{setOf}
-use Rattle.rules.specs.Limits.{maxQuantities, boundLimit, maxRules}
+use Rattle.rules.specs.Limits.{maxQuantities, boundRange, maxRules}
 use Rattle.lines.specs.Spelling.{Written, Line, quantities, hidden, rules, rule, quantitiesKey, rulesKey, lineWithin, lineCancels}
 use Rattle.lines.specs.Lines.{Judged, accepted, judged, never, between, countLine, countJudged, hiddenJudged, ruleJudged}
 use Rattle.reading.specs.Texts.{Contents, ruleLines}
@@ -33,11 +32,11 @@ unfoldable pub goOn : Paper → Opening → List ℕ → Judged Contents
 goOn paper start u = linesFrom paper u
 goOn paper (counted n) u =
     onward (hiddenJudged n 2 u) (λ qs v.
-    onward (countJudged rulesKey 0 maxRules 3 v) (λ m w. onward (rulesFrom n (boundLimit paper n (setOf qs)) m 4 w) (withRules n qs [])))
+    onward (countJudged rulesKey 0 maxRules 3 v) (λ m w. onward (rulesFrom n (boundRange paper n (length qs)) m 4 w) (withRules n qs [])))
 goOn paper (headed n qs) u =
-    onward (countJudged rulesKey 0 maxRules 3 u) (λ m w. onward (rulesFrom n (boundLimit paper n (setOf qs)) m 4 w) (withRules n qs []))
+    onward (countJudged rulesKey 0 maxRules 3 u) (λ m w. onward (rulesFrom n (boundRange paper n (length qs)) m 4 w) (withRules n qs []))
 goOn paper (ruled n qs m rs) u =
-    onward (rulesFrom n (boundLimit paper n (setOf qs)) (m - length rs) (lineOf (ruled n qs m rs)) u) (withRules n qs rs)
+    onward (rulesFrom n (boundRange paper n (length qs)) (m - length rs) (lineOf (ruled n qs m rs)) u) (withRules n qs rs)
 
 -- a line of a kind judged after an opening
 abbrev pub judgedAfter : (paper : Paper) (o : Opening) (k : LineKind) → Parsed (Value k) → Judged (Value k)
@@ -115,7 +114,7 @@ unfolding goOn countJudged lineWithin
 due-headed paper n qs = record {
   due = refl;
   some = some-rules;
-  goes = λ u. ap (λ (j : Judged ℕ). onward j (λ m w. onward (rulesFrom n (boundLimit paper n (setOf qs)) m 4 w) (withRules n qs [])))
+  goes = λ u. ap (λ (j : Judged ℕ). onward j (λ m w. onward (rulesFrom n (boundRange paper n (length qs)) m 4 w) (withRules n qs [])))
       (judged-same 3 (between 0 maxRules) (λ m. lineWithin n (limitAt paper (headed n qs)) (rules m)) never never
       (λ m. rw (leb·zero m)) (λ m. refl) (countLine rulesKey u))
       ∙ simp unary-clauses;
@@ -159,7 +158,7 @@ module _ (paper : Paper) (n : ℕ) (qs : List ℕ) (m : ℕ) (rs : List Written)
   more-number r = ap (λ (ls : List Line). suc (length ls)) (more-lines r) ∙ omega (arith, length-append (linesOf (ruled n qs m rs)) (rule r ∷ []))
 
   more-goes : (r : Written) (v : List ℕ)
-      → onward (rulesFrom n (boundLimit paper n (setOf qs)) (m - suc (length rs)) (suc (lineOf (ruled n qs m rs))) v) (withRules n qs (rs ++ r ∷ []))
+      → onward (rulesFrom n (boundRange paper n (length qs)) (m - suc (length rs)) (suc (lineOf (ruled n qs m rs))) v) (withRules n qs (rs ++ r ∷ []))
       ≡ goOn paper (oneMore n qs m rs r) v
   unfolding goOn
   more-goes r v =

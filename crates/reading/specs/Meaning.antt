@@ -4,16 +4,16 @@ use mathlib.Core.Path.{_≡_}
 use mathlib.Core.Bool.{true, false, cond}
 use mathlib.Core.Logic.{_⊎_}
 use mathlib.Core.List.{List, [], _∷_, _++_}
-use Prim.Native.Nat.{ℕ, suc, _*_, _^_, _≤_, _<_}
+use Prim.Native.Nat.{ℕ, suc, _≤_, _<_}
 use lib.Dec.{ltb}
 use lib.ListN.{length}
 use Rattle.places.specs.Numbering.{blockStart}
 use Rattle.rules.specs.declared.paper.Paper.{Paper}
-use Rattle.rules.specs.declared.paper.Paper.the-variants.{Sheet, Script}
+use Rattle.rules.specs.declared.paper.Paper.the-variants.{Sheet}
 use Rattle.rules.specs.declared.refusal.Refusal.{Refusal}
 use Rattle.rules.specs.declared.refusal.Refusal.the-variants.{Size, Malformed, OutOfLimit, Cancelling, TooShort}
 use Rattle.rules.specs.Hidden.{hiddenIn, setOf, isListed}
-use Rattle.rules.specs.Limits.{maxBound, boundLimit, maxText}
+use Rattle.rules.specs.Limits.{boundRange, maxText}
 use Rattle.rules.specs.Refusing.{Needs, passed, _or_then_, RefusedBy}
 use Rattle.tables.specs.Meaning.{Solutions, MeetsAll}
 use Rattle.lines.specs.Spelling.{Written, Line, quantities, hidden, rules, rule, lineText, WellFormed, lineWithin, lineCancels, writtenRules}
@@ -49,9 +49,9 @@ hiddensOf (counted n) = []
 hiddensOf (headed n qs) = qs
 hiddensOf (ruled n qs m rs) = qs
 
--- how large a bound may be, by the header as far as it is read: rules come after all of it
+-- how large a bound may be, by the text's own header as far as it is read: rules come after all of it
 abbrev pub limitAt : Paper → Opening → ℕ
-limitAt paper o = boundLimit paper (countOf o) (setOf (hiddensOf o))
+limitAt paper o = boundRange paper (countOf o) (length (hiddensOf o))
 
 -- the kinds of line, and none
 pub data LineKind : Type 0 where
@@ -98,15 +98,11 @@ pub record Reaches (paper : Paper) (s : List ℕ) (o : Opening) (line : ℕ) (u 
   pub most : AtMost o
   pub number : line ≡ suc (length (linesOf o))
 
--- the range of a script's bounds in document 02's words, wherever its text is read to: with k quantities in the hidden list, 1,000,000,000 multiplied by 2 to the power k
-abbrev pub RangeByList : List ℕ → Type 0
-RangeByList s = (o : Opening) (line : ℕ) (u : List ℕ) → Reaches Script s o line u → limitAt Script o ≡ maxBound * 2 ^ length (hiddensOf o)
-
 -- ---- a text that is fine
 
 -- how large its bounds may be
 abbrev pub contentsLimit : Paper → Contents → ℕ
-contentsLimit paper c = boundLimit paper (c .count) (setOf (c .hiddens))
+contentsLimit paper c = boundRange paper (c .count) (length (c .hiddens))
 
 -- every line of contents is fine
 abbrev pub FineLines : ℕ → Contents → Type 0

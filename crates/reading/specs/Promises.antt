@@ -20,7 +20,7 @@ use Rattle.reading.specs.declared.check.Checked.{Checked}
 use Rattle.reading.specs.declared.check.Checked.the-variants.{Passed}
 use Rattle.reading.specs.declared.read.Reading.{Reading}
 use Rattle.reading.specs.Texts.{Contents}
-use Rattle.reading.specs.Meaning.{RangeByList, Reads, FailsFor, Passes, RefusedFor, AcceptedAs}
+use Rattle.reading.specs.Meaning.{Reads, FailsFor, Passes, RefusedFor, AcceptedAs}
 use Rattle.reading.specs.Reading.{filled as fill}
 use Rattle.reading.specs.Reading.{checkText, checkedOf, readReply, readTable, checkedReturned, readingReturned, readingNumber}
 
@@ -30,7 +30,6 @@ pub record TextChecked (paper : Paper) (s : List ℕ) (r : Checked) : Type 0 whe
   pub refused : (f : Refusal) → (checkedReturned r ≡ refusedAs f) ↔ FailsFor paper s f
   pub passed : (n set m body : ℕ)
       → (checkedReturned r ≡ record { number = 0; values = pos n ∷ pos set ∷ pos m ∷ pos body ∷ [] }) ↔ Passes paper s n set m body
-  pub range : RangeByList s
 
 -- a text checked, and a table that is long enough for its n filled where it passed, a shorter one left. Where it is refused, the words that the largest table has are free; words past them stay
 pub record TextFilled (paper : Paper) (s : List ℕ) (table : List ℤ) (r : Checked) (table' : List ℤ) : Type 0 where

@@ -10,7 +10,7 @@ use Rattle.rules.specs.declared.paper.Paper.{Paper}
 use Rattle.rules.specs.declared.paper.Paper.the-variants.{Sheet}
 use Rattle.rules.specs.declared.refusal.Refusal.the-variants.{Size, Malformed, TooShort}
 use Rattle.rules.specs.Hidden.{setOf}
-use Rattle.rules.specs.Limits.{maxQuantities, boundLimit, maxRules, maxText}
+use Rattle.rules.specs.Limits.{maxQuantities, boundRange, maxRules, maxText}
 use Rattle.rules.specs.Refusal.{Returned, refusedAs, refusalValue}
 use Rattle.tables.specs.Tables.{tableOf}
 use Rattle.lines.specs.Spelling.{Written, quantitiesKey, rulesKey, writtenRules}
@@ -40,7 +40,7 @@ linesFrom paper s =
     onward (countJudged quantitiesKey 1 maxQuantities 1 s) (λ n u.
     onward (hiddenJudged n 2 u) (λ qs v.
     onward (countJudged rulesKey 0 maxRules 3 v) (λ m w.
-    onward (rulesFrom n (boundLimit paper n (setOf qs)) m 4 w) (λ rs. accepted (record { count = n; hiddens = qs; written = rs })))))
+    onward (rulesFrom n (boundRange paper n (length qs)) m 4 w) (λ rs. accepted (record { count = n; hiddens = qs; written = rs })))))
 
 -- what a text writes, or its refusal: 1 for its size, else that of the first line that fails
 unfoldable pub checkText : Paper → List ℕ → Judged Contents

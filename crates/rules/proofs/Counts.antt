@@ -7,44 +7,44 @@ use native.Mathlib.Numerals.{add-one}
 use native.Mathlib.Omega.{arith}
 use lib.Dec.{leb}
 use borrow.Author.Tests.{leb-true, leb-false}
-use Rattle.rules.specs.Hidden.{hiddenIn, hiddenCount}
+use Rattle.rules.specs.Hidden.{hiddenIn, memberCount}
 use Rattle.rules.proofs.Sets.{past-hidden}
 
-pub count-zero : (hidden : ℕ → Bool) → hiddenCount hidden 0 ≡ 0
-unfolding hiddenCount
+pub count-zero : (hidden : ℕ → Bool) → memberCount hidden 0 ≡ 0
+unfolding memberCount
 count-zero hidden = refl
 
 -- one quantity more
-pub count-more : (hidden : ℕ → Bool) (j : ℕ) → hiddenCount hidden (j + 1) ≡ cond (hidden (j + 1)) (hiddenCount hidden j + 1) (hiddenCount hidden j)
-unfolding hiddenCount
+pub count-more : (hidden : ℕ → Bool) (j : ℕ) → memberCount hidden (j + 1) ≡ cond (hidden (j + 1)) (memberCount hidden j + 1) (memberCount hidden j)
+unfolding memberCount
 count-more hidden j = rw (add-one, add-one)
 
-pub count-most : (hidden : ℕ → Bool) (n : ℕ) → hiddenCount hidden n ≤ n
-unfolding hiddenCount
+pub count-most : (hidden : ℕ → Bool) (n : ℕ) → memberCount hidden n ≤ n
+unfolding memberCount
 count-most hidden zero = omega arith
 count-most hidden (suc j) = go (count-most hidden j) (hidden (suc j))
   where
-    go : hiddenCount hidden j ≤ j → (b : Bool) → cond b (suc (hiddenCount hidden j)) (hiddenCount hidden j) ≤ suc j
+    go : memberCount hidden j ≤ j → (b : Bool) → cond b (suc (memberCount hidden j)) (memberCount hidden j) ≤ suc j
     go h true = omega arith
     go h false = omega arith
 
 -- ---- past the last member
 
-pub count-past : (hidden : ℕ → Bool) (m d : ℕ) → ((q : ℕ) → m < q → hidden q ≡ false) → hiddenCount hidden (m + d) ≡ hiddenCount hidden m
-unfolding hiddenCount
+pub count-past : (hidden : ℕ → Bool) (m d : ℕ) → ((q : ℕ) → m < q → hidden q ≡ false) → memberCount hidden (m + d) ≡ memberCount hidden m
+unfolding memberCount
 count-past hidden m zero none = rw add-zero
 count-past hidden m (suc d) none = rw (add-suc, none (suc (m + d)) (omega arith)) (count-past hidden m d none)
 
 -- a set of so many bits has no member past them
-pub count-bits : (bits set n : ℕ) → set < 2 ^ bits → bits ≤ n → hiddenCount (hiddenIn set) n ≡ hiddenCount (hiddenIn set) bits
+pub count-bits : (bits set n : ℕ) → set < 2 ^ bits → bits ≤ n → memberCount (hiddenIn set) n ≡ memberCount (hiddenIn set) bits
 count-bits bits set n l h =
     let whole : n ≡ bits + (n - bits) = omega arith in
     rw whole (count-past (hiddenIn set) bits (n - bits) (past-hidden bits set l))
 
 -- so it has no more than bits
-pub count-small : (bits set n : ℕ) → set < 2 ^ bits → hiddenCount (hiddenIn set) n ≤ bits
+pub count-small : (bits set n : ℕ) → set < 2 ^ bits → memberCount (hiddenIn set) n ≤ bits
 count-small bits set n l = go (leb bits n) refl
   where
-    go : (b : Bool) → leb bits n ≡ b → hiddenCount (hiddenIn set) n ≤ bits
+    go : (b : Bool) → leb bits n ≡ b → memberCount (hiddenIn set) n ≤ bits
     go true e = rw (count-bits bits set n l (leb-true bits n e)) (count-most (hiddenIn set) bits)
     go false e = omega (arith, count-most (hiddenIn set) n, leb-false bits n e)

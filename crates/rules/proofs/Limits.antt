@@ -3,8 +3,7 @@ use mathlib.Core.Path.{_≡_, refl}
 use Prim.Native.Nat.{ℕ, _-_, _*_, _^_}
 use lib.IntN.{pos}
 use Rattle.rules.specs.declared.paper.Paper.the-variants.{Sheet, Script}
-use Rattle.rules.specs.Hidden.{hiddenIn, hiddenCount}
-use Rattle.rules.specs.Limits.{maxQuantities, maxBound, boundLimit, maxRules, noRule, maxText}
+use Rattle.rules.specs.Limits.{maxQuantities, maxBound, boundRange, maxRules, noRule, maxText}
 
 -- 'n quantities, 1 to 32'
 quantities : maxQuantities ≡ 32
@@ -15,14 +14,12 @@ bound : maxBound ≡ 1000000000
 bound = refl
 
 -- 'Sheets keep their range'
-bound-of-sheet : (n set : ℕ) → boundLimit Sheet n set ≡ 1000000000
-unfolding boundLimit
-bound-of-sheet n set = refl
+range-of-sheet : (n k : ℕ) → boundRange Sheet n k ≡ 1000000000
+range-of-sheet n k = refl
 
 -- 'With k hidden quantities in its header a script may hold bounds up to 1,000,000,000 multiplied by 2 to the power k'
-bound-of-script : (n set k : ℕ) → hiddenCount (hiddenIn set) n ≡ k → boundLimit Script n set ≡ 1000000000 * 2 ^ k
-unfolding boundLimit
-bound-of-script n set k e = rw e
+range-of-script : (n k : ℕ) → boundRange Script n k ≡ 1000000000 * 2 ^ k
+range-of-script n k = refl
 
 -- 'at most 2,048 rule lines'
 rules : maxRules ≡ 2048

@@ -27,7 +27,7 @@ unfoldable pub isListed : ℕ → List ℕ → Bool
 isListed q [] = false
 isListed q (p ∷ ps) = eqb q p || isListed q ps
 
--- how many of the first m quantities are hidden
-unfoldable pub hiddenCount : (ℕ → Bool) → ℕ → ℕ
-hiddenCount hidden zero = 0
-hiddenCount hidden (suc j) = cond (hidden (suc j)) (suc (hiddenCount hidden j)) (hiddenCount hidden j)
+-- how many of the first m quantities are members of a set
+unfoldable pub memberCount : (ℕ → Bool) → ℕ → ℕ
+memberCount members zero = 0
+memberCount members (suc j) = cond (members (suc j)) (suc (memberCount members j)) (memberCount members j)

@@ -3,7 +3,7 @@ use Prim.Native.Nat.{ℕ, _*_, _^_}
 use lib.IntN.{ℤ, pos}
 use Rattle.rules.specs.declared.paper.Paper.{Paper}
 use Rattle.rules.specs.declared.paper.Paper.the-variants.{Sheet, Script}
-use Rattle.rules.specs.Hidden.{hiddenIn, hiddenCount}
+use Rattle.rules.specs.Hidden.{hiddenIn, memberCount}
 
 -- quantities are numbered from 1 to at most this
 abbrev pub maxQuantities : ℕ
@@ -13,10 +13,15 @@ maxQuantities = 32
 abbrev pub maxBound : ℕ
 maxBound = 1000000000
 
--- a bound is at most this in magnitude on a paper over n quantities with this hidden set in its header. A script with k hidden quantities may state what a key can: the sheet's limit, doubled k times
+-- a bound is at most this in magnitude on a paper over n quantities whose header hides k of them (document 02: "With k hidden quantities in its header a script may hold
+-- bounds up to 1,000,000,000 multiplied by 2 to the power k", "Sheets keep their range")
+abbrev pub boundRange : Paper → ℕ → ℕ → ℕ
+boundRange Sheet n k = maxBound
+boundRange Script n k = maxBound * 2 ^ k
+
+-- the same where the header has a set: it hides the members up to n
 unfoldable pub boundLimit : Paper → ℕ → ℕ → ℕ
-boundLimit Sheet n set = maxBound
-boundLimit Script n set = maxBound * 2 ^ hiddenCount (hiddenIn set) n
+boundLimit paper n set = boundRange paper n (memberCount (hiddenIn set) n)
 
 -- rule lines of a text
 abbrev pub maxRules : ℕ

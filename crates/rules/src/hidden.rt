@@ -1,7 +1,7 @@
 // The hidden set, a number with bit q - 1 for quantity q, decoded here alone.
 ghost use mathlib.Core.Path.{_≡_};
 ghost use Prim.Native.Nat.{_≤_};
-ghost use Rattle.rules.specs.Hidden.{hiddenIn, hiddenCount, bitOf};
+ghost use Rattle.rules.specs.Hidden.{hiddenIn, memberCount, bitOf};
 ghost use Rattle.rules.specs.Limits.{maxQuantities};
 ghost use Rattle.rules.specs.Promises.{InRange};
 
@@ -46,7 +46,7 @@ pub fn is_within(set: Set, n: usize) -> bool
 
 // How many of the quantities 1 to `n` the set has.
 pub fn count(set: Set, n: usize) -> usize
-    ensures { λ r. ⌜ r ≡ hiddenCount (hiddenIn set) n ⌝ }
+    ensures { λ r. ⌜ r ≡ memberCount (hiddenIn set) n ⌝ }
 {
     let mut members = 0;
     let mut q = 0;

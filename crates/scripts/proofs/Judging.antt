@@ -23,7 +23,6 @@ use Rattle.reading.specs.Texts.{Contents}
 use Rattle.reading.specs.Meaning.{Reads, malformed-at, outside-at, cancels-at, FailsFor}
 use Rattle.reading.specs.Reading.{checkText}
 use Rattle.reading.proofs.Means.{text-means, reads-check, reads-same}
-use Rattle.reading.proofs.Limits.{reached-range}
 use Rattle.reading.proofs.RuleLines.{not-accepted}
 use Rattle.scripts.specs.declared.room.Lengths.{Lengths}
 use Rattle.scripts.specs.declared.reply.Subject.{Subject}
@@ -209,7 +208,6 @@ module _ (sheet script : List ℕ) (lent : Lengths) where
     refused = λ p f. let w = returned-refused r p f in let t = texts-refused p f in
         (λ x. t .0 (sym e ∙ w .0 x), λ x. w .1 (e ∙ t .1 x));
     accepted = rw e texts-accepted;
-    range = reached-range script;
     never = texts-never r e;
     count = reads-count sheet;
     counts = λ t. rw e (texts-counts t);

@@ -16,8 +16,7 @@ use Rattle.rules.specs.declared.paper.Paper.{Paper}
 use Rattle.rules.specs.declared.paper.Paper.the-variants.{Sheet, Script}
 use Rattle.rules.specs.declared.refusal.Refusal.{Refusal}
 use Rattle.rules.specs.declared.refusal.Refusal.the-variants.{Size, TooShort}
-use Rattle.rules.specs.Hidden.{setOf}
-use Rattle.rules.specs.Limits.{maxQuantities, boundLimit, maxRules, maxText}
+use Rattle.rules.specs.Limits.{maxQuantities, boundRange, maxRules, maxText}
 use Rattle.rules.specs.Refusal.{refusalNumber, refusalValue}
 use Rattle.rules.specs.Refusing.{RefusedBy}
 use Rattle.tables.proofs.Sizes.{small-start}
@@ -86,10 +85,10 @@ lines-most s = go (countJudged quantitiesKey 1 maxQuantities 1 s)
   where
     go : (j : Judged ℕ)
         → sheetCount (onward j (λ n u. onward (hiddenJudged n 2 u) (λ qs v. onward (countJudged rulesKey 0 maxRules 3 v) (λ m w.
-        onward (rulesFrom n (boundLimit Sheet n (setOf qs)) m 4 w) (λ rs. accepted (record { count = n; hiddens = qs; written = rs })))))) ≤ countTold j
+        onward (rulesFrom n (boundRange Sheet n (length qs)) m 4 w) (λ rs. accepted (record { count = n; hiddens = qs; written = rs })))))) ≤ countTold j
     go (accepted n u) =
         onward-most n (hiddenJudged n 2 u) _ (λ qs v. onward-most n (countJudged rulesKey 0 maxRules 3 v) _ (λ m w.
-        onward-most n (rulesFrom n (boundLimit Sheet n (setOf qs)) m 4 w) _ (λ rs z. omega arith)))
+        onward-most n (rulesFrom n (boundRange Sheet n (length qs)) m 4 w) _ (λ rs z. omega arith)))
     go (refused f) = omega arith
 
 pub first-most : (s : List ℕ) → countIn s ≤ countTold (countJudged quantitiesKey 1 maxQuantities 1 s)

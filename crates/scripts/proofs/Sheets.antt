@@ -10,7 +10,7 @@ use Rattle.places.specs.Numbering.{blockStart}
 use Rattle.rules.specs.declared.paper.Paper.{Paper}
 use Rattle.rules.specs.declared.paper.Paper.the-variants.{Sheet}
 use Rattle.rules.specs.Hidden.{hiddenIn, setWithin, isListed}
-use Rattle.rules.specs.Limits.{maxQuantities, maxText}
+use Rattle.rules.specs.Limits.{maxQuantities, boundLimit, maxText}
 use Rattle.rules.specs.Meaning.{Assignment}
 use Rattle.tables.specs.Meaning.{TableSized, Satisfies, SheetAllows, joined, KeyLike, BoundsWithin}
 use Rattle.tables.proofs.Lists.{tableOf-length}
@@ -22,6 +22,7 @@ use Rattle.keys.proofs.Deciding.{refuted-exactly}
 use Rattle.lines.specs.Spelling.{lineWithin, writtenRules}
 use Rattle.lines.proofs.Bits.{within-range}
 use Rattle.lines.proofs.SetMembers.{list-members}
+use Rattle.reading.proofs.Limits.{contents-limit}
 use Rattle.reading.specs.Texts.{Contents}
 use Rattle.reading.specs.Meaning.{FineLines, contentsLimit, rulesOf}
 use Rattle.reading.specs.Promises.{TableHolds}
@@ -55,7 +56,7 @@ fine-table paper c f =
       back = list-back (c .count) (c .hiddens) (f .1 .0 .formed) (f .1 .0 .within);
       members = list-members (c .count) (c .hiddens) (f .1 .0 .formed) (f .1 .0 .within);
       size = s;
-      bounds = l;
+      bounds = rw (contents-limit paper (contentsLimit paper c) c f) l;
       held = rules-held paper c f;
     }
 
@@ -115,8 +116,8 @@ key-meaning c s σ₀ m σ = (
 pub key-like : (c : Contents) → FineSheet c → KeyLike (c .count) (setIn c) (keyIn c)
 key-like c s = record {
   visible = key-visible (hiddenIn (setIn c)) (c .count) (tableIn c) (omega (arith, s .size));
-  growth = rw (script-limit (c .count) (setIn c))
-      at (key-within (hiddenIn (setIn c)) (c .count) (contentsLimit Sheet c) (tableIn c) (omega (arith, s .size)) (s .bounds));
+  within = rw (script-limit (c .count) (setIn c))
+      at (key-within (hiddenIn (setIn c)) (c .count) (boundLimit Sheet (c .count) (setIn c)) (tableIn c) (omega (arith, s .size)) (s .bounds));
 }
 
 -- its text is never too long for the reader

@@ -17,7 +17,7 @@ use Rattle.marking.specs.declared.verdict.Verdict.the-variants.{Equal}
 use Rattle.marking.specs.Verdicts.{verdictReturned}
 use Rattle.marking.specs.Meaning.{VerdictMeans, workspaceSize}
 use Rattle.reading.specs.Texts.{Contents}
-use Rattle.reading.specs.Meaning.{RangeByList, Reads, Readable, rulesOf}
+use Rattle.reading.specs.Meaning.{Reads, Readable, rulesOf}
 use Rattle.reading.specs.Promises.{TableHolds}
 use Rattle.scripts.specs.declared.room.Lengths.{Lengths}
 use Rattle.scripts.specs.declared.reply.Subject.{Subject}
@@ -43,8 +43,6 @@ pub record TextsJudged (sheet script : List ℕ) (lent : Lengths) (r : TextMarki
   -- refused exactly for these reasons, as it is returned and with the paper named, and a verdict exactly where both are accepted
   pub refused : (p : Subject) (f : Refusal) → ((textsReturned r ≡ refusedAs f) × (textSubjects r ≡ p ∷ [])) ↔ RefusedPair sheet script lent p f
   pub accepted : (isTextMarked r ≡ true) ↔ AcceptedPair sheet script lent
-  -- the range of the script's bounds, which these reasons are about, is by its own header
-  pub range : RangeByList script
   -- 5 is no reply of marking
   pub never : (textNumber r ≡ 5) → ⊥
   -- the sheet's n, by which words are counted, is beside a verdict

@@ -9,7 +9,7 @@ use Rattle.places.specs.Numbering.{blockStart, placeOfOne, placeOfPair, placeOf
 use Rattle.rules.specs.declared.paper.Paper.the-variants.{Sheet, Script}
 use Rattle.rules.specs.declared.rule.Rule.{Rule}
 use Rattle.rules.specs.declared.rule.Rule.the-variants.{Nothing}
-use Rattle.rules.specs.Hidden.{hiddenCount}
+use Rattle.rules.specs.Hidden.{memberCount}
 use Rattle.rules.specs.Limits.{boundLimit, noRule}
 use Rattle.rules.specs.Refusal.{Returned}
 use Rattle.rules.specs.Steps.{ruleOf, halvedOf}
@@ -42,14 +42,14 @@ larger-out n set = (refl, refl)
 -- in a script over 3 quantities 2,000,000,000 is in the limit where quantity 2 is hidden, and one more is not; where none is hidden, the limit is a sheet's
 script-largest : (inLimit (pos (boundLimit Script 3 2)) (pos 2000000000) ≡ true) × (inLimit (pos (boundLimit Script 3 2)) (pos 2000000001) ≡ false)
     × (inLimit (pos (boundLimit Script 3 0)) (pos 1000000000) ≡ true) × (inLimit (pos (boundLimit Script 3 0)) (pos 1000000001) ≡ false)
-unfolding inLimit boundLimit hiddenCount
+unfolding inLimit boundLimit memberCount
 script-largest = (refl, refl, refl, refl)
 
 -- with 31 hidden it is 2,147,483,648,000,000,000, on either side of 0
 script-widest : (inLimit (pos (boundLimit Script 32 2147483647)) (pos 2147483648000000000) ≡ true)
     × (inLimit (pos (boundLimit Script 32 2147483647)) (negsuc 2147483647999999999) ≡ true)
     × (inLimit (pos (boundLimit Script 32 2147483647)) (pos 2147483648000000001) ≡ false)
-unfolding inLimit boundLimit hiddenCount
+unfolding inLimit boundLimit memberCount
 script-widest = (refl, refl, refl)
 
 -- the no-rule word is no bound and so in every limit; the word before it is a bound

@@ -137,4 +137,4 @@ BoundsWithin paper n set t = WordsWithin (blockStart n) (pos (boundLimit paper n
 -- most doubles the largest magnitude of a bound")
 pub record KeyLike (n set : ℕ) (table : List ℤ) : Type 0 where
   pub visible : NamesVisible n (hiddenIn set) table
-  pub growth : BoundsWithin Script n set table
+  pub within : BoundsWithin Script n set table

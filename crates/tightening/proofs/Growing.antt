@@ -8,7 +8,7 @@ use native.Mathlib.Omega.{arith}
 use lib.IntN.{ℤ, pos}
 use lib.ListN.{length}
 use Rattle.places.specs.Numbering.{blockStart}
-use Rattle.rules.specs.Hidden.{hiddenCount}
+use Rattle.rules.specs.Hidden.{memberCount}
 use Rattle.tables.specs.Meaning.{WordsWithin}
 use Rattle.elimination.specs.Hiding.{every, paired}
 use Rattle.elimination.specs.Inner.{Ready}
@@ -23,7 +23,7 @@ use Rattle.tightening.proofs.Pairing.{pair-room, pair-unnamed}
 -- after m steps every bound is within the limit of the members among the first m
 pair-within : (n m : ℕ) (t : List ℤ) (f : Fits n t) → m ≤ n
     → WordsWithin (blockStart n) (pos (memberLimit (f .members) (f .sums .limit) m)) (pairUpTo n m t)
-unfolding pairUpTo hiddenCount
+unfolding pairUpTo memberCount
 pair-within n zero t f h = words-mono (blockStart n) (f .sums .limit) (f .sums .limit * 2 ^ 0) t (omega arith) (f .sums .within)
 pair-within n (suc j) t f h = go (pair-within n j t f (omega arith)) (f .members (suc j)) refl
   where

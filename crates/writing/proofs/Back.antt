@@ -36,7 +36,7 @@ use Rattle.reading.specs.Reading.{checkText, replyTo, readReply, filled, readTa
 use Rattle.writing.specs.Writing.{writtenOf, rulesAt, tableRules, hiddenList, contentsOf, writtenText}
 use Rattle.writing.specs.Promises.{ReadBack, ReadAsScript}
 use Rattle.writing.proofs.Meanings.{front-word, Clean, table-back, AreWords}
-use Rattle.writing.proofs.Members.{hidden-increasing, hidden-within, hidden-back}
+use Rattle.writing.proofs.Members.{hidden-increasing, hidden-within, hidden-back, hidden-limit}
 use Rattle.writing.proofs.Lengths.{rules-most, sheet-limit, longest-sheet}
 use Rattle.writing.proofs.KeyLengths.{key-short}
 
@@ -132,7 +132,7 @@ module _ (n set : ℕ) (t : List ℤ) (some : 1 ≤ n) (most : n ≤ maxQuantiti
       → length (writtenText n set t) ≤ maxText → Reads paper (writtenText n set t) (contentsOf n set t)
   written-reads paper within words short = record {
     small = short;
-    spelled = rw (hidden-back n set within) (spells-within (boundLimit paper n set) words);
+    spelled = rw (← hidden-limit paper n set within) (spells-within (boundLimit paper n set) words);
   }
 
   -- ---- as a sheet
@@ -157,7 +157,7 @@ module _ (n set : ℕ) (t : List ℤ) (some : 1 ≤ n) (most : n ≤ maxQuantiti
 
   -- a key's text is in the script's limit and not too long
   pub key-reads : setWithin n set ≡ true → blockStart n ≤ length t → KeyLike n set t → Reads Script (writtenText n set t) (contentsOf n set t)
-  key-reads within room key = written-reads Script within (key .growth) (key-short n set t most room key)
+  key-reads within room key = written-reads Script within (key .within) (key-short n set t most room key)
 
   -- with n, the hidden set and rules that make the table's words again
   pub written-script : setWithin n set ≡ true → BoundsWithin Script n set t → length (writtenText n set t) ≤ maxText

@@ -11,7 +11,7 @@ use lib.ListN.{length, take}
 use Rattle.words.specs.Change.{wordAt}
 use Rattle.places.specs.Numbering.{blockStart, offsetOf}
 use Rattle.places.proofs.Numbering.{blockStart-mono, blockStart-suc, block-unique, offset-unique}
-use Rattle.rules.specs.Hidden.{hiddenCount}
+use Rattle.rules.specs.Hidden.{memberCount}
 use Rattle.rules.specs.Meaning.{names}
 use Rattle.rules.proofs.Counts.{count-most}
 use Rattle.tables.specs.Tables.{hasRule}
@@ -23,14 +23,14 @@ use Rattle.writing.proofs.Texts.{count-more, count-none}
 
 -- the visible ones of the first m quantities
 abbrev pub visibleCount : (ℕ → Bool) → ℕ → ℕ
-visibleCount hidden m = m - hiddenCount hidden m
+visibleCount hidden m = m - memberCount hidden m
 
 -- with one more
 visible-more : (hidden : ℕ → Bool) (j : ℕ) → visibleCount hidden (suc j) ≡ cond (hidden (suc j)) (visibleCount hidden j) (suc (visibleCount hidden j))
-unfolding hiddenCount
+unfolding memberCount
 visible-more hidden j = go (hidden (suc j))
   where
-    go : (b : Bool) → suc j - cond b (suc (hiddenCount hidden j)) (hiddenCount hidden j) ≡ cond b (visibleCount hidden j) (suc (visibleCount hidden j))
+    go : (b : Bool) → suc j - cond b (suc (memberCount hidden j)) (memberCount hidden j) ≡ cond b (visibleCount hidden j) (suc (visibleCount hidden j))
     go true = omega arith
     go false = omega (arith, count-most hidden j)
 
@@ -99,7 +99,7 @@ module _ (hidden : ℕ → Bool) (n : ℕ) (t : List ℤ) (room : blockStart n �
 
   -- all blocks before that of quantity j + 1
   blocks-none : counted (blockStart 0) ≤ blockStart (visibleCount hidden 0)
-  unfolding blockStart hiddenCount
+  unfolding blockStart memberCount
   blocks-none = omega (arith, count-none t)
 
   blocks : (j : ℕ) → j ≤ n → counted (blockStart j) ≤ blockStart (visibleCount hidden j)

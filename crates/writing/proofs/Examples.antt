@@ -13,10 +13,10 @@ use Rattle.integers.proofs.Within.{within-to}
 use Rattle.integers.proofs.Parts.{positivePart, negativePart}
 use Rattle.words.specs.Change.{wordAt}
 use Rattle.places.specs.Numbering.{blockStart}
-use Rattle.rules.specs.declared.paper.Paper.the-variants.{Script}
+use Rattle.rules.specs.declared.paper.Paper.the-variants.{Sheet, Script}
 use Rattle.rules.specs.declared.refusal.Refusal.the-variants.{OutOfLimit}
 use Rattle.rules.specs.Refusal.{refusedAs}
-use Rattle.rules.specs.Hidden.{hiddenIn, hiddenCount}
+use Rattle.rules.specs.Hidden.{hiddenIn, memberCount}
 use Rattle.rules.specs.Limits.{boundLimit, maxBound, noRule}
 use Rattle.rules.specs.Meaning.{names}
 use Rattle.tables.specs.Tables.{hasRule, inLimit, wordsInLimit}
@@ -81,7 +81,7 @@ unfolding reading
 large-accepted = refl
 
 -- line 4 is that of the first place that is outside the sheet's limit
-pub large-first : FirstPast 3 2 largeKey 11
+pub large-first : FirstPast Sheet 3 2 largeKey 11
 unfolding blockStart boundLimit inLimit wordsInLimit positivePart negativePart
 large-first = record {
   past = record {
@@ -120,20 +120,21 @@ large-named q e = go (eqb 1 q) refl e
 
 -- so the table is like a key: one hidden quantity doubles bounds
 pub large-like : KeyLike 3 2 largeKey
-unfolding blockStart boundLimit hiddenCount inLimit wordsInLimit
+unfolding blockStart boundLimit memberCount inLimit wordsInLimit
 large-like = record {
   visible = record { each = λ k h q e. large-named q (rw (large-place k h) at e) };
-  growth = wordsInLimit-within 18 (pos 2000000000) largeKey .0 refl;
+  within = wordsInLimit-within 18 (pos 2000000000) largeKey .0 refl;
 }
 
 -- so whatever bytes are written for it are refused as a sheet with 3 at line 4, and leave the table that they are read into
 pub large-past : (out : List ℕ) (m : ℕ) (out' : List ℕ) → TextWritten 3 2 largeKey out (Text m) out' → (t : List ℤ)
     → (readingReturned (readReply (take m out') (length t)) ≡ refusedAs (OutOfLimit 4)) × (readTable (take m out') t ≡ t)
 large-past out m out' w t =
-    let p = w .made refl .past (w .made refl .key-short large-like) 11 (large-first .past) t in
-    let line : lineAt largeKey (p .place) ≡ 4 = rw (large-place (p .place) (p .first .past .holds)) large-line in
+    let p = w .made refl .read-past (w .made refl .key-short large-like) 11 (large-first .past) t in
+    let k = p .refused .place in
+    let line : lineAt largeKey k ≡ 4 = rw (large-place k (p .refused .first .past .holds)) large-line in
     (rw line at (p .reply), p .kept)
 
 -- and are accepted as a script, whose rule makes the key's table again
 pub large-script : (out : List ℕ) (m : ℕ) (out' : List ℕ) → TextWritten 3 2 largeKey out (Text m) out' → ReadAsScript 3 2 largeKey (take m out')
-large-script out m out' w = w .made refl .script (large-like .growth) (w .made refl .key-short large-like)
+large-script out m out' w = w .made refl .script (large-like .within) (w .made refl .key-short large-like)

@@ -17,7 +17,7 @@ use Rattle.words.specs.Change.{wordAt}
 use Rattle.places.specs.Numbering.{blockStart}
 use Rattle.places.proofs.Numbering.{blockStart-mono}
 use Rattle.rules.specs.declared.paper.Paper.the-variants.{Script}
-use Rattle.rules.specs.Hidden.{hiddenIn, hiddenCount}
+use Rattle.rules.specs.Hidden.{hiddenIn, memberCount}
 use Rattle.rules.specs.Limits.{boundLimit, maxQuantities, maxBound, maxText}
 use Rattle.rules.proofs.Counts.{count-most}
 use Rattle.tables.specs.Meaning.{KeyLike, BoundsWithin}
@@ -35,7 +35,7 @@ grown-width (pos v) h = signed-width 18 (pos v) (omega (arith, within-to h))
 grown-width (negsuc v) h = signed-width 18 (negsuc v) (omega (arith, within-to h))
 
 -- the limit of a script's bounds goes by how many quantities are hidden
-pub script-limit : (n set : ℕ) → boundLimit Script n set ≡ maxBound * 2 ^ hiddenCount (hiddenIn set) n
+pub script-limit : (n set : ℕ) → boundLimit Script n set ≡ maxBound * 2 ^ memberCount (hiddenIn set) n
 unfolding boundLimit
 script-limit n set = refl
 
@@ -46,7 +46,7 @@ grown-numerals n set t h w j b c e = grown-width (wordAt t j) (within-mono most 
   where
     most : boundLimit Script n set ≤ maxBound * 2 ^ maxQuantities
     most = rw (script-limit n set)
-        (mul-le-mul-left maxBound (pow-mono {i = hiddenCount (hiddenIn set) n} {j = maxQuantities} (omega (arith, count-most (hiddenIn set) n))))
+        (mul-le-mul-left maxBound (pow-mono {i = memberCount (hiddenIn set) n} {j = maxQuantities} (omega (arith, count-most (hiddenIn set) n))))
 
 -- with something hidden it has no more rules than a table over 31 quantities has places
 abbrev keyRules : ℕ
@@ -56,7 +56,7 @@ places-31 : blockStart 31 ≡ keyRules
 unfolding blockStart
 places-31 = refl
 
-key-rules : (n set : ℕ) (t : List ℤ) → n ≤ maxQuantities → blockStart n ≤ length t → KeyLike n set t → 0 < hiddenCount (hiddenIn set) n
+key-rules : (n set : ℕ) (t : List ℤ) → n ≤ maxQuantities → blockStart n ≤ length t → KeyLike n set t → 0 < memberCount (hiddenIn set) n
     → length (tableRules n t) ≤ keyRules
 key-rules n set t h room key some =
     omega (
@@ -68,10 +68,10 @@ key-rules n set t h room key some =
 
 -- so its text may be read
 pub key-short : (n set : ℕ) (t : List ℤ) → n ≤ maxQuantities → blockStart n ≤ length t → KeyLike n set t → length (writtenText n set t) ≤ maxText
-key-short n set t h room key = go (eqb (hiddenCount (hiddenIn set) n) 0) refl
+key-short n set t h room key = go (eqb (memberCount (hiddenIn set) n) 0) refl
   where
-    go : (b : Bool) → eqb (hiddenCount (hiddenIn set) n) 0 ≡ b → length (writtenText n set t) ≤ maxText
-    go true e = longest-sheet n set t h (rw (script-limit n set, eqb-true (hiddenCount (hiddenIn set) n) 0 e) at (key .growth))
+    go : (b : Bool) → eqb (memberCount (hiddenIn set) n) 0 ≡ b → length (writtenText n set t) ≤ maxText
+    go true e = longest-sheet n set t h (rw (script-limit n set, eqb-true (memberCount (hiddenIn set) n) 0 e) at (key .within))
     go false e =
-        let rules = key-rules n set t h room key (omega (arith, eqb-false (hiddenCount (hiddenIn set) n) 0 e)) in
-        omega (arith, longest-counted n set t wordWidth keyRules h (grown-numerals n set t h (key .growth)) rules (omega arith))
+        let rules = key-rules n set t h room key (omega (arith, eqb-false (memberCount (hiddenIn set) n) 0 e)) in
+        omega (arith, longest-counted n set t wordWidth keyRules h (grown-numerals n set t h (key .within)) rules (omega arith))

@@ -1,4 +1,4 @@
--- The hidden list of a set increases, is of the quantities 1 to n, and writes the set. Assumes nothing.
+-- The hidden list of a set increases, is of the quantities 1 to n, and writes the set; bounds are limited by either alike. Assumes nothing.
 use mathlib.Core.Path.{_≡_, refl, sym, _∙_}
 use mathlib.Core.Bool.{Bool, true, false, cond}
 use mathlib.Core.List.{_∷_}
@@ -7,11 +7,15 @@ use native.Mathlib.Nat.{add-zero, zero-add, add-suc, suc-add, div-eq-of-lt}
 use native.Mathlib.Numerals.{add-one}
 use native.Mathlib.Omega.{arith}
 use lib.Dec.{eqb}
+use lib.ListN.{length}
 use lib.Pow.{shr-shr}
 use borrow.Author.Tests.{ltb-true, le-leb, eqb-true, eqb-false}
+use Rattle.rules.specs.declared.paper.Paper.{Paper}
 use Rattle.rules.specs.Hidden.{hiddenIn, setWithin, setOf}
+use Rattle.rules.specs.Limits.{boundRange, boundLimit}
 use Rattle.lines.specs.Spelling.{IncreasingFrom, allWithin}
 use Rattle.lines.proofs.SetMembers.{increasing-less, power-more, set-more}
+use Rattle.reading.proofs.Limits.{list-limit}
 use Rattle.writing.specs.Writing.{hiddenFrom, hiddenList}
 
 -- ---- the list
@@ -75,3 +79,9 @@ from-back set j (suc k) h = go (from-back set (suc j) k (rw (suc-add j k, ← ad
 -- the set of the list is the set
 pub hidden-back : (n set : ℕ) → setWithin n set ≡ true → setOf (hiddenList n set) ≡ set
 hidden-back n set e = from-back set 0 n (rw (zero-add n) (ltb-true set (2 ^ n) e)) ∙ omega arith
+
+-- ---- the limit of bounds
+
+-- by the set it is as by the list
+pub hidden-limit : (paper : Paper) (n set : ℕ) → setWithin n set ≡ true → boundLimit paper n set ≡ boundRange paper n (length (hiddenList n set))
+hidden-limit paper n set e = rw (hidden-back n set e) at (list-limit paper n (hiddenList n set) (hidden-increasing n set) (hidden-within n set))

@@ -1,4 +1,4 @@
--- A written text with a bound outside the sheet's limit: the reader refuses it with 3, at the line of the first such rule. Assumes nothing.
+-- A written text with a bound outside a paper's limit: as that paper it is refused with 3, at the line of the first such rule. Assumes nothing.
 use mathlib.Core.Path.{_≡_, refl, sym, _∙_, ap, subst}
 use mathlib.Core.Bool.{Bool, true, false}
 use mathlib.Core.List.{List, [], _∷_, _++_, append-assoc}
@@ -19,6 +19,7 @@ use Rattle.places.specs.Numbering.{blockStart}
 use Rattle.rules.specs.declared.rule.Rule.{Rule}
 use Rattle.rules.specs.declared.rule.Rule.the-variants.{One, Two, Nothing}
 use Rattle.rules.specs.declared.refusal.Refusal.the-variants.{OutOfLimit}
+use Rattle.rules.specs.declared.paper.Paper.{Paper}
 use Rattle.rules.specs.declared.paper.Paper.the-variants.{Sheet}
 use Rattle.rules.specs.Hidden.{setWithin}
 use Rattle.rules.specs.Limits.{boundLimit, maxQuantities, maxText}
@@ -40,10 +41,10 @@ use Rattle.reading.proofs.Means.{text-means}
 use Rattle.reading.proofs.Replies.{reply-refused}
 use Rattle.reading.proofs.Promised.{reading-kept}
 use Rattle.writing.specs.Writing.{writtenOf, rulesAt, tableRules, hiddenList, contentsOf, writtenText}
-use Rattle.writing.specs.Promises.{PastLimit, FirstPast, lineAt, RefusedPast}
+use Rattle.writing.specs.Promises.{PastLimit, FirstPast, lineAt, RefusedPast, ReadPast}
 use Rattle.writing.proofs.Meanings.{front-word}
 use Rattle.writing.proofs.Back.{literal-within, rules-fine, AtMostIn, bound-magnitude, opening-fine}
-use Rattle.writing.proofs.Members.{hidden-back}
+use Rattle.writing.proofs.Members.{hidden-limit}
 use Rattle.writing.proofs.Texts.{rules-append, lines-append}
 
 -- ---- a bound outside a limit
@@ -87,17 +88,17 @@ not-in-limit B w e = (go (hasRule w) refl, λ h. clash (inLimit-bounded B w .1 (
     go true h = refl
     go false h = clash (inLimit-bounded B w .1 (λ q. clash q h)) e
 
--- the first j places are all within the sheet's limit, or one of them is the first that is not
-pub within-or-past : (n set : ℕ) (t : List ℤ) (j : ℕ) → j ≤ blockStart n → j ≤ length t
-    → WordsWithin j (pos (boundLimit Sheet n set)) t ⊎ ((k : ℕ) × FirstPast n set t k)
-within-or-past n set t zero h l = inl (record { each = λ k b. let z : ⊥ = omega arith in absurd z })
-within-or-past n set t (suc j) h l = go (within-or-past n set t j (omega arith) (omega arith)) (inLimit limit (wordAt t j)) refl
+-- the first j places are all within a paper's limit, or one of them is the first that is not
+pub within-or-past : (paper : Paper) (n set : ℕ) (t : List ℤ) (j : ℕ) → j ≤ blockStart n → j ≤ length t
+    → WordsWithin j (pos (boundLimit paper n set)) t ⊎ ((k : ℕ) × FirstPast paper n set t k)
+within-or-past paper n set t zero h l = inl (record { each = λ k b. let z : ⊥ = omega arith in absurd z })
+within-or-past paper n set t (suc j) h l = go (within-or-past paper n set t j (omega arith) (omega arith)) (inLimit limit (wordAt t j)) refl
   where
     limit : ℤ
-    limit = pos (boundLimit Sheet n set)
+    limit = pos (boundLimit paper n set)
 
-    go : WordsWithin j limit t ⊎ ((k : ℕ) × FirstPast n set t k) → (b : Bool) → inLimit limit (wordAt t j) ≡ b
-        → WordsWithin (suc j) limit t ⊎ ((k : ℕ) × FirstPast n set t k)
+    go : WordsWithin j limit t ⊎ ((k : ℕ) × FirstPast paper n set t k) → (b : Bool) → inLimit limit (wordAt t j) ≡ b
+        → WordsWithin (suc j) limit t ⊎ ((k : ℕ) × FirstPast paper n set t k)
     go (inr f) b e = inr f
     go (inl w) true e = inl (within-more j limit t w (inLimit-bounded limit (wordAt t j) .0 e))
     go (inl w) false e =
@@ -106,10 +107,10 @@ within-or-past n set t (suc j) h l = go (within-or-past n set t j (omega arith) 
         inr (j, record { past = record { holds = holds; outside = p .1 }; before = w })
 
 -- where a place is not, there is a first one
-first-past : (n set : ℕ) (t : List ℤ) (k : ℕ) → PastLimit n set t k → (j : ℕ) × FirstPast n set t j
-first-past n set t k p = go (within-or-past n set t k (omega (arith, p .holds .inside)) (omega (arith, p .holds .there)))
+first-past : (paper : Paper) (n set : ℕ) (t : List ℤ) (k : ℕ) → PastLimit paper n set t k → (j : ℕ) × FirstPast paper n set t j
+first-past paper n set t k p = go (within-or-past paper n set t k (omega (arith, p .holds .inside)) (omega (arith, p .holds .there)))
   where
-    go : WordsWithin k (pos (boundLimit Sheet n set)) t ⊎ ((j : ℕ) × FirstPast n set t j) → (j : ℕ) × FirstPast n set t j
+    go : WordsWithin k (pos (boundLimit paper n set)) t ⊎ ((j : ℕ) × FirstPast paper n set t j) → (j : ℕ) × FirstPast paper n set t j
     go (inl w) = (k, record { past = p; before = w })
     go (inr f) = f
 
@@ -134,10 +135,10 @@ lines-count : (rs : List Written) → length (ruleLines rs) ≡ length rs
 lines-count [] = refl
 lines-count (r ∷ rs) = ap suc (lines-count rs)
 
--- n and a set in their ranges, and a table whose first place past the sheet's limit is k
-module _ (n set : ℕ) (t : List ℤ) (some : 1 ≤ n) (most : n ≤ maxQuantities) (within : setWithin n set ≡ true) (k : ℕ) (f : FirstPast n set t k) where
+-- n and a set in their ranges, and a table whose first place past a paper's limit is k
+module _ (paper : Paper) (n set : ℕ) (t : List ℤ) (some : 1 ≤ n) (most : n ≤ maxQuantities) (within : setWithin n set ≡ true) (k : ℕ) (f : FirstPast paper n set t k) where
   abbrev limit : ℕ
-  limit = boundLimit Sheet n set
+  limit = boundLimit paper n set
 
   abbrev front : List ℤ
   front = take (blockStart n) t
@@ -167,7 +168,7 @@ module _ (n set : ℕ) (t : List ℤ) (some : 1 ≤ n) (most : n ≤ maxQuantiti
   opening = ruled n (hiddenList n set) (length (tableRules n t)) before
 
   -- its line is where the reader stops
-  written-outside : OutsideAt Sheet (writtenText n set t) (lineAt t k)
+  written-outside : OutsideAt paper (writtenText n set t) (lineAt t k)
   unfolding writtenText linesText
   written-outside = record {
     opening = opening;
@@ -177,13 +178,13 @@ module _ (n set : ℕ) (t : List ℤ) (some : 1 ≤ n) (most : n ≤ maxQuantiti
       text = sheet-lines (contentsOf n set t)
           ∙ ap (λ (rs : List Written). linesText (linesOf (ruled n (hiddenList n set) (length (tableRules n t)) rs))) table-apart
           ∙ lines-more n (hiddenList n set) (length (tableRules n t)) before (here ∷ after);
-      fine = rw (hidden-back n set within) (opening-fine n set t some most limit before (rules-fine n limit 0 (take k t) short inside));
+      fine = rw (← hidden-limit paper n set within) (opening-fine n set t some most limit before (rules-fine n limit 0 (take k t) short inside));
       most = omega (arith, count);
       number = omega (arith, lines-count before);
     };
     due = rw (lt-ltb (length before) (length (tableRules n t)) (omega (arith, count)));
     formed = tt;
-    outside = rw (hidden-back n set within)
+    outside = rw (← hidden-limit paper n set within)
         (rule-outside n limit (ruleAt k (wordAt t k)) (ruleAt-hasPlace n k (wordAt t k) (f .past .holds .inside)) large);
   }
     where
@@ -201,21 +202,19 @@ module _ (n set : ℕ) (t : List ℤ) (some : 1 ≤ n) (most : n ≤ maxQuantiti
       large : limit < natAbs (boundOf (ruleAt k (wordAt t k)))
       large = rw (ruleAt-bound k (wordAt t k)) (outside-magnitude limit (wordAt t k) (f .past .outside))
 
-  -- so the text is refused, whatever table it is read into
-  refused-past : length (writtenText n set t) ≤ maxText → (u : List ℤ) → RefusedPast n set t (writtenText n set t) u
-  refused-past small u = record {
-    place = k;
-    first = f;
-    reply = ap readingReturned reply;
-    kept = reading-kept (writtenText n set t) u (OutOfLimit (lineAt t k)) reply;
-  }
-    where
-      reply : readReply (writtenText n set t) (length u) ≡ Refused (OutOfLimit (lineAt t k))
-      reply = reply-refused (writtenText n set t) (length u) (OutOfLimit (lineAt t k))
-          (text-means Sheet (writtenText n set t) (refused (OutOfLimit (lineAt t k))) .1 (inr (small, outside-at (lineAt t k) written-outside refl)))
+  -- so the text is refused
+  refused-past : length (writtenText n set t) ≤ maxText → RefusedPast paper n set t (writtenText n set t)
+  refused-past small = record { place = k; first = f; fails = inr (small, outside-at (lineAt t k) written-outside refl) }
 
--- a text with a bound outside the sheet's limit is refused with 3, at the line of the first
-pub written-past : (n set : ℕ) (t : List ℤ) → 1 ≤ n → n ≤ maxQuantities → setWithin n set ≡ true → length (writtenText n set t) ≤ maxText
-    → (k : ℕ) → PastLimit n set t k → (u : List ℤ) → RefusedPast n set t (writtenText n set t) u
-written-past n set t some most within small k p =
-    let f = first-past n set t k p in refused-past n set t some most within (f .0) (f .1) small
+-- a text with a bound outside a paper's limit is refused with 3, at the line of the first
+pub written-past : (n set : ℕ) (t : List ℤ) → 1 ≤ n → n ≤ maxQuantities → setWithin n set ≡ true → (paper : Paper) → length (writtenText n set t) ≤ maxText
+    → (k : ℕ) → PastLimit paper n set t k → RefusedPast paper n set t (writtenText n set t)
+written-past n set t some most within paper small k p =
+    let f = first-past paper n set t k p in refused-past paper n set t some most within (f .0) (f .1) small
+
+-- so is its reading, whatever table it is read into
+pub past-read : (n set : ℕ) (t : List ℤ) (s : List ℕ) → RefusedPast Sheet n set t s → (u : List ℤ) → ReadPast n set t s u
+past-read n set t s p u = record { refused = p; reply = ap readingReturned reply; kept = reading-kept s u (OutOfLimit (lineAt t (p .place))) reply }
+  where
+    reply : readReply s (length u) ≡ Refused (OutOfLimit (lineAt t (p .place)))
+    reply = reply-refused s (length u) (OutOfLimit (lineAt t (p .place))) (text-means Sheet s (refused (OutOfLimit (lineAt t (p .place)))) .1 (p .fails))

@@ -12,6 +12,7 @@ use borrow.Author.Tests.{leb-true, le-leb, lt-leb}
 use Rattle.places.specs.Numbering.{blockStart}
 use Rattle.numerals.specs.Writing.{Spliced}
 use Rattle.numerals.proofs.Splices.{splice-start}
+use Rattle.rules.specs.declared.paper.Paper.the-variants.{Sheet}
 use Rattle.rules.specs.declared.refusal.Refusal.{Refusal}
 use Rattle.rules.specs.declared.refusal.Refusal.the-variants.{Size, OutOfLimit, TooShort}
 use Rattle.rules.specs.Refusal.{refusedAs}
@@ -35,7 +36,7 @@ use Rattle.writing.proofs.Meanings.{AreWords, words-clean, table-meanin
 use Rattle.writing.proofs.Lengths.{longest-any}
 use Rattle.writing.proofs.KeyLengths.{key-short}
 use Rattle.writing.proofs.Back.{spells-words, written-back, written-script}
-use Rattle.writing.proofs.Past.{written-past}
+use Rattle.writing.proofs.Past.{written-past, past-read}
 use Rattle.writing.proofs.Numbers.{text-number, text-returned}
 
 -- ---- the reply
@@ -135,7 +136,8 @@ text-made n set t s w words = record {
   key-short = short;
   back = λ b. written-back n set t (s .some) (s .most) w b (s .room) (words-clean (blockStart n) t words);
   script = λ b l. written-script n set t (s .some) (s .most) w b l (s .room) (words-clean (blockStart n) t words);
-  past = λ l. written-past n set t (s .some) (s .most) w l;
+  past = written-past n set t (s .some) (s .most) w;
+  read-past = λ l k p. past-read n set t (writtenText n set t) (written-past n set t (s .some) (s .most) w Sheet l k p);
 }
   where
     short : KeyLike n set t → length (writtenText n set t) ≤ maxText

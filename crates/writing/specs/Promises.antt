@@ -10,6 +10,7 @@ use lib.ListN.{length, take, drop}
 use Rattle.integers.specs.Bound.{Within}
 use Rattle.words.specs.Change.{wordAt}
 use Rattle.places.specs.Numbering.{blockStart}
+use Rattle.rules.specs.declared.paper.Paper.{Paper}
 use Rattle.rules.specs.declared.paper.Paper.the-variants.{Sheet, Script}
 use Rattle.rules.specs.declared.refusal.Refusal.the-variants.{Size, OutOfLimit, TooShort}
 use Rattle.rules.specs.Refusal.{refusedAs}
@@ -21,7 +22,7 @@ use Rattle.tables.specs.Tables.{tableOf}
 use Rattle.tables.specs.Meaning.{TableSized, HoldsRule, Satisfies, MeetsAll, WordsWithin, KeyLike, BoundsWithin}
 use Rattle.lines.specs.Spelling.{writtenRules}
 use Rattle.reading.specs.declared.read.Reading.the-variants.{Accepted}
-use Rattle.reading.specs.Meaning.{Spells, Reads}
+use Rattle.reading.specs.Meaning.{Spells, Reads, FailsFor}
 use Rattle.reading.specs.Reading.{readReply, readTable, readingReturned}
 use Rattle.writing.specs.declared.write.Writing.{Writing}
 use Rattle.writing.specs.Writing.{rulesAt, tableRules, hiddenList, contentsOf, writtenText, writeReply, written, textReturned, writingReturned, writingNumber, writingValue}
@@ -61,25 +62,30 @@ pub record ReadAsScript (n set : ℕ) (table : List ℤ) (s : List ℕ) : Type 0
   pub hides : setOf (hiddenList n set) ≡ set
   pub words : tableOf n (writtenRules (tableRules n table)) ≡ take (blockStart n) table
 
--- place k holds a rule whose bound is outside the sheet's limit
-pub record PastLimit (n set : ℕ) (table : List ℤ) (k : ℕ) : Type 0 where
+-- place k holds a rule whose bound is outside the limit of a paper
+pub record PastLimit (paper : Paper) (n set : ℕ) (table : List ℤ) (k : ℕ) : Type 0 where
   pub holds : HoldsRule n table k
-  pub outside : Within (pos (boundLimit Sheet n set)) (wordAt table k) → ⊥
+  pub outside : Within (pos (boundLimit paper n set)) (wordAt table k) → ⊥
 
 -- and no place before it does
-pub record FirstPast (n set : ℕ) (table : List ℤ) (k : ℕ) : Type 0 where
-  pub past : PastLimit n set table k
-  pub before : WordsWithin k (pos (boundLimit Sheet n set)) table
+pub record FirstPast (paper : Paper) (n set : ℕ) (table : List ℤ) (k : ℕ) : Type 0 where
+  pub past : PastLimit paper n set table k
+  pub before : WordsWithin k (pos (boundLimit paper n set)) table
 
 -- the number of the line of the rule that place k holds: above it stand three lines and one for each rule of the places before
 abbrev pub lineAt : List ℤ → ℕ → ℕ
 lineAt table k = 4 + length (rulesAt 0 (take k table))
 
--- the text s of a table is refused when it is read into t: 3, at the line of the first rule whose bound is outside the sheet's limit
-pub record RefusedPast (n set : ℕ) (table : List ℤ) (s : List ℕ) (t : List ℤ) : Type 0 where
+-- the text s of a table is refused as a paper: 3, at the line of the first rule whose bound is outside its limit
+pub record RefusedPast (paper : Paper) (n set : ℕ) (table : List ℤ) (s : List ℕ) : Type 0 where
   pub place : ℕ
-  pub first : FirstPast n set table place
-  pub reply : readingReturned (readReply s (length t)) ≡ refusedAs (OutOfLimit (lineAt table place))
+  pub first : FirstPast paper n set table place
+  pub fails : FailsFor paper s (OutOfLimit (lineAt table place))
+
+-- reading the text s into t is refused so, as a sheet, and t stays
+pub record ReadPast (n set : ℕ) (table : List ℤ) (s : List ℕ) (t : List ℤ) : Type 0 where
+  pub refused : RefusedPast Sheet n set table s
+  pub reply : readingReturned (readReply s (length t)) ≡ refusedAs (OutOfLimit (lineAt table (refused .place)))
   pub kept : readTable s t ≡ t
 
 -- ---- the writer
@@ -99,8 +105,9 @@ pub record TextMade (n set : ℕ) (table : List ℤ) (r : Writing) (s : List ℕ
   pub back : BoundsWithin Sheet n set table → (t : List ℤ) → blockStart n ≤ length t → ReadBack n set table s t
   -- read as a script, where the words are in a script's limit and the text is not too long, as no key's is, it gives the table back too
   pub script : BoundsWithin Script n set table → length s ≤ maxText → ReadAsScript n set table s
-  -- where some bound is outside the sheet's, and the text not too long to be read, reading it is refused with 3, whatever table it is read into
-  pub past : length s ≤ maxText → (k : ℕ) → PastLimit n set table k → (t : List ℤ) → RefusedPast n set table s t
+  -- as a sheet or a script that some bound is outside the limit of, it is refused with 3, where it is not too long; reading it too, whatever table it is read into
+  pub past : (paper : Paper) → length s ≤ maxText → (k : ℕ) → PastLimit paper n set table k → RefusedPast paper n set table s
+  pub read-past : length s ≤ maxText → (k : ℕ) → PastLimit Sheet n set table k → (t : List ℤ) → ReadPast n set table s t
 
 -- a table and a hidden set written: refused by the first need that is not met, and then the output stays; else its first bytes, as many as are returned, are the text
 pub record TextWritten (n set : ℕ) (table : List ℤ) (out : List ℕ) (r : Writing) (out' : List ℕ) : Type 0 where

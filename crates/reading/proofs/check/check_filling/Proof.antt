@@ -13,7 +13,7 @@ use Rattle.lines.specs.Spelling.{quantitiesKey, rulesKey}
 use Rattle.lines.specs.Lines.{countJudged, hiddenJudged}
 use Rattle.lines.proofs.Found.{CountFound, HiddenFound, LineRefused, count-found, hidden-found, count-refused, hidden-refused, refused-by}
 use Rattle.reading.specs.Inner.{RulesFilled}
-use Rattle.reading.proofs.Limits.{limit-told, unsigned, cap-casts, cap-value}
+use Rattle.reading.proofs.Limits.{limit-told, list-limit, unsigned, cap-casts, cap-value}
 use Rattle.reading.proofs.FillingOnce.{header-refused, text-filled}
 use Rattle.reading.proofs.Checking.{size-checked, first-checked, second-checked, third-checked, rules-checked}
 use Rattle.reading.proofs.check.check_filling.Statement.{statement}
@@ -160,7 +160,8 @@ returns-5 c = let e = c .before in let t = e .before .before in let b = t .befor
     rw (limit-is b) at (e .check-rules .ensures) in
     text-filled (paperOf f) (textOf f) (countOf f) (setAt k) (rulesOf t) (bodyAt t) _ _ _ (first f .high) (p .reply
     ∙ rules-checked (paperOf f) (textOf f) (small f) (countOf f) (drop (secondAt f) (textOf f)) (first f .is) (second k .members)
-    (drop (thirdAt k) (textOf f)) (second k .is) (setAt k) (rulesOf t) (bodyAt t) (second k .told) (third t .inside) (third t .is)) p
+    (drop (thirdAt k) (textOf f)) (second k .is) (setAt k) (rulesOf t) (bodyAt t) (second k .told)
+    (list-limit (paperOf f) (countOf f) (second k .members) (second k .increase) (second k .within)) (third t .inside) (third t .is)) p
 
 pub check-filling-spec : {M : Type 1} → statement M
 check-filling-spec =

@@ -4,20 +4,20 @@ use mathlib.Core.Bool.{Bool, true, false, cond}
 use Prim.Native.Nat.{ℕ, _+_, _-_, _≤_}
 use native.Mathlib.Omega.{arith}
 use borrow.Author.Needs.{needs}
-use Rattle.rules.specs.Hidden.{hiddenIn, hiddenCount}
+use Rattle.rules.specs.Hidden.{hiddenIn, memberCount}
 use Rattle.rules.proofs.Counts.{count-zero, count-more, count-bits}
 use Rattle.rules.proofs.hidden.count.Statement.{statement}
 use Rattle.rules.proofs.hidden.count.Tie as tie
 
 abbrev Inv-loop : tie.InvT-loop
-Inv-loop set n members₀ q₀ members q = (q ≤ n) × (members ≤ q) × (members ≡ hiddenCount (hiddenIn set) q)
+Inv-loop set n members₀ q₀ members q = (q ≤ n) × (members ≤ q) × (members ≡ memberCount (hiddenIn set) q)
 
 abbrev μ-loop : tie.MeasureT-loop
 μ-loop set n members₀ q₀ members q = n - q
 
 -- the next quantity, a member or not
-next : (set q members : ℕ) (b : Bool) → members ≡ hiddenCount (hiddenIn set) q → b ≡ hiddenIn set (q + 1)
-    → cond b (members + 1) members ≡ hiddenCount (hiddenIn set) (q + 1)
+next : (set q members : ℕ) (b : Bool) → members ≡ memberCount (hiddenIn set) q → b ≡ hiddenIn set (q + 1)
+    → cond b (members + 1) members ≡ memberCount (hiddenIn set) (q + 1)
 next set q members b e t = rw (e, t) (sym (count-more (hiddenIn set) q))
 
 loop-holds : tie.Need-loop-holds Inv-loop μ-loop

@@ -11,7 +11,7 @@ use mir.ValLaws.{toZ-ofZ}
 use borrow.Author.Needs.{needs}
 use Rattle.rules.specs.declared.paper.Paper.{Paper}
 use Rattle.rules.specs.declared.paper.Paper.the-variants.{Sheet, Script}
-use Rattle.rules.specs.Hidden.{hiddenIn, hiddenCount}
+use Rattle.rules.specs.Hidden.{hiddenIn, memberCount}
 use Rattle.rules.specs.Limits.{maxBound, boundLimit}
 use Rattle.rules.proofs.Counts.{count-small}
 use Rattle.rules.proofs.paper.bound_limit.Statement.{statement}
@@ -28,7 +28,7 @@ doubled-small k h = omega (arith, mul-le-mul-left maxBound (pow-mono {i = k} {j 
 doubled-word : (k : ℕ) → k ≤ 32 → SFits w64 (pos ((maxBound * 2 ^ k) % 2 ^ 64))
 doubled-word k h = record { sfits = omega (arith, doubled-small k h) }
 
-script-limit : (paper : Paper) (n set k : ℕ) → k ≤ 32 → paper ≡ Script → k ≡ hiddenCount (hiddenIn set) n → toZ w64 ((maxBound * 2 ^ k) % 2 ^ 64) ≡ pos (boundLimit paper n set)
+script-limit : (paper : Paper) (n set k : ℕ) → k ≤ 32 → paper ≡ Script → k ≡ memberCount (hiddenIn set) n → toZ w64 ((maxBound * 2 ^ k) % 2 ^ 64) ≡ pos (boundLimit paper n set)
 unfolding boundLimit
 script-limit paper n set k h p e =
     let whole : (maxBound * 2 ^ k) % 2 ^ 64 ≡ maxBound * 2 ^ k = omega (arith, doubled-small k h) in

@@ -28,8 +28,8 @@
  * The limits of a sheet. Its bounds are from -ACORNSLED_MOST_BOUND to ACORNSLED_MOST_BOUND, as they are written, a doubled term
  * too. A script's other limits are the same; for its bounds ACORNSLED_MOST_BOUND is doubled once for each quantity that is
  * hidden, in a text by its own hidden list. A key's bounds are never past that: a sheet's key, handed in as its script, is
- * equal. Where a call has a text or a table that is not a script's, it is held to a sheet's limits, so that a key may be past
- * them (3).
+ * equal. acornsled_read, acornsled_key and acornsled_assignment hold what they are given to a sheet's limits, so that a key may
+ * be past them (3); acornsled_write writes any bound.
  */
 #define ACORNSLED_MOST_QUANTITIES 32
 #define ACORNSLED_MOST_BOUND INT64_C(1000000000)
@@ -86,7 +86,8 @@ uint32_t acornsled_read(const uint8_t *text, size_t text_length, int64_t *table,
                         size_t *quantities, uint32_t *hidden, size_t *value);
 
 /*
- * Writes a table and a hidden set as a text: 0, or 1, 3, 6. With 0 the first `value` bytes of `out` are the text.
+ * Writes a table and a hidden set as a text: 0, or 1, 3, 6; 3 is for the set alone, a bound may be any word. With 0 the first
+ * `value` bytes of `out` are the text.
  * ACORNSLED_TEXT_BYTES are enough for every table.
  */
 uint32_t acornsled_write(size_t n, uint32_t hidden, const int64_t *table, size_t table_length, uint8_t *out,

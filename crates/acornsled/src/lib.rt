@@ -95,7 +95,7 @@ pub extern "C" fn acornsled_mark(sheet: &[u8], script: &[u8]) -> u32
 }
 
 // The same with the reasons. A refusal is told with its paper and its line or length, which are 0 with a verdict; a verdict with the sheet's n; loose and tight
-// with the rule, the words of the trivial one where there is none, and with the integers that show the verdict, in the first n words of `values`. Else n, rule and
+// with the rule, three words that are 0 where there is none, and with the integers that show the verdict, in the first n words of `values`. Else n, rule and
 // values stay as they were.
 #[no_mangle]
 pub extern "C" fn acornsled_mark_texts(

@@ -27,9 +27,9 @@ use Rattle.reports.specs.Reports.{tableReport, reportOf, keyReport}
 use Rattle.reports.specs.Meaning.{KeyText, Unmet}
 use Rattle.reports.specs.Promises.{KeyPrinted}
 use Rattle.reading.proofs.Means.{Means, text-means, reads-check}
-use Rattle.scripts.specs.Meaning.{setIn, tableIn, keyIn, OwnKeyText}
+use Rattle.scripts.specs.Meaning.{setIn, tableIn, OwnKeyText}
 use Rattle.scripts.proofs.OwnKeys.{key-reads, key-spares, key-rules, own-reply}
-use Rattle.scripts.proofs.Sheets.{FineSheet, fine-table, sheet-refuted, sheet-unmet, sheet-met, key-text-short}
+use Rattle.scripts.proofs.Sheets.{FineSheet, fine-table, keyIn, sheet-refuted, sheet-unmet, sheet-met, key-text-short}
 use Rattle.reports.proofs.RefusalLengths.{refusal-width}
 use Rattle.reports.proofs.PrintedReplies.{refusal-same, fails-number, text-unlike}
 

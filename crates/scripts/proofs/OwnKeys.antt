@@ -41,9 +41,9 @@ use Rattle.marking.proofs.Demand.{verdict-demand}
 use Rattle.marking.proofs.OwnKeys.{is-equal}
 use Rattle.scripts.specs.declared.room.Lengths.{Lengths}
 use Rattle.scripts.specs.declared.reply.TextMarking.the-variants.{Marked}
-use Rattle.scripts.specs.Meaning.{setIn, tableIn, keyIn, ownLengths, Matches, Room, OwnKeyText}
+use Rattle.scripts.specs.Meaning.{setIn, tableIn, ownLengths, Matches, Room, OwnKeyText}
 use Rattle.scripts.specs.Marking.{pairChecks, pairReply, textsReply}
-use Rattle.scripts.proofs.Sheets.{FineTable, FineSheet, fine-table, table-sized, key-length, key-meaning, key-like}
+use Rattle.scripts.proofs.Sheets.{FineTable, FineSheet, fine-table, table-sized, keyIn, key-length, key-meaning, key-like}
 use Rattle.scripts.proofs.Matching.{matches-visible}
 use Rattle.scripts.proofs.Rooms.{pair-tied}
 use Rattle.scripts.proofs.Alike.{alike-back, alike-same}

@@ -2,9 +2,11 @@
 -- demand 2 says. Assumes nothing.
 use mathlib.Core.Path.{_≡_, refl, _∙_}
 use mathlib.Core.Bool.{Bool, true, false}
+use mathlib.Core.List.{List}
 use mathlib.Core.Logic.{_↔_}
 use Prim.Native.Nat.{ℕ, _≤_}
 use native.Mathlib.Omega.{arith}
+use lib.IntN.{ℤ}
 use lib.ListN.{length}
 use Rattle.places.specs.Numbering.{blockStart}
 use Rattle.rules.specs.declared.paper.Paper.{Paper}
@@ -28,7 +30,7 @@ use Rattle.reading.specs.Meaning.{FineLines, contentsLimit, rulesOf}
 use Rattle.reading.specs.Promises.{TableHolds}
 use Rattle.writing.specs.Writing.{hiddenList, writtenText}
 use Rattle.writing.proofs.KeyLengths.{key-short}
-use Rattle.scripts.specs.Meaning.{setIn, tableIn, keyIn}
+use Rattle.scripts.specs.Meaning.{setIn, tableIn}
 use Rattle.scripts.proofs.Rules.{rules-held, read-within}
 use Rattle.scripts.proofs.Hiddens.{set-range, list-back}
 
@@ -92,6 +94,9 @@ sheet-met c s σ m = go (refuted (c .count) (tableIn c)) refl
     go false e = refl
 
 -- ---- the key
+
+abbrev pub keyIn : Contents → List ℤ
+keyIn c = keyOf (hiddenIn (setIn c)) (c .count) (tableIn c)
 
 -- it has as many words as the table
 pub key-length : (c : Contents) → FineSheet c → length (keyIn c) ≡ blockStart (c .count)

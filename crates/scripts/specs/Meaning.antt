@@ -27,15 +27,12 @@ use Rattle.scripts.specs.declared.reply.Subject.the-variants.{Both}
 use Rattle.scripts.specs.declared.reply.Subject.the-variants.{Sheet as OfSheet}
 use Rattle.scripts.specs.declared.reply.Subject.the-variants.{Script as OfScript}
 
--- the hidden set, the table and its plain key, of contents
+-- the hidden set and the table of contents
 abbrev pub setIn : Contents → ℕ
 setIn c = setOf (c .hiddens)
 
 abbrev pub tableIn : Contents → List ℤ
 tableIn c = tableOf (c .count) (writtenRules (c .written))
-
-abbrev pub keyIn : Contents → List ℤ
-keyIn c = keyOf (hiddenIn (setIn c)) (c .count) (tableIn c)
 
 -- a script fits a sheet: it has its n and its hidden list, and no rule names a hidden quantity
 pub record Matches (sheet script : Contents) : Type 0 where

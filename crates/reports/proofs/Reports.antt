@@ -12,8 +12,9 @@ use Rattle.places.specs.Numbering.{blockStart}
 use Rattle.rules.specs.declared.paper.Paper.the-variants.{Sheet}
 use Rattle.rules.specs.declared.refusal.Refusal.{Refusal}
 use Rattle.rules.specs.declared.refusal.Refusal.the-variants.{NoAssignment}
+use Rattle.rules.specs.Hidden.{hiddenIn}
 use Rattle.rules.specs.Meaning.{Assignment}
-use Rattle.keys.specs.Keys.{refuted}
+use Rattle.keys.specs.Keys.{keyOf, refuted}
 use Rattle.numerals.specs.Writing.{Spliced}
 use Rattle.numerals.proofs.Splices.{splice-start}
 use Rattle.lines.specs.Lines.{Judged, accepted, refused}
@@ -29,7 +30,7 @@ use Rattle.reports.specs.Promises.{KeyPrinted}
 use Rattle.reading.proofs.Means.{Means, text-means, reads-check}
 use Rattle.scripts.specs.Meaning.{setIn, tableIn, OwnKeyText}
 use Rattle.scripts.proofs.OwnKeys.{key-reads, key-spares, key-rules, own-reply}
-use Rattle.scripts.proofs.Sheets.{FineSheet, fine-table, keyIn, sheet-refuted, sheet-unmet, sheet-met, key-text-short}
+use Rattle.scripts.proofs.Sheets.{FineSheet, fine-table, keyIn, sheet-refuted, sheet-unmet, sheet-some, sheet-met, key-text-short}
 use Rattle.reports.proofs.RefusalLengths.{refusal-width}
 use Rattle.reports.proofs.PrintedReplies.{refusal-same, fails-number, text-unlike}
 
@@ -116,6 +117,25 @@ report-tells s f = go (checkText Sheet s) (text-means Sheet s (checkText Sheet s
     go (accepted c u) m e = inr (table c (m .0) (refuted (c .count) (tableIn c)) refl e)
     go (refused g) m e = inl (subst (FailsFor Sheet s) (refusal-same g f (fails-number Sheet s g m .1) e) m)
 
+-- it is none: it is the text of the sheet's own key
+report-key-text : (s : List ℕ) → ((f : Refusal) → keyReport s ≡ refusalText f → ⊥) → OwnKeyText s (keyReport s)
+report-key-text s other = go (checkText Sheet s) (text-means Sheet s (checkText Sheet s) .0 refl)
+  where
+    table : (c : Contents) → Reads Sheet s c → (b : Bool) → refuted (c .count) (tableIn c) ≡ b → OwnKeyText s (keyReport s)
+    table c p true h = absurd (other NoAssignment (report-accepted s c p ∙ report-five c h))
+    table c p false h =
+        let t = fine-table Sheet c (p .spelled .fine) in
+        let w = sheet-some c t h in
+        report-own s c p (w .assignment) (t .held .meaning (w .assignment) .0 (w .satisfies))
+
+    go : (j : Judged Contents) → Means Sheet s j → OwnKeyText s (keyReport s)
+    go (accepted c u) m = table c (m .0) (refuted (c .count) (tableIn c)) refl
+    go (refused g) m = absurd (other g (report-refused s g m))
+
+-- only then
+key-text-other : (s text : List ℕ) → OwnKeyText s text → (f : Refusal) → text ≡ refusalText f → ⊥
+key-text-other s text k f e = text-unlike (k .contents .count) (setIn (k .contents)) (keyOf (hiddenIn (setIn (k .contents))) (k .contents .count) (k .table)) f (sym (k .text) ∙ e)
+
 -- a refusal other than 5, exactly when the text is refused for it
 pub refused-exactly : (s : List ℕ) (f : Refusal) → (f ≡ NoAssignment → ⊥) → (keyReport s ≡ refusalText f) ↔ FailsFor Sheet s f
 refused-exactly s f other = (λ e. ⊎-elim (λ h. h) (λ u. absurd (other (u .0))) (report-tells s f e), report-refused s f)
@@ -143,6 +163,7 @@ printed {s} {out} {text} {end} {out'} e w =
       refused = refused-exactly s;
       five = five-exactly s;
       some = report-some s;
+      accepted = (λ h. rw text (report-key-text s (λ f d. h f (text ∙ d))), key-text-other s (take end out'));
       own-key = λ c p σ m. rw text (report-own s c p σ m);
       own-script = λ c p σ m lent enough. own-reply s (take end out') lent (rw text (report-own s c p σ m)) enough;
     }

@@ -28,7 +28,7 @@ use Rattle.reports.specs.Reports.{keyReport}
 use Rattle.reports.specs.Meaning.{KeyText, Unmet, VerdictText}
 
 -- what is printed for the text s: its refusal, exactly when it is refused; 5, exactly when it is accepted and no integers satisfy its rules; and the text
--- of its key if some do
+-- of its key, exactly when some do
 pub record KeyPrinted (s : List ℕ) (out : List ℕ) (end : ℕ) (out' : List ℕ) : Type 0 where
   pub count : end ≡ length (keyReport s)
   pub bytes : out' ≡ keyReport s ++ drop (length (keyReport s)) out
@@ -38,7 +38,9 @@ pub record KeyPrinted (s : List ℕ) (out : List ℕ) (end : ℕ) (out' : List �
   pub refused : (f : Refusal) → (f ≡ NoAssignment → ⊥) → (keyReport s ≡ refusalText f) ↔ FailsFor Sheet s f
   pub five : (keyReport s ≡ refusalText NoAssignment) ↔ Unmet s
   pub some : (c : Contents) → Reads Sheet s c → (σ : Assignment) → rulesOf c σ → KeyText c (keyReport s)
-  -- what is printed then is the text of the sheet's own key, and handed in as its script it is accepted and found equal, with the lent words there
+  -- what is no refusal's text is that of the sheet's own key
+  pub accepted : ((f : Refusal) → take end out' ≡ refusalText f → ⊥) ↔ OwnKeyText s (take end out')
+  -- it is printed then, and handed in as its script it is accepted and found equal, with the lent words there
   pub own-key : (c : Contents) → Reads Sheet s c → (σ : Assignment) → rulesOf c σ → OwnKeyText s (take end out')
   pub own-script : (c : Contents) → Reads Sheet s c → (σ : Assignment) → rulesOf c σ → (lent : Lengths) → Room (c .count) lent
       → textsReply s (take end out') lent ≡ Marked (c .count) Equal

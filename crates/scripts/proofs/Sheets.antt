@@ -14,11 +14,12 @@ use Rattle.rules.specs.declared.paper.Paper.the-variants.{Sheet}
 use Rattle.rules.specs.Hidden.{hiddenIn, setWithin, isListed}
 use Rattle.rules.specs.Limits.{maxQuantities, boundLimit, maxText}
 use Rattle.rules.specs.Meaning.{Assignment}
-use Rattle.tables.specs.Meaning.{TableSized, Satisfies, SheetAllows, joined, KeyLike, BoundsWithin}
+use Rattle.tables.specs.Meaning.{TableSized, Satisfies, Satisfiable, SheetAllows, joined, KeyLike, BoundsWithin}
 use Rattle.tables.proofs.Lists.{tableOf-length}
+use Rattle.elimination.specs.Hiding.{every}
 use Rattle.keys.specs.Keys.{keyOf, refuted}
 use Rattle.keys.specs.Inner.{Fits}
-use Rattle.keys.proofs.Several.{hideUpTo-length, key-exact, key-visible}
+use Rattle.keys.proofs.Several.{hideUpTo-length, key-exact, key-visible, refuted-false}
 use Rattle.keys.proofs.Fitting.{sheet-fits, hide-ample, key-within, script-limit}
 use Rattle.keys.proofs.Deciding.{refuted-exactly}
 use Rattle.lines.specs.Spelling.{lineWithin, writtenRules}
@@ -85,7 +86,13 @@ sheet-refuted c s none = refuted-exactly (c .count) (tableIn c) (sheet-ample c s
 pub sheet-unmet : (c : Contents) → FineSheet c → refuted (c .count) (tableIn c) ≡ true → (σ : Assignment) → rulesOf c σ → ⊥
 sheet-unmet c s e σ m = refuted-exactly (c .count) (tableIn c) (sheet-ample c s) .0 e σ (s .held .meaning σ .1 m)
 
--- and where some do
+-- where it is not refuted, some integers satisfy it
+pub sheet-some : (c : Contents) → FineSheet c → refuted (c .count) (tableIn c) ≡ false → Satisfiable (c .count) (tableIn c)
+sheet-some c s e =
+    let f = sheet-ample c s in
+    refuted-false (c .count) (tableIn c) (f .sums .room) (hide-ample every (c .count) (tableIn c) f) e
+
+-- and it is not where some do
 pub sheet-met : (c : Contents) → FineSheet c → (σ : Assignment) → rulesOf c σ → refuted (c .count) (tableIn c) ≡ false
 sheet-met c s σ m = go (refuted (c .count) (tableIn c)) refl
   where

@@ -34,7 +34,7 @@ use Rattle.reading.specs.Meaning.{ruled, linesOf, Fine, AllFine, Spells, Reads}
 use Rattle.reading.proofs.Means.{reads-check}
 use Rattle.reading.specs.Reading.{checkText, replyTo, readReply, filled, readTable}
 use Rattle.writing.specs.Writing.{writtenOf, rulesAt, tableRules, hiddenList, contentsOf, writtenText}
-use Rattle.writing.specs.Promises.{ReadBack, ReadAsScript}
+use Rattle.writing.specs.Promises.{ReadBack, ReadAs}
 use Rattle.writing.proofs.Meanings.{front-word, Clean, table-back, AreWords}
 use Rattle.writing.proofs.Members.{hidden-increasing, hidden-within, hidden-back, hidden-limit}
 use Rattle.writing.proofs.Lengths.{rules-most, sheet-limit, longest-sheet}
@@ -138,8 +138,11 @@ module _ (n set : ℕ) (t : List ℤ) (some : 1 ≤ n) (most : n ≤ maxQuantiti
   -- ---- as a sheet
 
   -- it is never too long
+  pub sheet-short : BoundsWithin Sheet n set t → length (writtenText n set t) ≤ maxText
+  sheet-short words = longest-sheet n set t most (rw (sheet-limit n set) at words)
+
   pub sheet-reads : setWithin n set ≡ true → BoundsWithin Sheet n set t → Reads Sheet (writtenText n set t) (contentsOf n set t)
-  sheet-reads within words = written-reads Sheet within words (longest-sheet n set t most (rw (sheet-limit n set) at words))
+  sheet-reads within words = written-reads Sheet within words (sheet-short words)
 
   -- read into any table that is long enough, it gives n, the hidden set and the table's words back
   pub written-back : setWithin n set ≡ true → BoundsWithin Sheet n set t → blockStart n ≤ length t
@@ -159,11 +162,13 @@ module _ (n set : ℕ) (t : List ℤ) (some : 1 ≤ n) (most : n ≤ maxQuantiti
   pub key-reads : setWithin n set ≡ true → blockStart n ≤ length t → KeyLike n set t → Reads Script (writtenText n set t) (contentsOf n set t)
   key-reads within room key = written-reads Script within (key .within) (key-short n set t most room key)
 
+  -- ---- as either
+
   -- with n, the hidden set and rules that make the table's words again
-  pub written-script : setWithin n set ≡ true → BoundsWithin Script n set t → length (writtenText n set t) ≤ maxText
-      → blockStart n ≤ length t → Clean (blockStart n) t → ReadAsScript n set t (writtenText n set t)
-  written-script within words short room clean = record {
-    reads = written-reads Script within words short;
+  pub written-as : setWithin n set ≡ true → (paper : Paper) → BoundsWithin paper n set t → length (writtenText n set t) ≤ maxText
+      → blockStart n ≤ length t → Clean (blockStart n) t → ReadAs paper n set t (writtenText n set t)
+  written-as within paper words short room clean = record {
+    reads = written-reads paper within words short;
     hides = hidden-back n set within;
     words = table-back n t room clean;
   }

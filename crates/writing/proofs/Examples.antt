@@ -33,7 +33,7 @@ use Rattle.reading.specs.Reading.{checkText, readReply, readTable, readingRetur
 use Rattle.reading.proofs.Frauds.{reading}
 use Rattle.writing.specs.Writing.{writtenText}
 use Rattle.writing.specs.declared.write.Writing.the-variants.{Text}
-use Rattle.writing.specs.Promises.{FirstPast, lineAt, ReadAsScript, TextWritten}
+use Rattle.writing.specs.Promises.{FirstPast, lineAt, ReadAs, TextWritten}
 use Rattle.writing.proofs.Frauds.{writing}
 
 -- the key's table: +1-3 has place 11
@@ -136,5 +136,5 @@ large-past out m out' w t =
     (rw line at (p .reply), p .kept)
 
 -- and are accepted as a script, whose rule makes the key's table again
-pub large-script : (out : List ℕ) (m : ℕ) (out' : List ℕ) → TextWritten 3 2 largeKey out (Text m) out' → ReadAsScript 3 2 largeKey (take m out')
-large-script out m out' w = w .made refl .script (large-like .within) (w .made refl .key-short large-like)
+pub large-script : (out : List ℕ) (m : ℕ) (out' : List ℕ) → TextWritten 3 2 largeKey out (Text m) out' → ReadAs Script 3 2 largeKey (take m out')
+large-script out m out' w = w .made refl .read-as Script (large-like .within) (w .made refl .key-short large-like)

@@ -35,7 +35,7 @@ use Rattle.writing.specs.Promises.{writeNeeds, TextMade, TextWritten}
 use Rattle.writing.proofs.Meanings.{AreWords, words-clean, table-meaning}
 use Rattle.writing.proofs.Lengths.{longest-any}
 use Rattle.writing.proofs.KeyLengths.{key-short}
-use Rattle.writing.proofs.Back.{spells-words, written-back, written-script}
+use Rattle.writing.proofs.Back.{spells-words, written-back, sheet-short, written-as}
 use Rattle.writing.proofs.Past.{written-past, past-read}
 use Rattle.writing.proofs.Numbers.{text-number, text-returned}
 
@@ -133,9 +133,10 @@ text-made n set t s w words = record {
   spelled = spells-words n set t (s .some) (s .most) words;
   meaning = table-meaning n t (s .room);
   longest = longest-any n set t (s .most) words;
+  sheet-short = sheet-short n set t (s .some) (s .most);
   key-short = short;
   back = λ b. written-back n set t (s .some) (s .most) w b (s .room) (words-clean (blockStart n) t words);
-  script = λ b l. written-script n set t (s .some) (s .most) w b l (s .room) (words-clean (blockStart n) t words);
+  read-as = λ paper b l. written-as n set t (s .some) (s .most) w paper b l (s .room) (words-clean (blockStart n) t words);
   past = written-past n set t (s .some) (s .most) w;
   read-past = λ l k p. past-read n set t (writtenText n set t) (written-past n set t (s .some) (s .most) w Sheet l k p);
 }

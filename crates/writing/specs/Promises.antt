@@ -56,9 +56,9 @@ pub record ReadBack (n set : ℕ) (table : List ℤ) (s : List ℕ) (t : List �
   pub reply : readReply s (length t) ≡ Accepted n set
   pub words : readTable s t ≡ take (blockStart n) table ++ drop (blockStart n) t
 
--- the text s of a table is accepted as a script, with n, a list of the hidden set, and rules that make the table's words again
-pub record ReadAsScript (n set : ℕ) (table : List ℤ) (s : List ℕ) : Type 0 where
-  pub reads : Reads Script s (contentsOf n set table)
+-- the text s of a table is accepted as a paper, with n, a list of the hidden set, and rules that make the table's words again
+pub record ReadAs (paper : Paper) (n set : ℕ) (table : List ℤ) (s : List ℕ) : Type 0 where
+  pub reads : Reads paper s (contentsOf n set table)
   pub hides : setOf (hiddenList n set) ≡ set
   pub words : tableOf n (writtenRules (tableRules n table)) ≡ take (blockStart n) table
 
@@ -99,12 +99,13 @@ pub record TextMade (n set : ℕ) (table : List ℤ) (r : Writing) (s : List ℕ
   -- of rules that mean what the table does
   pub meaning : (σ : Assignment) → Satisfies n table σ ↔ MeetsAll σ (writtenRules (tableRules n table))
   pub longest : length s ≤ maxWritten
-  -- the text of a key is never too long for the reader
+  -- the text of a sheet or a key is never too long for the reader
+  pub sheet-short : BoundsWithin Sheet n set table → length s ≤ maxText
   pub key-short : KeyLike n set table → length s ≤ maxText
   -- read into any table that is long enough, the text gives the table back, where its words are in the sheet's limit
   pub back : BoundsWithin Sheet n set table → (t : List ℤ) → blockStart n ≤ length t → ReadBack n set table s t
-  -- read as a script, where the words are in a script's limit and the text is not too long, as no key's is, it gives the table back too
-  pub script : BoundsWithin Script n set table → length s ≤ maxText → ReadAsScript n set table s
+  -- as a sheet or a script whose limit the words are in, it is accepted and gives the table back, where it is not too long
+  pub read-as : (paper : Paper) → BoundsWithin paper n set table → length s ≤ maxText → ReadAs paper n set table s
   -- as a sheet or a script that some bound is outside the limit of, it is refused with 3, where it is not too long; reading it too, whatever table it is read into
   pub past : (paper : Paper) → length s ≤ maxText → (k : ℕ) → PastLimit paper n set table k → RefusedPast paper n set table s
   pub read-past : length s ≤ maxText → (k : ℕ) → PastLimit Sheet n set table k → (t : List ℤ) → ReadPast n set table s t

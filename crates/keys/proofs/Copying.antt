@@ -5,7 +5,8 @@ use mathlib.Core.List.{List}
 use Prim.Native.Nat.{ℕ, zero, suc, _+_, _*_, _≤_, _<_}
 use native.Mathlib.Omega.{arith}
 use lib.IntN.{ℤ, pos}
-use lib.ListN.{length}
+use lib.ListN.{length, take, length-take}
+use lib.Seq.{length-take-le, getD-take, ext-getD}
 use borrow.Author.Tests.{lt-ltb}
 use Rattle.words.specs.Change.{wordAt, change, copying}
 use Rattle.words.proofs.Change.{change-length, change-below}
@@ -23,6 +24,7 @@ use Rattle.elimination.proofs.Alike.{alike-word, alike-contradicts}
 use Rattle.keys.specs.declared.live.Part.{Part}
 use Rattle.keys.specs.Keys.{hideUpTo, keyOf}
 use Rattle.keys.specs.Inner.{memberOf, SetFits, Fits, PartFits, turnAt, AtTurns}
+use Rattle.keys.proofs.Parts.{front-word}
 use Rattle.keys.proofs.Turning.{turn-most}
 
 -- two tables over n quantities hold the same words
@@ -34,6 +36,29 @@ pub record SameTable (n : ℕ) (t u : List ℤ) : Type 0 where
 pub same-back : (n : ℕ) (t u : List ℤ) → SameTable n t u → SameTable n u t
 same-back n t u s = record { mine = s .theirs; theirs = s .mine; words = λ k h. sym (s .words k h) }
 
+-- lists with the same first words do, and lists that do have the same first words
+pub front-same : (n : ℕ) (t u : List ℤ) → blockStart n ≤ length t → take (blockStart n) u ≡ take (blockStart n) t → SameTable n t u
+front-same n t u l e = record {
+  mine = l;
+  theirs = omega (arith, length-take (blockStart n) u, ap length e, length-take (blockStart n) t);
+  words = front-word (blockStart n) t u e;
+}
+
+pub same-front : (n : ℕ) (t u : List ℤ) → SameTable n t u → take (blockStart n) u ≡ take (blockStart n) t
+same-front n t u s = ext-getD (pos 0) (take (blockStart n) u) (take (blockStart n) t) (omega (arith, mine, theirs)) each
+  where
+    mine : length (take (blockStart n) t) ≡ blockStart n
+    mine = length-take-le (blockStart n) t (s .mine)
+
+    theirs : length (take (blockStart n) u) ≡ blockStart n
+    theirs = length-take-le (blockStart n) u (s .theirs)
+
+    each : (k : ℕ) → k < length (take (blockStart n) u) → wordAt (take (blockStart n) u) k ≡ wordAt (take (blockStart n) t) k
+    each k h =
+        let b : k < blockStart n = omega (arith, theirs) in
+        getD-take (blockStart n) u k (pos 0) b ∙ s .words k b ∙ sym (getD-take (blockStart n) t k (pos 0) b)
+
+-- a copy
 pub copied : (n : ℕ) (t w : List ℤ) → blockStart n ≤ length t → blockStart n ≤ length w → SameTable n t (change (blockStart n) (copying t) w)
 copied n t w l h = record {
   mine = l;

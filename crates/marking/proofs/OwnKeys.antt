@@ -6,7 +6,7 @@ use mathlib.Core.List.{List}
 use Prim.Native.Nat.{ℕ, _≤_}
 use native.Mathlib.Omega.{arith}
 use lib.IntN.{ℤ}
-use lib.ListN.{length, length-take}
+use lib.ListN.{length}
 use Rattle.places.specs.Numbering.{blockStart}
 use Rattle.rules.specs.declared.paper.Paper.the-variants.{Script}
 use Rattle.rules.specs.Hidden.{hiddenIn}
@@ -19,7 +19,7 @@ use Rattle.keys.specs.Promises.{KeyMade}
 use Rattle.keys.proofs.Fitting.{sheet-fits}
 use Rattle.keys.proofs.Parts.{front-word}
 use Rattle.keys.proofs.Several.{key-length}
-use Rattle.keys.proofs.Copying.{SameTable, same-back, holds-same, same-satisfies, same-within, same-key}
+use Rattle.keys.proofs.Copying.{SameTable, same-back, front-same, holds-same, same-satisfies, same-within, same-key}
 use Rattle.keys.proofs.Promised.{key-made}
 use Rattle.tables.proofs.Tests.{clash}
 use Rattle.marking.specs.declared.verdict.Verdict.{Verdict}
@@ -48,11 +48,7 @@ module _ (n set : ℕ) (sheet script : List ℤ) (o : OwnKey n set sheet script)
 
   -- the key call was lent the sheet's words
   copied : SameTable n sheet (o .copy)
-  copied = record {
-    mine = o .sized .room;
-    theirs = omega (arith, length-take (blockStart n) (o .copy), ap length (o .copied), length-take (blockStart n) sheet, o .sized .room);
-    words = front-word (blockStart n) sheet (o .copy) (o .copied);
-  }
+  copied = front-same n sheet (o .copy) (o .sized .room) (o .copied)
 
   -- so the script has the key's
   same : SameTable n key script

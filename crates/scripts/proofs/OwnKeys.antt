@@ -6,9 +6,9 @@ use mathlib.Core.List.{List, [], _∷_}
 use Prim.Native.Nat.{ℕ, suc, _+_, _≤_, _<_}
 use native.Mathlib.Nat.{add-zero, zero-add, add-suc, suc-add}
 use native.Mathlib.Omega.{arith}
-use lib.IntN.{ℤ, pos}
-use lib.ListN.{length, take, length-take}
-use lib.Seq.{take-all, length-take-le, getD-take, ext-getD}
+use lib.IntN.{ℤ}
+use lib.ListN.{length, take}
+use lib.Seq.{take-all}
 use Rattle.words.specs.Change.{wordAt}
 use Rattle.places.specs.Numbering.{blockStart}
 use Rattle.places.proofs.Numbering.{blockStart-mono}
@@ -30,8 +30,7 @@ use Rattle.writing.proofs.Meanings.{written-rule, table-meaning}
 use Rattle.writing.proofs.Meanings.{front-word as written-word}
 use Rattle.writing.proofs.Back.{key-reads as written-key}
 use Rattle.keys.specs.Keys.{keyOf}
-use Rattle.keys.proofs.Parts.{front-word}
-use Rattle.keys.proofs.Copying.{SameTable, same-key}
+use Rattle.keys.proofs.Copying.{SameTable, front-same, same-front, same-key}
 use Rattle.marking.specs.declared.verdict.Verdict.the-variants.{Equal}
 use Rattle.marking.specs.Meaning.{AllowSame}
 use Rattle.marking.specs.Marking.{verdictOf}
@@ -57,21 +56,7 @@ keyContents c = record { count = c .count; hiddens = c .hiddens; written = table
 pub key-reads : (c : Contents) → FineSheet c → Reads Script (writtenText (c .count) (setIn c) (keyIn c)) (keyContents c)
 key-reads c s = rw (s .back) at (written-key (c .count) (setIn c) (keyIn c) (s .some) (s .most) (s .range) (omega (arith, key-length c s)) (key-like c s))
 
--- tables that are the same have the same first words, and so the same text
-same-front : (n : ℕ) (t u : List ℤ) → SameTable n t u → take (blockStart n) u ≡ take (blockStart n) t
-same-front n t u s = ext-getD (pos 0) (take (blockStart n) u) (take (blockStart n) t) (omega (arith, mine, theirs)) each
-  where
-    mine : length (take (blockStart n) t) ≡ blockStart n
-    mine = length-take-le (blockStart n) t (s .mine)
-
-    theirs : length (take (blockStart n) u) ≡ blockStart n
-    theirs = length-take-le (blockStart n) u (s .theirs)
-
-    each : (k : ℕ) → k < length (take (blockStart n) u) → wordAt (take (blockStart n) u) k ≡ wordAt (take (blockStart n) t) k
-    each k h =
-        let b : k < blockStart n = omega (arith, theirs) in
-        getD-take (blockStart n) u k (pos 0) b ∙ s .words k b ∙ sym (getD-take (blockStart n) t k (pos 0) b)
-
+-- tables that are the same have the same text
 same-text : (n set : ℕ) (t u : List ℤ) → SameTable n t u → writtenText n set u ≡ writtenText n set t
 unfolding writtenText
 same-text n set t u s = ap (λ (front : List ℤ). sheetText (record { count = n; hiddens = hiddenList n set; written = rulesAt 0 front })) (same-front n t u s)
@@ -82,11 +67,7 @@ held-text : (c : Contents) (t : List ℤ) → FineSheet c → take (blockStart (
 held-text c t f e = same-text (c .count) (setIn c) (keyIn c) (keyOf (hiddenIn (setIn c)) (c .count) t) (same-key (hiddenIn (setIn c)) (c .count) (tableIn c) t same)
   where
     same : SameTable (c .count) (tableIn c) t
-    same = record {
-      mine = omega (arith, f .size);
-      theirs = omega (arith, length-take (blockStart (c .count)) t, ap length e, f .size);
-      words = front-word (blockStart (c .count)) (tableIn c) t (e ∙ sym (take-all (blockStart (c .count)) (tableIn c) (omega (arith, f .size))));
-    }
+    same = front-same (c .count) (tableIn c) t (omega (arith, f .size)) (e ∙ sym (take-all (blockStart (c .count)) (tableIn c) (omega (arith, f .size))))
 
 own-reads : (c : Contents) (s : List ℕ) → FineSheet c → s ≡ writtenText (c .count) (setIn c) (keyIn c) → Reads Script s (keyContents c)
 own-reads c s f e = rw e (key-reads c f)

@@ -6,7 +6,7 @@ use mathlib.Core.List.{List}
 use Prim.Native.Nat.{ℕ, _≤_}
 use native.Mathlib.Omega.{arith}
 use lib.IntN.{ℤ}
-use lib.ListN.{length}
+use lib.ListN.{length, drop}
 use Rattle.words.specs.Lent.{Lent}
 use Rattle.places.specs.Numbering.{blockStart}
 use borrow.Author.Tests.{le-leb}
@@ -27,7 +27,7 @@ use Rattle.tables.specs.Replies.{replyNumber, check}
 use Rattle.elimination.specs.Hiding.{every}
 use Rattle.keys.specs.Keys.{keyOf, refuted, lentChecks, keyReply, assignmentReply, freesWorkspace}
 use Rattle.keys.specs.Inner.{Fits, RestFits, Decided, Reduced, Filled, KeyTried}
-use Rattle.keys.specs.Promises.{KeyMade, Keyed, AssignmentFound, Assigned}
+use Rattle.keys.specs.Promises.{KeyMade, KeyedAs, Keyed, AssignmentFound, Assigned}
 use Rattle.keys.proofs.Several.{rest-key, key-exact, key-visible, refuted-false}
 use Rattle.keys.proofs.Fitting.{hide-ample, key-within, script-limit, whole-fits}
 use Rattle.keys.proofs.Filling.{filled-range}
@@ -66,26 +66,45 @@ key-none : (n set : ℕ) (t : List ℤ) (w : ℕ) (r : Reply) → r ≡ keyReply
     → (replyNumber r ≡ 5) ↔ Unsatisfiable n t
 key-none n set t w r e p = five-none n t r (e ∙ key-late n set t w p) (refuted-exactly n t (key-fits n set t w p))
 
--- refused, with the table as it was
-pub key-refused : (n set : ℕ) (t w w' : List ℤ) (r : Reply) (f : Refusal) → r ≡ keyReply n set t (length w) → r ≡ Refused f
-    → Lent (blockStart n) (freesWorkspace r) w w' → Keyed n set t w r t w'
-key-refused n set t w w' r f e d l = record {
-  reply = e;
-  decided = tied-decided _ r _ e (key-tied n set t (length w));
-  none = key-none n set t (length w) r e;
-  words = rw d;
-  rest = refl;
-  lent = l;
-  made = λ c. absurd (not-done r f d c);
-}
-
 -- the reply by the decision
 key-decided : (n set : ℕ) (t : List ℤ) (w : ℕ) (b : Bool) → AllMet (keyNeedsThen n set t w passed) → b ≡ refuted n t → check (not b) NoAssignment Done ≡ keyReply n set t w
 key-decided n set t w b p d = sym (key-late n set t w p ∙ rw (← d))
 
-pub key-five : (n set : ℕ) (t w t' w' : List ℤ) → AllMet (keyNeedsThen n set t (length w) passed) → KeyTried n set t w true t' w' → Keyed n set t w (Refused NoAssignment) t' w'
-key-five n set t w t' w' p d =
-    rw (d .words) (key-refused n set t w w' (Refused NoAssignment) NoAssignment (key-decided n set t (length w) true p (d .reply)) refl (d .lent))
+-- whatever kind of key is made
+module _ (steps : (ℕ → Bool) → ℕ → List ℤ → List ℤ) (Made : ℕ → ℕ → List ℤ → List ℤ → Type 0) (n set : ℕ) (t w w' : List ℤ) where
+  -- refused, with the table as it was
+  pub key-refused : (r : Reply) (f : Refusal) → r ≡ keyReply n set t (length w) → r ≡ Refused f → Lent (blockStart n) (freesWorkspace r) w w'
+      → KeyedAs steps Made n set t w r t w'
+  key-refused r f e d l = record {
+    reply = e;
+    decided = tied-decided _ r _ e (key-tied n set t (length w));
+    none = key-none n set t (length w) r e;
+    words = rw d;
+    rest = refl;
+    lent = l;
+    made = λ c. absurd (not-done r f d c);
+  }
+
+  module _ (t' : List ℤ) (p : AllMet (keyNeedsThen n set t (length w) passed)) where
+    pub key-five : KeyTried steps n set t w true t' w' → KeyedAs steps Made n set t w (Refused NoAssignment) t' w'
+    key-five d = rw (d .words) (key-refused (Refused NoAssignment) NoAssignment (key-decided n set t (length w) true p (d .reply)) refl (d .lent))
+
+    -- made, where some integers satisfy the table: words past it stay, and it is what a key of this kind is
+    pub key-done : drop (blockStart n) (steps (hiddenIn set) n t) ≡ drop (blockStart n) t → (Satisfiable n t → Made n set t (steps (hiddenIn set) n t))
+        → KeyTried steps n set t w false t' w' → KeyedAs steps Made n set t w Done t' w'
+    key-done rest made d =
+        let f = key-fits n set t (length w) p in
+        let s = refuted-false n t (f .sums .room) (hide-ample every n t f) (sym (d .reply)) in
+        let e = key-decided n set t (length w) false p (d .reply) in
+        record {
+          reply = e;
+          decided = tied-decided _ Done _ e (key-tied n set t (length w));
+          none = key-none n set t (length w) Done e;
+          words = d .words;
+          rest = rw (d .words) rest;
+          lent = d .lent;
+          made = λ c. rw (d .words) (made s);
+        }
 
 -- what the key of a table that some integers satisfy is
 pub key-made : (n set : ℕ) (t : List ℤ) → Fits n t → BoundsWithin Sheet n set t → Satisfiable n t → KeyMade n set t (keyOf (hiddenIn set) n t)
@@ -99,20 +118,10 @@ key-made n set t f b s = record {
   };
 }
 
-pub key-done : (n set : ℕ) (t w t' w' : List ℤ) → AllMet (keyNeedsThen n set t (length w) passed) → KeyTried n set t w false t' w' → Keyed n set t w Done t' w'
-key-done n set t w t' w' p d =
-    let f = key-fits n set t (length w) p in
-    let s = refuted-false n t (f .sums .room) (hide-ample every n t f) (sym (d .reply)) in
-    let e = key-decided n set t (length w) false p (d .reply) in
-    record {
-      reply = e;
-      decided = tied-decided _ Done _ e (key-tied n set t (length w));
-      none = key-none n set t (length w) Done e;
-      words = d .words;
-      rest = rw (d .words) (rest-key (hiddenIn set) n t);
-      lent = d .lent;
-      made = λ c. rw (d .words) (key-made n set t f (p .1 .1 .0 .1) s);
-    }
+-- the key call's own
+pub plain-done : (n set : ℕ) (t w t' w' : List ℤ) → AllMet (keyNeedsThen n set t (length w) passed) → KeyTried keyOf n set t w false t' w' → Keyed n set t w Done t' w'
+plain-done n set t w t' w' p =
+    key-done keyOf KeyMade n set t w w' t' p (rest-key (hiddenIn set) n t) (key-made n set t (key-fits n set t (length w) p) (p .1 .1 .0 .1))
 
 -- ---- the assignment call
 

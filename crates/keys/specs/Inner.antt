@@ -225,10 +225,10 @@ pub record SetHidden (n set : ℕ) (before : List ℤ) (r : Bool) (after : List 
   pub some : r ≡ false → Satisfiable n after → Satisfiable n before
   pub lent : Lent (blockStart n) true before after
 
--- whether no integers satisfy the sheet; where some do, its table is the key
-pub record KeyTried (n set : ℕ) (table workspace : List ℤ) (r : Bool) (table' workspace' : List ℤ) : Type 0 where
+-- whether no integers satisfy the sheet; where some do, its table is a kind of key
+pub record KeyTried (steps : (ℕ → Bool) → ℕ → List ℤ → List ℤ) (n set : ℕ) (table workspace : List ℤ) (r : Bool) (table' workspace' : List ℤ) : Type 0 where
   pub reply : r ≡ refuted n table
-  pub words : table' ≡ cond r table (keyOf (hiddenIn set) n table)
+  pub words : table' ≡ cond r table (steps (hiddenIn set) n table)
   pub lent : Lent (blockStart n) true workspace workspace'
 
 -- ---- the calls' checks before 5: a refusal is the call's reply, and where they are done the needs are met

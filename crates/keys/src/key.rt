@@ -16,6 +16,7 @@ ghost use Prim.Native.Nat.{_≤_};
 ghost use lib.ListN.{length};
 ghost use Rattle.places.specs.Numbering.{blockStart};
 ghost use Rattle.rules.specs.Refusing.{passed, AllMet};
+ghost use Rattle.keys.specs.Keys.{keyOf};
 ghost use Rattle.keys.specs.Meaning.{keyNeedsThen};
 ghost use Rattle.keys.specs.Inner.{Fits, RowsLent, HideReady, MemberHidden, SetHidden, KeyTried, KeyChecked};
 ghost use Rattle.keys.specs.Promises.{Keyed};
@@ -63,7 +64,7 @@ fn hide_members(
 }
 
 // Hides each quantity of the set in increasing number, and answers whether a contradiction is met, at which it stops.
-fn hide_set(n: usize, set: Set, table: &mut [i64]) -> bool
+pub fn hide_set(n: usize, set: Set, table: &mut [i64]) -> bool
     requires { ⌜ Fits n (now table) ⌝ }
     ensures { λ r. ⌜ SetHidden n set (now (table .entry)) r (now (table .exit)) ⌝ }
 {
@@ -89,7 +90,7 @@ fn hide_set(n: usize, set: Set, table: &mut [i64]) -> bool
 // eliminated. Where there is none, the table becomes the key. The words of `copy` are free.
 fn make_key(n: usize, set: Set, table: &mut [i64], workspace: &mut [i64], copy: &mut [i64]) -> bool
     requires { ⌜ AllMet (keyNeedsThen n set (now table) (length (now workspace)) passed) × (blockStart n ≤ length (now copy)) ⌝ }
-    ensures { λ r. ⌜ KeyTried n set (now (table .entry)) (now (workspace .entry)) r (now (table .exit)) (now (workspace .exit)) ⌝ }
+    ensures { λ r. ⌜ KeyTried keyOf n set (now (table .entry)) (now (workspace .entry)) r (now (table .exit)) (now (workspace .exit)) ⌝ }
 {
     let m = table::size(n);
     words::copy(workspace, table, m);
@@ -106,7 +107,7 @@ fn make_key(n: usize, set: Set, table: &mut [i64], workspace: &mut [i64], copy: 
 // The same, with room on the stack for the copy.
 fn try_key(n: usize, set: Set, table: &mut [i64], workspace: &mut [i64]) -> bool
     requires { ⌜ AllMet (keyNeedsThen n set (now table) (length (now workspace)) passed) ⌝ }
-    ensures { λ r. ⌜ KeyTried n set (now (table .entry)) (now (workspace .entry)) r (now (table .exit)) (now (workspace .exit)) ⌝ }
+    ensures { λ r. ⌜ KeyTried keyOf n set (now (table .entry)) (now (workspace .entry)) r (now (table .exit)) (now (workspace .exit)) ⌝ }
 {
     if n <= room::SMALL {
         let mut copy = [0; room::SMALL_TABLE];
@@ -121,7 +122,7 @@ fn try_key(n: usize, set: Set, table: &mut [i64], workspace: &mut [i64]) -> bool
 }
 
 // The key call's checks before 5: its first refusal, or done.
-fn check(n: usize, set: Set, table: &[i64], workspace: usize) -> Reply
+pub fn check(n: usize, set: Set, table: &[i64], workspace: usize) -> Reply
     ensures { λ r. ⌜ KeyChecked n set (now (table .entry)) workspace r ⌝ }
 {
     let lent = checks::lent(n, table.len(), workspace);

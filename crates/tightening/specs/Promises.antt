@@ -1,20 +1,28 @@
--- What tightening promises. What it asks is in `Inner` of keys, what the functions inside ask in Inner.
+-- What tightening and the tight key call promise. What tightening asks is in `Inner` of keys, what the functions inside ask in Inner.
 use mathlib.Core.Bool.{Bool, true, false}
 use mathlib.Core.Path.{_≡_}
 use mathlib.Core.Logic.{_↔_}
 use mathlib.Core.List.{List}
 use Prim.Native.Nat.{ℕ, _<_}
 use lib.IntN.{ℤ}
+use lib.ListN.{length, take}
 use lib.Signed.{_<ℤ_}
 use Rattle.words.specs.Change.{wordAt}
 use Rattle.words.specs.Lent.{Lent}
 use Rattle.places.specs.Numbering.{blockStart}
+use Rattle.rules.specs.Hidden.{hiddenIn}
 use Rattle.rules.specs.Meaning.{Assignment, Meets}
 use Rattle.tables.specs.Places.{ruleAt}
 use Rattle.tables.specs.Tables.{hasRule}
-use Rattle.tables.specs.Meaning.{Satisfies, Unsatisfiable, Breaks}
+use Rattle.tables.specs.declared.reply.Reply.{Reply}
+use Rattle.tables.specs.Meaning.{TableSized, Solutions, Satisfies, Satisfiable, Unsatisfiable, SheetAllows, Breaks}
 use Rattle.keys.specs.Keys.{refuted}
-use Rattle.tightening.specs.Tightening.{tightened}
+use Rattle.keys.specs.Meaning.{NumbersWithin}
+use Rattle.keys.specs.Promises.{KeyedAs}
+use Rattle.tightening.specs.Tightening.{tightened, tightKeyOf}
+use Rattle.tightening.specs.Meaning.{TightKey, AllowAlike}
+
+-- ---- tightening
 
 -- w is the least bound of the term of place k in a table over n quantities, over unbounded integers. Where w is a rule, all that satisfies the table meets it, and
 -- every smaller integer is broken. Where it is no rule, the term has no bound at all: every integer is broken, however large
@@ -32,3 +40,34 @@ pub record Tightened (n : ℕ) (before : List ℤ) (r : Bool) (after : List ℤ)
   pub lent : Lent (blockStart n) true before after
   pub bounds : r ≡ false → (k : ℕ) → k < blockStart n → LeastBound n before k (wordAt after k)
   pub least : r ≡ false → (k : ℕ) → k < blockStart n → (c : ℤ) → hasRule c ≡ true → (c <ℤ wordAt after k) ↔ Breaks (Satisfies n before) (ruleAt k c)
+
+-- ---- the tight key call
+
+-- a table is a sheet's, one that the call accepts
+pub record SheetAccepted (n set : ℕ) (sheet : List ℤ) : Type 0 where
+  pub sized : TableSized n (length sheet)
+  pub within : NumbersWithin n set sheet
+  pub some : Satisfiable n sheet
+
+-- what a tight key of a sheet is, beside the definition
+pub record TightKeyMade (n set : ℕ) (sheet key : List ℤ) : Type 0 where
+  pub tight : TightKey (hiddenIn set) n (Satisfies n sheet) key
+  pub some : Satisfiable n sheet
+  -- no other table is it
+  pub only : (other : List ℤ) → TightKey (hiddenIn set) n (Satisfies n sheet) other → take (blockStart n) other ≡ take (blockStart n) key
+  -- demand 2 holds of it too
+  pub meaning : (σ : Assignment) → Satisfies n key σ ↔ SheetAllows (hiddenIn set) (Satisfies n sheet) σ
+  -- one meaning, one table: two sheets allow the same visible integers exactly when their tight keys are the same words
+  pub same : (sheet₂ key₂ : List ℤ) → SheetAccepted n set sheet₂ → TightKey (hiddenIn set) n (Satisfies n sheet₂) key₂
+      → AllowAlike (hiddenIn set) (Satisfies n sheet) (Satisfies n sheet₂) ↔ (take (blockStart n) key ≡ take (blockStart n) key₂)
+
+-- the definition applied to a tight table, whatever its bounds, changes nothing, and neither do the steps
+pub record TightStays (hidden : ℕ → Bool) (n : ℕ) (tight : List ℤ) : Type 0 where
+  pub definition : TightKey hidden n (Satisfies n tight) tight
+  pub steps : tightKeyOf hidden n tight ≡ tight
+
+-- the tight key call: its checks, refusals and memory are the key call's
+pub record TightKeyed (n set : ℕ) (table workspace : List ℤ) (r : Reply) (table' workspace' : List ℤ) : Type 0 where
+  pub keyed : KeyedAs tightKeyOf TightKeyMade n set table workspace r table' workspace'
+  -- of any table that is the tight key of a sheet, of rules in a table or a text, in limits or not
+  pub again : (sheet : Solutions) (tight : List ℤ) → TightKey (hiddenIn set) n sheet tight → TightStays (hiddenIn set) n tight

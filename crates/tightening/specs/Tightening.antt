@@ -8,6 +8,7 @@ use lib.IntN.{ℤ}
 use Rattle.words.specs.Change.{change}
 use Rattle.places.specs.Numbering.{blockStart, isOne, higherAt, lowerAt}
 use Rattle.elimination.specs.Hiding.{withSum, loneWord, every, paired, contradicts}
+use Rattle.keys.specs.Keys.{keyOf}
 
 -- the first m quantities of n paired with all others, in increasing number
 unfoldable pub pairUpTo : ℕ → ℕ → List ℤ → List ℤ
@@ -29,3 +30,7 @@ strengthened n t = change (blockStart n) (strengthening t) t
 -- the tightest table
 unfoldable pub tightened : ℕ → List ℤ → List ℤ
 tightened n t = strengthened n (pairUpTo n n t)
+
+-- the tightest key: the tightest table of the plain key
+unfoldable pub tightKeyOf : (ℕ → Bool) → ℕ → List ℤ → List ℤ
+tightKeyOf hidden n t = tightened n (keyOf hidden n t)

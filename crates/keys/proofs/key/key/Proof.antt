@@ -1,5 +1,5 @@
 -- `key::key` meets its contract: the checks, then the key made where some integers satisfy the sheet. Assumes nothing.
-use Rattle.keys.proofs.Promised.{untouched, key-refused, key-five, key-done}
+use Rattle.keys.proofs.Promised.{untouched, key-refused, key-five, plain-done}
 use borrow.Author.Needs.{needs}
 use Rattle.keys.proofs.key.key.Statement.{statement}
 use Rattle.keys.proofs.key.key.Tie as tie
@@ -18,7 +18,7 @@ same-length c = search needs
 
 returns : tie.Need-returns
 returns c =
-    key-refused _ _ _ _ _ _ _ (c .before .before .check .ensures .stands _ (c .enum-told2 .given .1)) (c .enum-told2 .given .1) (untouched _ _ _)
+    key-refused _ _ _ _ _ _ _ _ _ (c .before .before .check .ensures .stands _ (c .enum-told2 .given .1)) (c .enum-told2 .given .1) (untouched _ _ _)
 
 try-key-requires : tie.Need-try-key-requires
 try-key-requires c κs = let a = c .before .before in a .before .before .check .ensures .passes (a .enum-told .given .1)
@@ -33,7 +33,7 @@ returns-2 : tie.Need-returns-2
 returns-2 c =
     let y = c .before .before .before in
     let a = y .before .before .before in
-    key-five _ _ _ _ _ _ (a .before .before .check .ensures .passes (a .enum-told .given .1)) (rw (c .if1 .taken) at (y .try-key .ensures))
+    key-five _ _ _ _ _ _ _ _ (a .before .before .check .ensures .passes (a .enum-told .given .1)) (rw (c .if1 .taken) at (y .try-key .ensures))
 
 same-length-4 : tie.Need-same-length-4
 same-length-4 c = search needs
@@ -45,7 +45,7 @@ returns-3 : tie.Need-returns-3
 returns-3 c =
     let y = c .before .before .before in
     let a = y .before .before .before in
-    key-done _ _ _ _ _ _ (a .before .before .check .ensures .passes (a .enum-told .given .1)) (rw (c .if1 .left) at (y .try-key .ensures))
+    plain-done _ _ _ _ _ _ (a .before .before .check .ensures .passes (a .enum-told .given .1)) (rw (c .if1 .left) at (y .try-key .ensures))
 
 pub key-spec : {M : Type 1} → statement M
 key-spec =

@@ -27,7 +27,7 @@ returns c =
     let x = c .before .before in
     let y = x .before .before .before in
     let z = y .before .before .before in
-    tried-early _ _ _ _ _ _ (z .before .pre .0) (z .size .ensures) (y .copy .ensures) _ _ (x .hide-set .ensures) (c .if1 .taken)
+    tried-early _ _ _ _ _ _ (z .before .pre .0) (z .size .ensures) (y .copy .ensures) _ _ (x .hide-set .ensures) _ (c .if1 .taken)
 
 decide-requires : tie.Need-decide-requires
 decide-requires c κs =

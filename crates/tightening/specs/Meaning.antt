@@ -1,0 +1,46 @@
+-- The tightest key (document 02, [2]), by meaning alone: over unbounded integers, with no step of a program in it.
+use mathlib.Core.Bool.{Bool, true, false}
+use mathlib.Core.Path.{_≡_}
+use mathlib.Core.Logic.{_↔_}
+use mathlib.Core.List.{List}
+use Prim.Native.Nat.{ℕ, _≤_, _<_}
+use lib.IntN.{ℤ, pos}
+use lib.ListN.{length}
+use lib.Signed.{_≤ℤ_}
+use Rattle.words.specs.Change.{wordAt}
+use Rattle.places.specs.Numbering.{blockStart}
+use Rattle.rules.specs.Limits.{noRule}
+use Rattle.rules.specs.Meaning.{Assignment, Meets, names}
+use Rattle.tables.specs.Places.{ruleAt}
+use Rattle.tables.specs.Meaning.{HoldsRule, Solutions, SheetAllows}
+
+-- a bound on the term of place k is met by all assignments of a sheet
+abbrev pub MetByAll : Solutions → ℕ → ℤ → Type 0
+MetByAll sheet k c = (σ : Assignment) → sheet σ → Meets σ (ruleAt k c)
+
+-- some bound is, of all integers
+pub record Bounded (sheet : Solutions) (k : ℕ) : Type 0 where
+  pub bound : ℤ
+  pub met : MetByAll sheet k bound
+
+-- the least bound that is
+pub record LeastMet (sheet : Solutions) (k : ℕ) (c : ℤ) : Type 0 where
+  pub met : MetByAll sheet k c
+  pub least : (d : ℤ) → MetByAll sheet k d → c ≤ℤ d
+
+-- the term of place k is of visible quantities
+abbrev pub VisibleAt : (ℕ → Bool) → ℕ → Type 0
+VisibleAt hidden k = (q : ℕ) → names q (ruleAt k (pos 0)) ≡ true → hidden q ≡ false
+
+-- the tightest key of a sheet over n quantities, as a table: a term has a rule exactly when it is of visible quantities and some bound on it is met by all assignments of the sheet; the rule
+-- carries the least such bound
+pub record TightKey (hidden : ℕ → Bool) (n : ℕ) (sheet : Solutions) (key : List ℤ) : Type 0 where
+  pub rule : (k : ℕ) → k < blockStart n → HoldsRule n key k ↔ (VisibleAt hidden k × Bounded sheet k)
+  pub least : (k : ℕ) → HoldsRule n key k → LeastMet sheet k (wordAt key k)
+  -- as in every table of words: they are all there, and none is above the no-rule word
+  pub room : blockStart n ≤ length key
+  pub words : (k : ℕ) → k < blockStart n → wordAt key k ≤ℤ noRule
+
+-- two sheets allow the same visible integers
+abbrev pub AllowAlike : (ℕ → Bool) → Solutions → Solutions → Type 0
+AllowAlike hidden sheet other = (σ : Assignment) → SheetAllows hidden sheet σ ↔ SheetAllows hidden other σ

@@ -1,0 +1,66 @@
+// The tight key call: the sheet's table is replaced by its tightest key.
+use crate::tighten;
+use keys::key;
+use keys::live;
+use keys::live::Part;
+use keys::room;
+use rules::hidden::Set;
+use rules::refusal::Refusal;
+use tables::reply::Reply;
+use tables::table;
+ghost use Prim.Native.Nat.{_≤_};
+ghost use lib.ListN.{length};
+ghost use Rattle.rules.specs.Refusing.{passed, AllMet};
+ghost use Rattle.keys.specs.Meaning.{keyNeedsThen};
+ghost use Rattle.keys.specs.Inner.{KeyTried};
+ghost use Rattle.tightening.specs.Tightening.{tightKeyOf};
+ghost use Rattle.tightening.specs.Promises.{TightKeyed};
+
+// Makes the key of the sheet's table in the workspace and tightens it there, and answers whether no integers satisfy the sheet: a contradiction is met while hidden quantities are hidden, or while
+// visible ones are paired. Where there is none, the table becomes the tight key. The list is for the visible quantities: its words are free.
+fn make_tight(
+    n: usize,
+    set: Set,
+    table: &mut [i64],
+    workspace: &mut [i64],
+    list: &mut [usize],
+) -> bool
+    requires { ⌜ AllMet (keyNeedsThen n set (now table) (length (now workspace)) passed) × (n ≤ length (now list)) ⌝ }
+    ensures { λ r. ⌜ KeyTried tightKeyOf n set (now (table .entry)) (now (workspace .entry)) r (now (table .exit)) (now (workspace .exit)) ⌝ }
+{
+    let m = table::size(n);
+    words::copy(workspace, table, m);
+    if key::hide_set(n, set, workspace) {
+        return true;
+    }
+    let count = live::list(n, set, Part::Outside, 0, list);
+    if tighten::tighten(n, workspace, &list[..count]) {
+        return true;
+    }
+    words::copy(table, workspace, m);
+    false
+}
+
+// The same, with room on the stack for the list.
+fn try_tight(n: usize, set: Set, table: &mut [i64], workspace: &mut [i64]) -> bool
+    requires { ⌜ AllMet (keyNeedsThen n set (now table) (length (now workspace)) passed) ⌝ }
+    ensures { λ r. ⌜ KeyTried tightKeyOf n set (now (table .entry)) (now (workspace .entry)) r (now (table .exit)) (now (workspace .exit)) ⌝ }
+{
+    let mut list = [0; room::LARGE];
+    make_tight(n, set, table, workspace, &mut list)
+}
+
+// Replaces the sheet's table over `n` quantities by its tightest key, the quantities of the set `hidden` hidden. It is made in the workspace, and 'no assignment' decided on the way, before the
+// table is changed.
+pub fn tight_key(n: usize, hidden: Set, table: &mut [i64], workspace: &mut [i64]) -> Reply
+    ensures { λ r. ⌜ TightKeyed n hidden (now (table .entry)) (now (workspace .entry)) r (now (table .exit)) (now (workspace .exit)) ⌝ }
+{
+    let checked = key::check(n, hidden, table, workspace.len());
+    let Reply::Done = checked else {
+        return checked;
+    };
+    if try_tight(n, hidden, table, workspace) {
+        return Reply::Refused(Refusal::NoAssignment);
+    }
+    Reply::Done
+}

@@ -15,7 +15,7 @@ use Rattle.rules.specs.Meaning.{Assignment, Meets}
 use Rattle.tables.specs.Places.{ruleAt}
 use Rattle.tables.specs.Tables.{hasRule}
 use Rattle.tables.specs.declared.reply.Reply.{Reply}
-use Rattle.tables.specs.Meaning.{TableSized, Solutions, Satisfies, Satisfiable, Unsatisfiable, SheetAllows, Breaks}
+use Rattle.tables.specs.Meaning.{TableSized, Satisfies, Satisfiable, Unsatisfiable, SheetAllows, Breaks}
 use Rattle.keys.specs.Keys.{refuted}
 use Rattle.keys.specs.Meaning.{NumbersWithin}
 use Rattle.keys.specs.Promises.{KeyedAs}
@@ -69,5 +69,5 @@ pub record TightStays (hidden : ℕ → Bool) (n : ℕ) (tight : List ℤ) : Typ
 -- the tight key call: its checks, refusals and memory are the key call's
 pub record TightKeyed (n set : ℕ) (table workspace : List ℤ) (r : Reply) (table' workspace' : List ℤ) : Type 0 where
   pub keyed : KeyedAs tightKeyOf TightKeyMade n set table workspace r table' workspace'
-  -- of any table that is the tight key of a sheet, of rules in a table or a text, in limits or not
-  pub again : (sheet : Solutions) (tight : List ℤ) → TightKey (hiddenIn set) n sheet tight → TightStays (hiddenIn set) n tight
+  -- of any table that is the tight key of some table, in limits or not
+  pub again : (sheet tight : List ℤ) → TightKey (hiddenIn set) n (Satisfies n sheet) tight → TightStays (hiddenIn set) n tight

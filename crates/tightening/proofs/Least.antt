@@ -12,7 +12,6 @@ use lib.Signed.{ltZ, _≤ℤ_, _<ℤ_}
 use Rattle.integers.specs.Bound.{Within}
 use Rattle.integers.proofs.Parts.{linear, positivePart, negativePart, parts-add, ltZ-true, ltZ-false, lt-ltZ}
 use Rattle.words.specs.Change.{wordAt}
-use Rattle.words.proofs.Change.{change-below}
 use Rattle.places.specs.Numbering.{blockStart, placeOfOne, isOne, higherAt, lowerAt}
 use Rattle.places.proofs.Numbering.{one-below, at-lower, at-below}
 use Rattle.rules.specs.Limits.{noRule}
@@ -35,6 +34,7 @@ use Rattle.tightening.specs.Tightening.{pairUpTo, clashUpTo, strengtheni
 use Rattle.tightening.specs.Promises.{LeastBound}
 use Rattle.tightening.proofs.Pairing.{pair-room, clash-unsatisfiable}
 use Rattle.tightening.proofs.Growing.{pair-ample}
+use Rattle.tightening.proofs.Holding.{strengthened-at}
 use Rattle.tightening.proofs.Lower.{clear-refuted}
 use Rattle.tightening.proofs.ReachedBounds.{Reaches, paired-terms, lone-reached, pair-reached}
 
@@ -54,22 +54,17 @@ clash-refuted n t f =
 
 -- ---- words
 
--- a word of a table strengthened
-strengthened-word : (n : ℕ) (u : List ℤ) (k : ℕ) → blockStart n ≤ length u → k < blockStart n → wordAt (strengthened n u) k ≡ strengthening u k (wordAt u k)
-unfolding strengthened
-strengthened-word n u k l h = change-below (blockStart n) (strengthening u) u k h (omega arith)
-
--- at the place of one literal is the same,
+-- of a table strengthened: at the place of one literal it is the same,
 strengthened-lone : (n : ℕ) (u : List ℤ) (k : ℕ) → blockStart n ≤ length u → k < blockStart n → isOne k ≡ true
     → wordAt (strengthened n u) k ≡ loneWord u (higherAt k)
 unfolding strengthening
-strengthened-lone n u k l h e = strengthened-word n u k l h ∙ rw (e, lone-at u k e)
+strengthened-lone n u k l h e = strengthened-at n u k l h ∙ rw (e, lone-at u k e)
 
 -- and at that of two has the sum of their bounds alone put in
 strengthened-pair : (n : ℕ) (u : List ℤ) (k : ℕ) → blockStart n ≤ length u → k < blockStart n → isOne k ≡ false
     → wordAt (strengthened n u) k ≡ withSum (loneWord u (lowerAt k)) (loneWord u (higherAt k)) (pairWord u (lowerAt k) (higherAt k))
 unfolding strengthening
-strengthened-pair n u k l h e = strengthened-word n u k l h ∙ rw (e, pair-at u k e)
+strengthened-pair n u k l h e = strengthened-at n u k l h ∙ rw (e, pair-at u k e)
 
 -- ---- least bounds
 

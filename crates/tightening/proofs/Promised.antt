@@ -6,9 +6,7 @@ use mathlib.Core.Logic.{_↔_}
 use Prim.Native.Nat.{ℕ, _<_}
 use native.Mathlib.Omega.{arith}
 use lib.IntN.{ℤ}
-use lib.ListN.{length, drop}
 use Rattle.words.specs.Change.{wordAt}
-use Rattle.words.proofs.Change.{change-length, change-drop}
 use Rattle.places.specs.Numbering.{blockStart}
 use Rattle.tables.specs.Meaning.{Unsatisfiable}
 use Rattle.tables.proofs.Tests.{clash}
@@ -20,6 +18,7 @@ use Rattle.tightening.specs.Promises.{LeastBound, Tightened}
 use Rattle.tightening.specs.Inner.{AllPaired, Adding}
 use Rattle.tightening.proofs.Pairing.{pair-unnamed}
 use Rattle.tightening.proofs.Growing.{pair-ample}
+use Rattle.tightening.proofs.Keeping.{strengthen-length, strengthen-rest}
 use Rattle.tightening.proofs.Least.{clash-refuted, bound-least, tightened-least}
 
 -- the words of a table paired without a contradiction add
@@ -31,15 +30,6 @@ clear-adding n t u f p =
 pub clear-alone : (n : ℕ) (live : List ℕ) (t u : List ℤ) → Fits n t → LiveAlone n live t → AllPaired n t false u → LiveAlone n live u
 clear-alone n live t u f a p =
     rw (p .table refl) (record { listed = a .listed; rest = λ i h e. pair-unnamed n n i t (omega arith) (f .sums .room) (a .rest i h e) })
-
--- strengthening keeps the table's length, and the words past it
-strengthen-length : (n : ℕ) (t : List ℤ) → length (strengthened n t) ≡ length t
-unfolding strengthened
-strengthen-length n t = change-length (blockStart n) _ t
-
-strengthen-rest : (n : ℕ) (t : List ℤ) → drop (blockStart n) (strengthened n t) ≡ drop (blockStart n) t
-unfolding strengthened
-strengthen-rest n t = change-drop (blockStart n) _ t
 
 -- the answer tells whether no integers satisfy the table
 answer-tells : (n : ℕ) (t : List ℤ) (r : Bool) → Fits n t → r ≡ refuted n t → (r ≡ true) ↔ Unsatisfiable n t

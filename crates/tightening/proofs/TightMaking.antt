@@ -1,0 +1,108 @@
+-- The tight key made in a copy of the sheet: the copy's hidden quantities hidden, then its visible ones paired and strengthened. And the contract of the call, from plain facts. Assumes nothing.
+use mathlib.Core.Path.{_≡_, refl, sym, _∙_}
+use mathlib.Core.Bool.{Bool, true, false}
+use mathlib.Core.List.{List}
+use Prim.Native.Nat.{ℕ, _≤_, _<_}
+use native.Mathlib.Omega.{arith}
+use lib.IntN.{ℤ}
+use lib.ListN.{length, take}
+use lib.Signed.{_≤ℤ_}
+use Rattle.words.specs.Change.{wordAt, change, copying}
+use Rattle.words.specs.Lent.{Lent}
+use Rattle.places.specs.Numbering.{blockStart}
+use Rattle.rules.specs.declared.paper.Paper.the-variants.{Sheet}
+use Rattle.rules.specs.declared.refusal.Refusal.{Refusal}
+use Rattle.rules.specs.Hidden.{hiddenIn}
+use Rattle.rules.specs.Limits.{noRule, maxQuantities}
+use Rattle.rules.specs.Refusing.{passed, AllMet}
+use Rattle.tables.specs.declared.reply.Reply.{Reply}
+use Rattle.tables.specs.Tables.{tableSize}
+use Rattle.tables.specs.Meaning.{Satisfies, Satisfiable, BoundsWithin}
+use Rattle.tables.proofs.Tests.{clash}
+use Rattle.elimination.specs.Hiding.{every}
+use Rattle.keys.specs.declared.live.Part.the-variants.{Outside}
+use Rattle.keys.specs.Keys.{keyOf}
+use Rattle.keys.specs.Meaning.{keyNeedsThen}
+use Rattle.keys.specs.Inner.{Fits, RestFits, LiveListed, LiveAlone, SetHidden, KeyTried}
+use Rattle.keys.specs.Promises.{KeyedAs}
+use Rattle.keys.proofs.Several.{refuted-false, key-length}
+use Rattle.keys.proofs.Fitting.{hide-ample, sheet-fits}
+use Rattle.keys.proofs.Copying.{SameTable}
+use Rattle.keys.proofs.Deciding.{copy-whole, rest-fits}
+use Rattle.keys.proofs.Making.{key-placed, tried-none, tried-some, made-rest, made-same, made-none}
+use Rattle.tightening.specs.Tightening.{tightened, tightKeyOf}
+use Rattle.tightening.specs.Meaning.{TightKey}
+use Rattle.tightening.specs.Promises.{Tightened, SheetAccepted, TightKeyMade, TightKeyed}
+use Rattle.tightening.proofs.Holding.{key-words, tightened-words}
+use Rattle.tightening.proofs.Tight.{tight-only, tight-meaning, tight-same}
+use Rattle.tightening.proofs.TightSteps.{tight-length, tight-rest, same-tightened, tight-key}
+use Rattle.tightening.proofs.Again.{tight-stays}
+
+-- the rules of a table name the listed visible quantities alone
+rest-alone : (n set count : ℕ) (out : List ℕ) (t : List ℤ) → LiveListed n set Outside 0 count out → RestFits n set t → LiveAlone n (take count out) t
+rest-alone n set count out t l f = record { listed = l .listed; rest = λ i h e. f .alone i h (sym (l .each i h) ∙ e) }
+
+module _ (n set m : ℕ) (t w u : List ℤ) (p : AllMet (keyNeedsThen n set t (length w) passed)) (d : m ≡ tableSize n) (e : u ≡ change m (copying t) w)
+    (v : List ℤ) (r : Bool) (h : SetHidden n set u r v) (c : r ≡ false) where
+  rest : RestFits n set v
+  rest = made-rest n set m t w u p d e v r h c
+
+  -- the copy's key can be tightened
+  pub tight-ready : (count : ℕ) (out : List ℕ) → LiveListed n set Outside 0 count out → Fits n v × LiveAlone n (take count out) v
+  tight-ready count out l = (rest-fits n set v rest, rest-alone n set count out v l rest)
+
+  module _ (x : List ℤ) where
+    lent : Lent (blockStart n) true v x → Lent (blockStart n) true u x
+    lent l = record { size = l .size ∙ h .lent .size; rest = l .rest ∙ h .lent .rest; kept = λ z. clash refl z }
+
+    -- a contradiction at a visible quantity
+    pub tight-none : Tightened n v true x → KeyTried tightKeyOf n set t w true t x
+    tight-none q = tried-none n set m t w u p d e tightKeyOf x (lent (q .lent)) (made-none n set m t w u p d e v r h c (q .none .0 refl))
+
+    -- and none: the table becomes the tight key
+    pub tight-done : (t' : List ℤ) → Tightened n v false x → t' ≡ change m (copying x) t → KeyTried tightKeyOf n set t w false t' x
+    unfolding tightKeyOf
+    tight-done t' q o =
+        tried-some n set m t w u p d e tightKeyOf x (lent (q .lent)) t' (h .some c left)
+        (copy-whole n m x t t' (p .0 .most) d o
+        ∙ key-placed (tightKeyOf (hiddenIn set) n t) n t x (p .0 .room) (tight-length (hiddenIn set) n t) (tight-rest (hiddenIn set) n t) same)
+      where
+        left : Satisfiable n v
+        left = let f = rest-fits n set v rest in refuted-false n v (f .sums .room) (hide-ample every n v f) (sym (q .reply))
+
+        same : SameTable n (tightened n (keyOf (hiddenIn set) n t)) x
+        same = rw (q .table refl) (same-tightened n (keyOf (hiddenIn set) n t) v (made-same n set m t w u p d e v r h c))
+
+-- ---- the contract
+
+-- no word of a table is above the no-rule word
+abbrev pub Held : ℕ → List ℤ → Type 0
+Held n t = (k : ℕ) → k < blockStart n → wordAt t k ≤ℤ noRule
+
+-- then none is in its tight key, which is one by the definition
+pub tight-made : (n set : ℕ) (t : List ℤ) → n ≤ maxQuantities → blockStart n ≤ length t → BoundsWithin Sheet n set t → Held n t → Satisfiable n t
+    → TightKeyMade n set t (tightKeyOf (hiddenIn set) n t)
+unfolding tightKeyOf
+tight-made n set t most room within held s = record {
+  tight = tight;
+  some = s;
+  only = λ other x. tight-only hidden n (Satisfies n t) key other tight x;
+  meaning = tight-meaning hidden n t key tight fits s;
+  same = λ v w a x. tight-same hidden n t key v w tight x fits (sheet-fits n set v (a .sized .most) (a .sized .room) (a .within .1)) s (a .some);
+}
+  where
+    hidden : ℕ → Bool
+    hidden = hiddenIn set
+
+    key : List ℤ
+    key = tightKeyOf (hiddenIn set) n t
+
+    fits : Fits n t
+    fits = sheet-fits n set t most room within
+
+    tight : TightKey (hiddenIn set) n (Satisfies n t) (tightKeyOf (hiddenIn set) n t)
+    tight = tight-key n set t most room within s (tightened-words n (keyOf (hiddenIn set) n t) (omega (arith, key-length (hiddenIn set) n t)) (key-words (hiddenIn set) n t room held))
+
+-- with what holds of every tight table beside it
+pub tight-keyed : {n set : ℕ} {t w : List ℤ} {r : Reply} {t' w' : List ℤ} → KeyedAs tightKeyOf TightKeyMade n set t w r t' w' → TightKeyed n set t w r t' w'
+tight-keyed {n} {set} k = record { keyed = k; again = λ sheet tight x. tight-stays (hiddenIn set) n (Satisfies n sheet) tight x }

@@ -20,7 +20,7 @@ use Rattle.rules.specs.Refusing.{Needs, passed, _or_then_}
 use Rattle.tables.specs.declared.reply.Reply.{Reply}
 use Rattle.tables.specs.declared.reply.Reply.the-variants.{Done, Refused}
 use Rattle.tables.specs.Tables.{tableSize, serves}
-use Rattle.tables.specs.Meaning.{TableSized, Satisfiable, Unsatisfiable, BoundsWithin}
+use Rattle.tables.specs.Meaning.{TableSized, Satisfiable, Unsatisfiable, BoundsWithin, NoneAbove}
 use Rattle.tables.specs.Promises.{InLimit}
 use Rattle.tables.proofs.Tests.{both-true, refused-done, clash}
 use Rattle.tables.proofs.Limits.{wordsInLimit-within}
@@ -115,6 +115,10 @@ pub lent-limit : (paper : Paper) (n set w m : ℕ) (limit : ℤ) (t : List ℤ) 
     → limit ≡ pos (boundLimit paper n set) → InLimit m limit t r → boundsInLimit paper n set t ≡ r
 lent-limit paper n set w m limit t r e d l i = bounds-test paper n set m limit t r (size-known n m (lent-tells n (length t) w e .0 .most) d) l i
 
+-- and where its words are in the limit, none is above the no-rule word
+pub lent-held : (n w m : ℕ) (limit : ℤ) (t : List ℤ) (r : Bool) → lentChecks n (length t) w Done ≡ Done → m ≡ tableSize n → InLimit m limit t r → r ≡ true → NoneAbove (blockStart n) t
+lent-held n w m limit t r e d i c = rw (size-known n m (lent-tells n (length t) w e .0 .most) d) at (i .held c)
+
 -- ---- the calls are refused by the first need that is not met
 
 pub key-tied : (n set : ℕ) (t : List ℤ) (w : ℕ) → Tied (keyNeeds n set t w) (keyReply n set t w)
@@ -136,7 +140,7 @@ assignment-tied n t w v =
 
 -- a refusal that is the call's reply
 key-stops : (n set : ℕ) (t : List ℤ) (w : ℕ) (f : Refusal) → Refused f ≡ keyReply n set t w → KeyChecked n set t w (Refused f)
-key-stops n set t w f e = record { stands = λ g d. e; passes = λ d. absurd (refused-done d) }
+key-stops n set t w f e = record { stands = λ g d. e; passes = λ d. absurd (refused-done d); held = λ d. absurd (refused-done d) }
 
 module _ (n set : ℕ) (t : List ℤ) (w : ℕ) where
   pub key-lent : (r : Reply) (f : Refusal) → r ≡ lentChecks n (length t) w Done → r ≡ Refused f → KeyChecked n set t w r
@@ -155,10 +159,11 @@ module _ (n set : ℕ) (t : List ℤ) (w : ℕ) where
     pub key-words : boundsInLimit Sheet n set t ≡ false → KeyChecked n set t w (Refused (OutOfLimit 0))
     key-words i = key-stops n set t w (OutOfLimit 0) (rw (key-past, i, and-false (setWithin n set)))
 
-    pub key-passes : setWithin n set ≡ true → boundsInLimit Sheet n set t ≡ true → KeyChecked n set t w Done
-    key-passes f i = record {
+    pub key-passes : setWithin n set ≡ true → boundsInLimit Sheet n set t ≡ true → NoneAbove (blockStart n) t → KeyChecked n set t w Done
+    key-passes f i a = record {
       stands = λ g c. absurd (refused-done (sym c));
       passes = λ c. let l = lent-tells n (length t) w e in (l .0, (l .1, ((f, bounds Sheet n set t .0 i), tt)));
+      held = λ c. a;
     }
 
 -- ---- and of the assignment call

@@ -22,7 +22,7 @@ use Rattle.rules.specs.Hidden.{hiddenIn, memberCount}
 use Rattle.rules.specs.Limits.{maxQuantities}
 use Rattle.tables.specs.declared.reply.Reply.{Reply}
 use Rattle.tables.specs.declared.reply.Reply.the-variants.{Done, Refused}
-use Rattle.tables.specs.Meaning.{Satisfies, Satisfiable, Unsatisfiable, WordsWithin, assignmentOf}
+use Rattle.tables.specs.Meaning.{Satisfies, Satisfiable, Unsatisfiable, WordsWithin, NoneAbove, assignmentOf}
 use Rattle.elimination.specs.Hiding.{every, paired, contradicts, eliminated}
 use Rattle.elimination.specs.Choosing.{choice}
 use Rattle.elimination.specs.Magnitude.{valueLimit, Unnamed}
@@ -236,6 +236,7 @@ pub record KeyTried (steps : (ℕ → Bool) → ℕ → List ℤ → List ℤ) (
 pub record KeyChecked (n set : ℕ) (t : List ℤ) (w : ℕ) (r : Reply) : Type 0 where
   pub stands : (f : Refusal) → r ≡ Refused f → r ≡ keyReply n set t w
   pub passes : r ≡ Done → AllMet (keyNeedsThen n set t w passed)
+  pub held : r ≡ Done → NoneAbove (blockStart n) t
 
 pub record AssignmentChecked (n : ℕ) (t : List ℤ) (w v : ℕ) (r : Reply) : Type 0 where
   pub stands : (f : Refusal) → r ≡ Refused f → r ≡ assignmentReply n t w v

@@ -6,12 +6,13 @@ use mathlib.Core.List.{List, [], _∷_}
 use Prim.Native.Nat.{ℕ, zero, suc, _≤_, _<_}
 use lib.IntN.{ℤ, pos}
 use lib.ListN.{length}
+use lib.Signed.{_≤ℤ_}
 use Rattle.integers.specs.Bound.{Within}
 use Rattle.words.specs.Change.{wordAt}
 use Rattle.places.specs.Numbering.{blockStart}
 use Rattle.rules.specs.declared.rule.Rule.{Rule}
 use Rattle.rules.specs.declared.rule.Rule.the-variants.{One, Two, Nothing}
-use Rattle.rules.specs.Limits.{maxQuantities, boundLimit}
+use Rattle.rules.specs.Limits.{noRule, maxQuantities, boundLimit}
 use Rattle.rules.specs.Literal.{negated}
 use Rattle.rules.specs.Meaning.{Assignment, Meets, boundOf, names}
 use Rattle.rules.specs.Steps.{halvedOf}
@@ -128,6 +129,10 @@ SameVisible n hidden σ τ = (q : ℕ) → 1 ≤ q → q ≤ n → hidden q ≡ 
 -- each of the first m words, or of all where there are fewer, that holds a rule is at most B in magnitude
 pub record WordsWithin (m : ℕ) (B : ℤ) (t : List ℤ) : Type 0 where
   pub each : (k : ℕ) → k < m → k < length t → hasRule (wordAt t k) ≡ true → Within B (wordAt t k)
+
+-- none of the first m words is above the no-rule word, which is the largest of 64 bits
+abbrev pub NoneAbove : ℕ → List ℤ → Type 0
+NoneAbove m t = (k : ℕ) → k < m → wordAt t k ≤ℤ noRule
 
 -- the bounds of a table are in the limit of a paper over n quantities with this hidden set in its header
 abbrev pub BoundsWithin : Paper → ℕ → ℕ → List ℤ → Type 0

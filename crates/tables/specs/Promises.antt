@@ -20,7 +20,7 @@ use Rattle.tables.specs.Places.{ruleAt, findPlace, HasPlace}
 use Rattle.tables.specs.declared.reply.Reply.{Reply}
 use Rattle.tables.specs.Replies.{isDone, replyReturned, replyNumber}
 use Rattle.tables.specs.Tables.{emptyTable, emptyReply, putReply, putRule, clearReply, cleared, wordsInLimit, tableNamesHidden}
-use Rattle.tables.specs.Meaning.{TableSized, RuleSized, Cancels, Meetable, Satisfies, SatisfiesWithout, WordsWithin, NamesVisible}
+use Rattle.tables.specs.Meaning.{TableSized, RuleSized, Cancels, Meetable, Satisfies, SatisfiesWithout, WordsWithin, NoneAbove, NamesVisible}
 
 -- what emptying a table of so many words needs
 abbrev pub emptyNeeds : ℕ → ℕ → Needs
@@ -67,6 +67,8 @@ pub record Cleared (n q : ℕ) (before : List ℤ) (r : Reply) (after : List ℤ
 pub record InLimit (m : ℕ) (B : ℤ) (t : List ℤ) (r : Bool) : Type 0 where
   pub reply : r ≡ wordsInLimit m B t
   pub meaning : (r ≡ true) ↔ WordsWithin m B t
+  -- where it is yes, every word was looked at
+  pub held : r ≡ true → NoneAbove m t
 
 -- the answer whether a rule of a table names a hidden quantity
 pub record HiddenNamed (n : ℕ) (hidden : ℕ → Bool) (t : List ℤ) (r : Bool) : Type 0 where

@@ -17,7 +17,7 @@ use Rattle.rules.specs.Limits.{noRule}
 use Rattle.rules.specs.Meaning.{Assignment, Meets, names}
 use Rattle.tables.specs.Places.{ruleAt}
 use Rattle.tables.specs.Tables.{hasRule, clearing, cleared}
-use Rattle.tables.specs.Meaning.{HoldsRule, ruleIn, Satisfies, Solutions, NamesVisible}
+use Rattle.tables.specs.Meaning.{HoldsRule, ruleIn, Satisfies, Solutions, NamesVisible, NoneAbove}
 use Rattle.tables.proofs.Places.{names-bound}
 use Rattle.elimination.specs.Hiding.{every, eliminated}
 use Rattle.elimination.specs.Magnitude.{Unnamed}
@@ -59,7 +59,7 @@ definition-again hidden n sheet u t = record {
 none-word : (w : ℤ) → w ≤ℤ noRule → hasRule w ≡ false → w ≡ noRule
 none-word w h e = omega (linear, ltZ-false w noRule e)
 
-module _ (n : ℕ) (t : List ℤ) (l : blockStart n ≤ length t) (words : (k : ℕ) → k < blockStart n → wordAt t k ≤ℤ noRule) where
+module _ (n : ℕ) (t : List ℤ) (l : blockStart n ≤ length t) (words : NoneAbove (blockStart n) t) where
   -- where no rule names a quantity, clearing its places puts the no-rule word where it stands already,
   cleared-again : (j : ℕ) → Unnamed n j t → cleared n (suc j) t ≡ t
   unfolding cleared

@@ -14,7 +14,7 @@ use Rattle.places.specs.Numbering.{blockStart, isOne, higherAt, lowerAt}
 use Rattle.rules.specs.Limits.{noRule}
 use Rattle.rules.specs.Meaning.{names}
 use Rattle.tables.specs.Tables.{hasRule, cleared}
-use Rattle.tables.specs.Meaning.{ruleIn}
+use Rattle.tables.specs.Meaning.{ruleIn, NoneAbove}
 use Rattle.tables.proofs.Without.{cleared-word}
 use Rattle.elimination.specs.Hiding.{every, withSum, loneWord, onOne, onTwo, liveAt, pairing, paired, eliminated}
 use Rattle.elimination.proofs.SumWords.{le-trans, withSum-word, withSum-elim, onOne-word, onTwo-word}
@@ -86,15 +86,13 @@ tightened-lowered n t l k h =
     le-trans (strengthened-lowered n (pairUpTo n n t) (pair-room n n t l) k h) (pair-lowered-all n n t (omega arith) l k h)
 
 -- so no word rises above the no-rule word
-pub tightened-words : (n : ℕ) (t : List ℤ) → blockStart n ≤ length t → ((k : ℕ) → k < blockStart n → wordAt t k ≤ℤ noRule)
-    → (k : ℕ) → k < blockStart n → wordAt (tightened n t) k ≤ℤ noRule
+pub tightened-words : (n : ℕ) (t : List ℤ) → blockStart n ≤ length t → NoneAbove (blockStart n) t → NoneAbove (blockStart n) (tightened n t)
 tightened-words n t l w k h = le-trans (tightened-lowered n t l k h) (w k h)
 
 -- ---- the key
 
 -- a cleared place gets the no-rule word itself,
-cleared-words : (n q : ℕ) (t : List ℤ) → blockStart n ≤ length t → ((k : ℕ) → k < blockStart n → wordAt t k ≤ℤ noRule)
-    → (k : ℕ) → k < blockStart n → wordAt (cleared n q t) k ≤ℤ noRule
+cleared-words : (n q : ℕ) (t : List ℤ) → blockStart n ≤ length t → NoneAbove (blockStart n) t → NoneAbove (blockStart n) (cleared n q t)
 cleared-words n q t l w k h = rw (cleared-word n q t k l h) (go (names q (ruleIn t k)))
   where
     go : (b : Bool) → cond b noRule (wordAt t k) ≤ℤ noRule
@@ -102,15 +100,14 @@ cleared-words n q t l w k h = rw (cleared-word n q t k l h) (go (names q (ruleIn
     go false = w k h
 
 -- so hiding one quantity raises none above it,
-eliminated-words : (n j : ℕ) (t : List ℤ) → blockStart n ≤ length t → ((k : ℕ) → k < blockStart n → wordAt t k ≤ℤ noRule)
-    → (k : ℕ) → k < blockStart n → wordAt (eliminated n j t) k ≤ℤ noRule
+eliminated-words : (n j : ℕ) (t : List ℤ) → blockStart n ≤ length t → NoneAbove (blockStart n) t → NoneAbove (blockStart n) (eliminated n j t)
 unfolding eliminated
 eliminated-words n j t l w =
     cleared-words n (suc j) (paired every n j t) (omega (arith, paired-length every n j t)) (λ k h. le-trans (paired-lowered every n j t l k h) (w k h))
 
 -- nor do several,
-hidden-words : (hidden : ℕ → Bool) (n m : ℕ) (t : List ℤ) → blockStart n ≤ length t → ((k : ℕ) → k < blockStart n → wordAt t k ≤ℤ noRule)
-    → (k : ℕ) → k < blockStart n → wordAt (hideUpTo hidden n m t) k ≤ℤ noRule
+hidden-words : (hidden : ℕ → Bool) (n m : ℕ) (t : List ℤ) → blockStart n ≤ length t → NoneAbove (blockStart n) t
+    → NoneAbove (blockStart n) (hideUpTo hidden n m t)
 unfolding hideUpTo
 hidden-words hidden n zero t l w = w
 hidden-words hidden n (suc j) t l w = go (hidden (suc j)) (hidden-words hidden n j t l w)
@@ -118,12 +115,11 @@ hidden-words hidden n (suc j) t l w = go (hidden (suc j)) (hidden-words hidden n
     u : List ℤ
     u = hideUpTo hidden n j t
 
-    go : (b : Bool) → ((k : ℕ) → k < blockStart n → wordAt u k ≤ℤ noRule) → (k : ℕ) → k < blockStart n → wordAt (cond b (eliminated n j u) u) k ≤ℤ noRule
+    go : (b : Bool) → NoneAbove (blockStart n) u → NoneAbove (blockStart n) (cond b (eliminated n j u) u)
     go true ih = eliminated-words n j u (omega (arith, hideUpTo-length hidden n j t)) ih
     go false ih = ih
 
 -- nor the key
-pub key-words : (hidden : ℕ → Bool) (n : ℕ) (t : List ℤ) → blockStart n ≤ length t → ((k : ℕ) → k < blockStart n → wordAt t k ≤ℤ noRule)
-    → (k : ℕ) → k < blockStart n → wordAt (keyOf hidden n t) k ≤ℤ noRule
+pub key-words : (hidden : ℕ → Bool) (n : ℕ) (t : List ℤ) → blockStart n ≤ length t → NoneAbove (blockStart n) t → NoneAbove (blockStart n) (keyOf hidden n t)
 unfolding keyOf
 key-words hidden n t l w = hidden-words hidden n n t l w

@@ -2,22 +2,21 @@
 use mathlib.Core.Path.{_≡_, refl, sym, _∙_}
 use mathlib.Core.Bool.{Bool, true, false}
 use mathlib.Core.List.{List}
-use Prim.Native.Nat.{ℕ, _≤_, _<_}
+use Prim.Native.Nat.{ℕ, _≤_}
 use native.Mathlib.Omega.{arith}
 use lib.IntN.{ℤ}
 use lib.ListN.{length, take}
-use lib.Signed.{_≤ℤ_}
-use Rattle.words.specs.Change.{wordAt, change, copying}
+use Rattle.words.specs.Change.{change, copying}
 use Rattle.words.specs.Lent.{Lent}
 use Rattle.places.specs.Numbering.{blockStart}
 use Rattle.rules.specs.declared.paper.Paper.the-variants.{Sheet}
-use Rattle.rules.specs.declared.refusal.Refusal.{Refusal}
 use Rattle.rules.specs.Hidden.{hiddenIn}
-use Rattle.rules.specs.Limits.{noRule, maxQuantities}
+use Rattle.rules.specs.Limits.{maxQuantities}
 use Rattle.rules.specs.Refusing.{passed, AllMet}
 use Rattle.tables.specs.declared.reply.Reply.{Reply}
+use Rattle.tables.specs.declared.reply.Reply.the-variants.{Done}
 use Rattle.tables.specs.Tables.{tableSize}
-use Rattle.tables.specs.Meaning.{Satisfies, Satisfiable, BoundsWithin}
+use Rattle.tables.specs.Meaning.{Satisfies, Satisfiable, BoundsWithin, NoneAbove}
 use Rattle.tables.proofs.Tests.{clash}
 use Rattle.elimination.specs.Hiding.{every}
 use Rattle.keys.specs.declared.live.Part.the-variants.{Outside}
@@ -30,6 +29,7 @@ use Rattle.keys.proofs.Fitting.{hide-ample, sheet-fits}
 use Rattle.keys.proofs.Copying.{SameTable}
 use Rattle.keys.proofs.Deciding.{copy-whole, rest-fits}
 use Rattle.keys.proofs.Making.{key-placed, tried-none, tried-some, made-rest, made-same, made-none}
+use Rattle.keys.proofs.Promised.{key-done}
 use Rattle.tightening.specs.Tightening.{tightened, tightKeyOf}
 use Rattle.tightening.specs.Meaning.{TightKey}
 use Rattle.tightening.specs.Promises.{Tightened, SheetAccepted, TightKeyMade, TightKeyed}
@@ -75,12 +75,8 @@ module _ (n set m : ℕ) (t w u : List ℤ) (p : AllMet (keyNeedsThen n set t (l
 
 -- ---- the contract
 
--- no word of a table is above the no-rule word
-abbrev pub Held : ℕ → List ℤ → Type 0
-Held n t = (k : ℕ) → k < blockStart n → wordAt t k ≤ℤ noRule
-
--- then none is in its tight key, which is one by the definition
-pub tight-made : (n set : ℕ) (t : List ℤ) → n ≤ maxQuantities → blockStart n ≤ length t → BoundsWithin Sheet n set t → Held n t → Satisfiable n t
+-- where no word of a table is above the no-rule word, none is in its tight key, which is one by the definition
+pub tight-made : (n set : ℕ) (t : List ℤ) → n ≤ maxQuantities → blockStart n ≤ length t → BoundsWithin Sheet n set t → NoneAbove (blockStart n) t → Satisfiable n t
     → TightKeyMade n set t (tightKeyOf (hiddenIn set) n t)
 unfolding tightKeyOf
 tight-made n set t most room within held s = record {
@@ -106,3 +102,10 @@ tight-made n set t most room within held s = record {
 -- with what holds of every tight table beside it
 pub tight-keyed : {n set : ℕ} {t w : List ℤ} {r : Reply} {t' w' : List ℤ} → KeyedAs tightKeyOf TightKeyMade n set t w r t' w' → TightKeyed n set t w r t' w'
 tight-keyed {n} {set} k = record { keyed = k; again = λ sheet tight x. tight-stays (hiddenIn set) n (Satisfies n sheet) tight x }
+
+-- made, where the checks are passed
+pub tight-finished : (n set : ℕ) (t w t' w' : List ℤ) → AllMet (keyNeedsThen n set t (length w) passed) → NoneAbove (blockStart n) t → KeyTried tightKeyOf n set t w false t' w'
+    → TightKeyed n set t w Done t' w'
+tight-finished n set t w t' w' p held d =
+    tight-keyed
+    (key-done tightKeyOf TightKeyMade n set t w w' t' p (tight-rest (hiddenIn set) n t) (tight-made n set t (p .0 .most) (p .0 .room) (p .1 .1 .0 .1) held) d)

@@ -15,10 +15,10 @@ use Rattle.places.specs.Numbering.{blockStart, isOne, higherAt, lowerAt}
 use Rattle.places.proofs.Numbering.{at-lower, at-below}
 use Rattle.rules.specs.declared.paper.Paper.the-variants.{Sheet}
 use Rattle.rules.specs.Hidden.{hiddenIn}
-use Rattle.rules.specs.Limits.{noRule, maxQuantities}
+use Rattle.rules.specs.Limits.{maxQuantities}
 use Rattle.rules.specs.Meaning.{Assignment}
 use Rattle.tables.specs.Tables.{hasRule}
-use Rattle.tables.specs.Meaning.{HoldsRule, Satisfies, Satisfiable, SheetAllows, BoundsWithin, joined}
+use Rattle.tables.specs.Meaning.{HoldsRule, Satisfies, Satisfiable, SheetAllows, BoundsWithin, NoneAbove, joined}
 use Rattle.tables.proofs.Places.{names-bound}
 use Rattle.elimination.specs.Hiding.{every, withSum, loneWord}
 use Rattle.keys.specs.Keys.{keyOf, refuted}
@@ -115,8 +115,7 @@ module _ (n set : ℕ) (t : List ℤ) (most : n ≤ maxQuantities) (room : block
   of-sheet : (k : ℕ) (c : ℤ) → VisibleAt (hiddenIn set) k → MetByAll (Satisfies n t) k c → MetByAll (Satisfies n key) k c
   of-sheet k c v m σ s = let a = exact σ .0 s in visible-meets (hiddenIn set) k c σ (a .hiddens) v (m (joined (hiddenIn set) σ (a .hiddens)) (a .complete))
 
-  pub tight-key : ((k : ℕ) → k < blockStart n → wordAt (tightKeyOf (hiddenIn set) n t) k ≤ℤ noRule)
-      → TightKey (hiddenIn set) n (Satisfies n t) (tightKeyOf (hiddenIn set) n t)
+  pub tight-key : NoneAbove (blockStart n) (tightKeyOf (hiddenIn set) n t) → TightKey (hiddenIn set) n (Satisfies n t) (tightKeyOf (hiddenIn set) n t)
   unfolding tightKeyOf
   tight-key words = record {
     rule = λ k h. (λ p. (seen k p, record { bound = wordAt u k; met = of-key k (wordAt u k) (bound k h .met (p .rule)) }), λ b. held k h b (hasRule (wordAt u k)) refl);

@@ -9,10 +9,9 @@ use lib.ListN.{length}
 use lib.Signed.{_≤ℤ_}
 use Rattle.words.specs.Change.{wordAt}
 use Rattle.places.specs.Numbering.{blockStart}
-use Rattle.rules.specs.Limits.{noRule}
 use Rattle.rules.specs.Meaning.{Assignment, Meets, names}
 use Rattle.tables.specs.Places.{ruleAt}
-use Rattle.tables.specs.Meaning.{HoldsRule, Solutions, SheetAllows}
+use Rattle.tables.specs.Meaning.{HoldsRule, Solutions, SheetAllows, NoneAbove}
 
 -- a bound on the term of place k is met by all assignments of a sheet
 abbrev pub MetByAll : Solutions → ℕ → ℤ → Type 0
@@ -39,7 +38,7 @@ pub record TightKey (hidden : ℕ → Bool) (n : ℕ) (sheet : Solutions) (key :
   pub least : (k : ℕ) → HoldsRule n key k → LeastMet sheet k (wordAt key k)
   -- as in every table of words: they are all there, and none is above the no-rule word
   pub room : blockStart n ≤ length key
-  pub words : (k : ℕ) → k < blockStart n → wordAt key k ≤ℤ noRule
+  pub words : NoneAbove (blockStart n) key
 
 -- two sheets allow the same visible integers
 abbrev pub AllowAlike : (ℕ → Bool) → Solutions → Solutions → Type 0

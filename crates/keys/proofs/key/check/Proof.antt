@@ -3,7 +3,7 @@ use mathlib.Core.Path.{sym, _∙_}
 use borrow.Author.Needs.{needs}
 use borrow.Author.Tests.{not-true, not-false}
 use Rattle.integers.proofs.Parts.{held-value}
-use Rattle.keys.proofs.Checking.{lent-limit, key-lent, key-set, key-words, key-passes}
+use Rattle.keys.proofs.Checking.{lent-limit, lent-held, key-lent, key-set, key-words, key-passes}
 use Rattle.keys.proofs.key.check.Statement.{statement}
 use Rattle.keys.proofs.key.check.Tie as tie
 
@@ -60,6 +60,7 @@ returns-4 c =
     key-passes _ _ _ _ lent (sym (set .before .is-within .ensures .reply) ∙ not-false _ (set .if1 .left))
     (lent-limit _ _ _ _ _ _ _ _ lent (size .size .ensures) (held-value (limit .bound-limit .ok) ∙ limit .bound-limit .ensures) (table .is-table-in .ensures)
     ∙ not-false _ (c .if2 .left))
+    (lent-held _ _ _ _ _ _ lent (size .size .ensures) (table .is-table-in .ensures) (not-false _ (c .if2 .left)))
 
 pub check-spec : {M : Type 1} → statement M
 check-spec =

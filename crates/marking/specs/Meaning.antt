@@ -16,11 +16,12 @@ use Rattle.rules.specs.Hidden.{hiddenIn}
 use Rattle.rules.specs.Refusing.{Needs, passed, _or_then_}
 use Rattle.rules.specs.Refusal.{Returned}
 use Rattle.rules.specs.Meaning.{Assignment, Meets, hasTerm}
-use Rattle.tables.specs.Meaning.{TableSized, HoldsRule, ruleIn, Satisfiable, Unsatisfiable, Solutions, Completes, SheetAllows, ScriptAllows, ScriptForbids, Breaks, NamesVisible, SameVisible, assignmentOf, BoundsWithin}
+use Rattle.tables.specs.Meaning.{TableSized, HoldsRule, ruleIn, Satisfies, Satisfiable, Unsatisfiable, Solutions, Completes, SheetAllows, ScriptAllows, ScriptForbids, Breaks, NamesVisible, SameVisible, assignmentOf, BoundsWithin}
 use Rattle.elimination.specs.Magnitude.{ValuesWithin}
 use Rattle.keys.specs.Keys.{keyOf}
 use Rattle.keys.specs.Meaning.{NumbersWithin}
 use Rattle.keys.specs.Promises.{KeyMade}
+use Rattle.tightening.specs.Meaning.{TightKey}
 use Rattle.marking.specs.declared.verdict.Verdict.the-variants.{Loose, Tight}
 use Rattle.marking.specs.Verdicts.{verdictReturned}
 
@@ -138,13 +139,16 @@ markNeeds n set sheet script w v =
 
 -- ---- a sheet's own key
 
--- the script is the plain key of its sheet, one that the key call accepts. The call replaces the table that it is lent, so it is lent a copy: the script's first words are
--- those that it leaves there
+-- a table is a key of a sheet with which a script may be answered: the plain one always, and the tight one where its bounds are in a script's limit (document 02, [2]). The key call replaces the
+-- table that it is lent, so it is lent a copy: the plain key's first words are those that it leaves there
+pub data AnswersAs (n set : ℕ) (sheet key : List ℤ) : Type 0 where
+  plain : (copy : List ℤ) → take (blockStart n) copy ≡ take (blockStart n) sheet → take (blockStart n) key ≡ take (blockStart n) (keyOf (hiddenIn set) n copy) → AnswersAs n set sheet key
+  tight : TightKey (hiddenIn set) n (Satisfies n sheet) key → BoundsWithin Script n set key → AnswersAs n set sheet key
+
+-- the script is such a key of its sheet, one that the key call accepts
 pub record OwnKey (n set : ℕ) (sheet script : List ℤ) : Type 0 where
   pub sized : TableSized n (length sheet)
   pub room : blockStart n ≤ length script
   pub within : NumbersWithin n set sheet
   pub some : Satisfiable n sheet
-  pub copy : List ℤ
-  pub copied : take (blockStart n) copy ≡ take (blockStart n) sheet
-  pub same : take (blockStart n) script ≡ take (blockStart n) (keyOf (hiddenIn set) n copy)
+  pub key : AnswersAs n set sheet script

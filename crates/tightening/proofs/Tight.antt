@@ -112,6 +112,24 @@ module _ (hidden : ℕ → Bool) (n : ℕ) (t u : List ℤ) (x : TightKey hidden
 
 -- ---- one meaning, one table
 
+-- sheets that the same assignments satisfy have the same tight keys: the rules of a table and those of a text
+pub tight-solutions : (hidden : ℕ → Bool) (n : ℕ) (sheet other : Solutions) (u : List ℤ) → ((σ : Assignment) → sheet σ ↔ other σ) → TightKey hidden n sheet u → TightKey hidden n other u
+tight-solutions hidden n sheet other u a x = record {
+  rule = λ k h. (
+    λ p. let r = x .rule k h .0 p in (r .0, record { bound = r .1 .bound; met = there k (r .1 .bound) (r .1 .met) }),
+    λ r. x .rule k h .1 (r .0, record { bound = r .1 .bound; met = back k (r .1 .bound) (r .1 .met) }),
+  );
+  least = λ k p. record { met = there k (wordAt u k) (x .least k p .met); least = λ d m. x .least k p .least d (back k d m) };
+  room = x .room;
+  words = x .words;
+}
+  where
+    there : (k : ℕ) (c : ℤ) → MetByAll sheet k c → MetByAll other k c
+    there k c m σ s = m σ (a σ .1 s)
+
+    back : (k : ℕ) (c : ℤ) → MetByAll other k c → MetByAll sheet k c
+    back k c m σ s = m σ (a σ .0 s)
+
 -- a bound on a visible term that all of one sheet meet is met by all of another that allows no more
 alike-met : (hidden : ℕ → Bool) (n : ℕ) (t v : List ℤ) (k : ℕ) (c : ℤ) → VisibleAt hidden k
     → ((σ : Assignment) → SheetAllows hidden (Satisfies n v) σ → SheetAllows hidden (Satisfies n t) σ)

@@ -1,6 +1,6 @@
--- The text of a sheet's own key, read as its script, is accepted and found equal: every line of it is fine in a script's limit, it is not too long, it names no hidden quantity,
+-- The text of a sheet's own key, plain or tight, read as its script, is accepted and found equal: every line of it is fine in a script's limit, it is not too long, it names no hidden quantity,
 -- and by demand 2 its rules allow what the sheet allows. Assumes nothing.
-use mathlib.Core.Path.{_≡_, refl, sym, _∙_, ap}
+use mathlib.Core.Path.{_≡_, refl, _∙_}
 use mathlib.Core.Bool.{Bool, true, false, cond}
 use mathlib.Core.List.{List, [], _∷_}
 use Prim.Native.Nat.{ℕ, suc, _+_, _≤_, _<_}
@@ -8,7 +8,6 @@ use native.Mathlib.Nat.{add-zero, zero-add, add-suc, suc-add}
 use native.Mathlib.Omega.{arith}
 use lib.IntN.{ℤ}
 use lib.ListN.{length, take}
-use lib.Seq.{take-all}
 use Rattle.words.specs.Change.{wordAt}
 use Rattle.places.specs.Numbering.{blockStart}
 use Rattle.places.proofs.Numbering.{blockStart-mono}
@@ -19,58 +18,35 @@ use Rattle.rules.specs.Meaning.{Assignment, names}
 use Rattle.tables.specs.declared.reply.Reply.the-variants.{Done}
 use Rattle.tables.specs.Places.{ruleAt}
 use Rattle.tables.specs.Tables.{hasRule}
-use Rattle.tables.specs.Meaning.{HoldsRule, ruleIn, Satisfies, NamesVisible, NoneNames}
+use Rattle.tables.specs.Meaning.{HoldsRule, ruleIn, Satisfies, Satisfiable, NamesVisible, NoneNames, KeyLike}
 use Rattle.tables.proofs.Tests.{clash}
 use Rattle.lines.specs.Spelling.{writtenRules}
-use Rattle.reading.specs.Texts.{Contents, sheetText}
+use Rattle.reading.specs.Texts.{Contents}
 use Rattle.reading.specs.Meaning.{Reads, rulesOf}
 use Rattle.reading.proofs.Means.{reads-check}
-use Rattle.writing.specs.Writing.{writtenOf, rulesAt, tableRules, hiddenList, writtenText}
+use Rattle.writing.specs.Writing.{writtenOf, rulesAt, tableRules, writtenText}
 use Rattle.writing.proofs.Meanings.{written-rule, table-meaning}
 use Rattle.writing.proofs.Meanings.{front-word as written-word}
 use Rattle.writing.proofs.Back.{key-reads as written-key}
-use Rattle.keys.specs.Keys.{keyOf}
-use Rattle.keys.proofs.Copying.{SameTable, front-same, same-front, same-key}
 use Rattle.marking.specs.declared.verdict.Verdict.the-variants.{Equal}
 use Rattle.marking.specs.Meaning.{AllowSame}
 use Rattle.marking.specs.Marking.{verdictOf}
 use Rattle.marking.specs.Inner.{TablesAccepted}
 use Rattle.marking.proofs.Checking.{met-accepted}
 use Rattle.marking.proofs.Demand.{verdict-demand}
-use Rattle.marking.proofs.OwnKeys.{is-equal}
+use Rattle.marking.proofs.OwnKeys.{is-equal, answer-like, answer-allows}
 use Rattle.scripts.specs.declared.room.Lengths.{Lengths}
 use Rattle.scripts.specs.declared.reply.TextMarking.the-variants.{Marked}
 use Rattle.scripts.specs.Meaning.{setIn, tableIn, ownLengths, Matches, Room, OwnKeyText}
 use Rattle.scripts.specs.Marking.{pairChecks, pairReply, textsReply}
-use Rattle.scripts.proofs.Sheets.{FineTable, FineSheet, fine-table, table-sized, keyIn, key-length, key-meaning, key-like}
+use Rattle.scripts.proofs.Sheets.{FineTable, FineSheet, fine-table, table-sized}
 use Rattle.scripts.proofs.Matching.{matches-visible}
 use Rattle.scripts.proofs.Rooms.{pair-tied}
 use Rattle.scripts.proofs.Alike.{alike-back, alike-same}
 
--- ---- it is fine as a script
-
--- the contents that a key's text has
-abbrev pub keyContents : Contents → Contents
-keyContents c = record { count = c .count; hiddens = c .hiddens; written = tableRules (c .count) (keyIn c) }
-
-pub key-reads : (c : Contents) → FineSheet c → Reads Script (writtenText (c .count) (setIn c) (keyIn c)) (keyContents c)
-key-reads c s = rw (s .back) at (written-key (c .count) (setIn c) (keyIn c) (s .some) (s .most) (s .range) (omega (arith, key-length c s)) (key-like c s))
-
--- tables that are the same have the same text
-same-text : (n set : ℕ) (t u : List ℤ) → SameTable n t u → writtenText n set u ≡ writtenText n set t
-unfolding writtenText
-same-text n set t u s = ap (λ (front : List ℤ). sheetText (record { count = n; hiddens = hiddenList n set; written = rulesAt 0 front })) (same-front n t u s)
-
--- so whatever table the key is made in, its text is that of the key of the rules
-held-text : (c : Contents) (t : List ℤ) → FineSheet c → take (blockStart (c .count)) t ≡ tableIn c
-    → writtenText (c .count) (setIn c) (keyOf (hiddenIn (setIn c)) (c .count) t) ≡ writtenText (c .count) (setIn c) (keyIn c)
-held-text c t f e = same-text (c .count) (setIn c) (keyIn c) (keyOf (hiddenIn (setIn c)) (c .count) t) (same-key (hiddenIn (setIn c)) (c .count) (tableIn c) t same)
-  where
-    same : SameTable (c .count) (tableIn c) t
-    same = front-same (c .count) (tableIn c) t (omega (arith, f .size)) (e ∙ sym (take-all (blockStart (c .count)) (tableIn c) (omega (arith, f .size))))
-
-own-reads : (c : Contents) (s : List ℕ) → FineSheet c → s ≡ writtenText (c .count) (setIn c) (keyIn c) → Reads Script s (keyContents c)
-own-reads c s f e = rw e (key-reads c f)
+-- the contents that the text of a key has
+abbrev pub keyContents : Contents → List ℤ → Contents
+keyContents c u = record { count = c .count; hiddens = c .hiddens; written = tableRules (c .count) u }
 
 -- ---- no rule names a hidden quantity
 
@@ -103,22 +79,25 @@ table-spares n hidden t v q h = words-spare q 0 (take (blockStart n) t) each
         let w = written-word (blockStart n) t k l in
         rw (zero-add k, w .2) (spared k (record { inside = w .0; there = w .1; rule = rw (w .2) at e }) (names q (ruleIn t k)) refl)
 
--- so none of a key's does
-pub key-spares : (c : Contents) → FineSheet c → (q : ℕ) → hiddenIn (setIn c) q ≡ true → NoneNames q (writtenRules (tableRules (c .count) (keyIn c)))
-key-spares c s = table-spares (c .count) (hiddenIn (setIn c)) (keyIn c) (key-like c s .visible)
+-- ---- a table like a key of the sheet
 
--- so it fits its sheet
-key-matches : (c : Contents) → FineSheet c → Matches c (keyContents c)
-key-matches c s = record { count = refl; hiddens = refl; visible = λ q e. key-spares c s q (s .members q ∙ e) }
+module _ (c : Contents) (s : FineSheet c) (u : List ℤ) (room : blockStart (c .count) ≤ length u) (like : KeyLike (c .count) (setIn c) u) where
+  -- its text is fine as a script,
+  pub key-reads : Reads Script (writtenText (c .count) (setIn c) u) (keyContents c u)
+  key-reads = rw (s .back) at (written-key (c .count) (setIn c) u (s .some) (s .most) (s .range) room like)
 
--- ---- what it allows
+  -- no rule of it names a hidden quantity,
+  pub key-spares : (q : ℕ) → hiddenIn (setIn c) q ≡ true → NoneNames q (writtenRules (tableRules (c .count) u))
+  key-spares = table-spares (c .count) (hiddenIn (setIn c)) u (like .visible)
 
--- demand 2, of the rules that it writes
-pub key-rules : (c : Contents) → FineSheet c → (σ₀ : Assignment) → rulesOf c σ₀ → AllowSame (hiddenIn (setIn c)) (rulesOf c) (rulesOf (keyContents c))
-key-rules c s σ₀ m σ =
-    let w = table-meaning (c .count) (keyIn c) (omega (arith, key-length c s)) σ in
-    let k = key-meaning c s σ₀ m σ in
-    (λ a. k .0 (w .1 a), λ a. w .0 (k .1 a))
+  -- so it fits its sheet
+  pub key-matches : Matches c (keyContents c u)
+  key-matches = record { count = refl; hiddens = refl; visible = λ q e. key-spares q (s .members q ∙ e) }
+
+-- the rules that it writes allow what the table does
+pub key-rules : (c : Contents) (s : FineSheet c) (u : List ℤ) → blockStart (c .count) ≤ length u
+    → AllowSame (hiddenIn (setIn c)) (Satisfies (c .count) (tableIn c)) (Satisfies (c .count) u) → AllowSame (hiddenIn (setIn c)) (rulesOf c) (rulesOf (keyContents c u))
+key-rules c s u room a = alike-same (hiddenIn (setIn c)) (s .held .meaning) (table-meaning (c .count) u room) a
 
 -- ---- the reply
 
@@ -127,13 +106,19 @@ module _ (sheet script : List ℕ) (lent : Lengths) (k : OwnKeyText sheet script
   c = k .contents
 
   abbrev d : Contents
-  d = keyContents (k .contents)
+  d = keyContents (k .contents) (k .key)
 
   fine : FineSheet c
   fine = fine-table Sheet c (k .reads .spelled .fine)
 
+  some : Satisfiable (c .count) (tableIn c)
+  some = record { assignment = k .integers; satisfies = fine .held .meaning (k .integers) .1 (k .satisfied) }
+
+  like : KeyLike (c .count) (setIn c) (k .key)
+  like = answer-like (c .count) (setIn c) (tableIn c) (k .key) (table-sized Sheet c fine) (k .room) (fine .range, fine .bounds) some (k .answers)
+
   script-reads : Reads Script script d
-  script-reads = own-reads c script fine (k .text ∙ held-text c (k .table) fine (k .held))
+  script-reads = rw (k .text) (key-reads c fine (k .key) (k .room) like)
 
   written : FineTable Script d
   written = fine-table Script d (script-reads .spelled .fine)
@@ -147,12 +132,13 @@ module _ (sheet script : List ℕ) (lent : Lengths) (k : OwnKeyText sheet script
       )
     where
       visible : NamesVisible (c .count) (hiddenIn (setIn c)) (tableIn d)
-      visible = matches-visible c d (k .reads .spelled .fine) (script-reads .spelled .fine) (key-matches c fine)
+      visible = matches-visible c d (k .reads .spelled .fine) (script-reads .spelled .fine) (key-matches c fine (k .key) (k .room) like)
 
   -- and allows what the sheet allows
   own-allows : AllowSame (hiddenIn (setIn c)) (Satisfies (c .count) (tableIn c)) (Satisfies (c .count) (tableIn d))
   own-allows =
-      alike-same (hiddenIn (setIn c)) (alike-back (fine .held .meaning)) (alike-back (written .held .meaning)) (key-rules c fine (k .integers) (k .satisfied))
+      alike-same (hiddenIn (setIn c)) (alike-back (fine .held .meaning)) (alike-back (written .held .meaning)) (key-rules c fine (k .key) (k .room)
+      (answer-allows (c .count) (setIn c) (tableIn c) (k .key) (table-sized Sheet c fine) (k .room) (fine .range, fine .bounds) some (k .answers)))
 
   own-verdict : verdictOf (hiddenIn (setIn c)) (c .count) (tableIn c) (tableIn d) ≡ Equal
   own-verdict = is-equal _ (verdict-demand (c .count) (setIn c) (tableIn c) (tableIn d) (lent .workspace) (lent .values) own-tables .equal .1 own-allows)
@@ -160,7 +146,7 @@ module _ (sheet script : List ℕ) (lent : Lengths) (k : OwnKeyText sheet script
   own-checks : pairChecks c d lent ≡ Done
   own-checks =
       pair-tied c d (k .reads .spelled .fine) (script-reads .spelled .fine) lent .accepted
-      .1 (room .sheet-room, (room .script-room, (room .workspace-room, (room .values-room, (key-matches c fine, tt)))))
+      .1 (room .sheet-room, (room .script-room, (room .workspace-room, (room .values-room, (key-matches c fine (k .key) (k .room) like, tt)))))
 
   pub own-reply : textsReply sheet script lent ≡ Marked (k .contents .count) Equal
   unfolding textsReply pairReply

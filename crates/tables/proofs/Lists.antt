@@ -88,7 +88,7 @@ le-through : {a b c : ℤ} → a ≤ℤ b → b ≤ℤ c → a ≤ℤ c
 le-through p q = omega linear
 
 -- the no-rule word is above every bound
-smallest-most : (k : ℕ) (rs : List Rule) → smallestAt k rs ≤ℤ noRule
+pub smallest-most : (k : ℕ) (rs : List Rule) → smallestAt k rs ≤ℤ noRule
 unfolding smallestAt
 smallest-most k [] = omega linear
 smallest-most k (r ∷ rs) = go (isAt k (findPlace (halvedOf r))) (smallest-most k rs)

@@ -1,29 +1,32 @@
--- The steps of the tightest key: they keep length and words past the table; of two copies they make the same; and what they make is the tightest key by its
+-- The steps of the tightest key: they keep length and words past the table, and make words where sums fit; of two copies they make the same; and what they make is the tightest key by its
 -- definition. Assumes nothing.
 use mathlib.Core.Path.{_≡_, refl, sym, _∙_}
 use mathlib.Core.Bool.{Bool, true, false, cond}
 use mathlib.Core.List.{List}
 use mathlib.Core.Logic.{_↔_}
-use Prim.Native.Nat.{ℕ, zero, suc, _*_, _≤_, _<_}
+use Prim.Native.Nat.{ℕ, zero, suc, _*_, _≤_, _<_, _^_}
 use native.Mathlib.Omega.{arith}
-use lib.IntN.{ℤ, pos}
+use lib.IntN.{ℤ, pos, _+ℤ_}
 use lib.ListN.{length, drop}
 use lib.Signed.{ltZ, _≤ℤ_}
+use Rattle.integers.specs.Bound.{Within}
 use Rattle.integers.proofs.Parts.{linear, ltZ-true, ltZ-false}
+use Rattle.integers.proofs.Within.{within-mono, within-add}
 use Rattle.words.specs.Change.{wordAt}
-use Rattle.places.specs.Numbering.{blockStart, isOne, higherAt, lowerAt}
-use Rattle.places.proofs.Numbering.{at-lower, at-below}
+use Rattle.places.specs.Numbering.{blockStart, placeOfOne, isOne, higherAt, lowerAt}
+use Rattle.places.proofs.Numbering.{one-below, at-lower, at-below}
 use Rattle.rules.specs.declared.paper.Paper.the-variants.{Sheet}
 use Rattle.rules.specs.Hidden.{hiddenIn}
 use Rattle.rules.specs.Limits.{maxQuantities}
 use Rattle.rules.specs.Meaning.{Assignment}
 use Rattle.tables.specs.Tables.{hasRule}
-use Rattle.tables.specs.Meaning.{HoldsRule, Satisfies, Satisfiable, SheetAllows, BoundsWithin, NoneAbove, joined}
+use Rattle.tables.specs.Meaning.{HoldsRule, Satisfies, Satisfiable, SheetAllows, WordsWithin, BoundsWithin, NoneAbove, joined}
 use Rattle.tables.proofs.Places.{names-bound}
 use Rattle.elimination.specs.Hiding.{every, withSum, loneWord}
+use Rattle.elimination.specs.Magnitude.{addLimit}
 use Rattle.keys.specs.Keys.{keyOf, refuted}
 use Rattle.keys.specs.Inner.{Fits}
-use Rattle.keys.proofs.Several.{allows-own, key-exact, key-length, key-visible, rest-key}
+use Rattle.keys.proofs.Several.{Ample, allows-own, key-exact, key-length, key-visible, rest-key}
 use Rattle.keys.proofs.Fitting.{hide-ample, sheet-fits}
 use Rattle.keys.proofs.Visible.{key-rest}
 use Rattle.keys.proofs.Copying.{SameTable, same-paired, same-lone}
@@ -32,7 +35,8 @@ use Rattle.tightening.specs.Tightening.{pairUpTo, clashUpTo, strengtheni
 use Rattle.tightening.specs.Meaning.{MetByAll, Bounded, LeastMet, VisibleAt, TightKey}
 use Rattle.tightening.specs.Promises.{LeastBound}
 use Rattle.tightening.proofs.Least.{clash-refuted, tightened-least}
-use Rattle.tightening.proofs.Holding.{strengthened-at}
+use Rattle.tightening.proofs.Growing.{pair-ample}
+use Rattle.tightening.proofs.Holding.{strengthened-at, strengthened-elim}
 use Rattle.tightening.proofs.Keeping.{strengthen-length, tightened-length, tightened-rest, tightened-visible}
 use Rattle.tightening.proofs.Tight.{visible-meets}
 
@@ -45,6 +49,31 @@ tight-length hidden n t = tightened-length n (keyOf hidden n t) ∙ key-length h
 pub tight-rest : (hidden : ℕ → Bool) (n : ℕ) (t : List ℤ) → drop (blockStart n) (tightKeyOf hidden n t) ≡ drop (blockStart n) t
 unfolding tightKeyOf
 tight-rest hidden n t = tightened-rest n (keyOf hidden n t) ∙ rest-key hidden n t
+
+-- ---- magnitude
+
+-- two bounds that add have a sum that fits a word: so the tightest table of a table whose sums fit is one of words
+pub tightened-within : (n : ℕ) (t : List ℤ) → Fits n t → WordsWithin (blockStart n) (pos (2 ^ 63)) (tightened n t)
+unfolding tightened
+tightened-within n t f = record { each = λ k h l. strengthened-elim (λ (w : ℤ). hasRule w ≡ true → Within (pos (2 ^ 63)) w) n u k (a .room) h (own k h) (sum k h) }
+  where
+    u : List ℤ
+    u = pairUpTo n n t
+
+    a : Ample n (pairUpTo n n t)
+    a = pair-ample n n t f (omega arith)
+
+    own : (k : ℕ) → k < blockStart n → hasRule (wordAt u k) ≡ true → Within (pos (2 ^ 63)) (wordAt u k)
+    own k h r = within-mono (omega arith) (a .words .each k h (omega (arith, a .room)) r)
+
+    lone : (x : ℕ) → x < 2 * n → hasRule (loneWord u x) ≡ true → Within addLimit (loneWord u x)
+    lone x h r = let p = one-below n x h in a .words .each (placeOfOne x) p (omega (arith, a .room)) r
+
+    sum : (k : ℕ) → k < blockStart n → isOne k ≡ false → hasRule (loneWord u (lowerAt k)) ≡ true → hasRule (loneWord u (higherAt k)) ≡ true
+        → hasRule (loneWord u (lowerAt k) +ℤ loneWord u (higherAt k)) ≡ true → Within (pos (2 ^ 63)) (loneWord u (lowerAt k) +ℤ loneWord u (higherAt k))
+    sum k h e p q r =
+        let high = at-below n k h in
+        within-mono (omega arith) (within-add (lone (lowerAt k) (omega (arith, high, at-lower k e)) p) (lone (higherAt k) high q))
 
 -- ---- copies
 

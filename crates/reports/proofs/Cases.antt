@@ -19,6 +19,7 @@ use Rattle.tables.specs.Places.{ruleAt, findPlace}
 use Rattle.tables.specs.Tables.{putAt, putHalved, putRule, putAll, cleared, namesHidden, anyNamesHidden}
 use Rattle.elimination.specs.Hiding.{withSum, withHalf, bareBelow, pairWord, onOne, onTwo, liveAt, pairing, anyBare, paired, contradicts, eliminated}
 use Rattle.keys.specs.Keys.{hideUpTo, keyOf, refutedUpTo, refuted}
+use Rattle.tightening.specs.Tightening.{pairUpTo, strengthening, strengthened, tightened, tightKeyOf}
 use Rattle.marking.specs.declared.verdict.Verdict.the-variants.{Equal, Loose, Tight}
 use Rattle.marking.specs.Verdicts.{verdictReturned, isShown}
 use Rattle.marking.specs.Meaning.{LooseShown, TightShown}
@@ -189,7 +190,7 @@ unfolding
     blockStart placeOfOne placeOfPair placeOfTwo findTwo blockUpTo blockOf offsetOf isOne higherAt lowerAt
     names ruleOf oppositeOf halvedOf ruleAt findPlace putAt putHalved putRule putAll cleared
     withSum withHalf bareBelow pairWord onOne onTwo liveAt pairing anyBare paired contradicts eliminated
-    boundLimit memberCount hideUpTo keyOf refutedUpTo refuted
+    boundLimit memberCount hideUpTo keyOf refutedUpTo refuted pairUpTo strengthening strengthened tightened tightKeyOf
     breakable firstRule firstBroken verdictOf namesHidden anyNamesHidden
     andThen expect digitsFrom numeralOf cancelling writtenRule
     ended countLine membersAfter membersFrom listOf hiddenLine termOf boundAt boundLine afterTerm ruleLine judged countJudged hiddenJudged ruleJudged setOf

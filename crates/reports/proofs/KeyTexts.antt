@@ -10,6 +10,7 @@ use Rattle.lines.specs.Lines.{countLine, ruleLine}
 use Rattle.lines.proofs.Spellings.{rules-complete, rule-complete}
 use Rattle.reading.specs.Texts.{Contents, ruleLines, linesText, sheetText}
 use Rattle.reading.proofs.Ending.{sheet-lines}
+use Rattle.writing.specs.Writing.{tableRules}
 use Rattle.reports.specs.Meaning.{KeyText}
 use Rattle.reports.proofs.PrintedReplies.{parsed-same, rest-same}
 
@@ -26,7 +27,7 @@ rules-same (r ∷ rs) (w ∷ ws) l e =
     ap₂ (λ (x : Written) (xs : List Written). x ∷ xs) (d .0) (rules-same rs ws (omega arith) (d .1))
 
 -- so texts of one header that are the same do
-written-same : (n : ℕ) (qs : List ℕ) (rs ws : List Written)
+pub written-same : (n : ℕ) (qs : List ℕ) (rs ws : List Written)
     → sheetText (record { count = n; hiddens = qs; written = rs }) ≡ sheetText (record { count = n; hiddens = qs; written = ws }) → rs ≡ ws
 unfolding linesText
 written-same n qs rs ws e =
@@ -39,5 +40,5 @@ written-same n qs rs ws e =
 
 -- the rules of a key's text are those that it spells
 pub key-told : {c : Contents} {s : List ℕ} (k : KeyText c s) (ws : List Written) → s ≡ sheetText (record { count = c .count; hiddens = c .hiddens; written = ws })
-    → k .key ≡ ws
-key-told {c} k ws e = written-same (c .count) (c .hiddens) (k .key) ws (sym (k .reads .spelled .text) ∙ e)
+    → tableRules (c .count) (k .key) ≡ ws
+key-told {c} k ws e = written-same (c .count) (c .hiddens) (tableRules (c .count) (k .key)) ws (sym (k .spelled .text) ∙ e)

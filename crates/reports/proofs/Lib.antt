@@ -3,6 +3,7 @@
 pub mod RefusalLengths
 pub mod PrintedReplies
 pub mod KeyTexts
+pub mod TightTexts
 pub mod Reports
 pub mod TableReports
 pub mod SheetTables

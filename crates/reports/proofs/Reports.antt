@@ -1,4 +1,4 @@
--- What *key* prints for a text, by what the text means: its refusal, 5, or the text of its key; and that it is never longer than the longest text written.
+-- What *key* prints for a text, by what the text means: its refusal, 5, or the text of its tightest key; and that it is never longer than the longest text written.
 -- Assumes nothing.
 use mathlib.Core.Path.{_≡_, refl, sym, _∙_, ap, subst}
 use mathlib.Core.Bool.{Bool, true, false, cond}
@@ -7,32 +7,31 @@ use mathlib.Core.Logic.{_↔_, _⊎_, inl, inr, ⊎-elim}
 use Prim.Native.Nat.{ℕ, _≤_}
 use native.Mathlib.Omega.{arith}
 use lib.ListN.{length, take, drop, length-append}
-use lib.Seq.{take-all, length-take-le, take-append-seam}
-use Rattle.places.specs.Numbering.{blockStart}
+use lib.Seq.{length-take-le, take-append-seam}
 use Rattle.rules.specs.declared.paper.Paper.the-variants.{Sheet}
 use Rattle.rules.specs.declared.refusal.Refusal.{Refusal}
 use Rattle.rules.specs.declared.refusal.Refusal.the-variants.{NoAssignment}
-use Rattle.rules.specs.Hidden.{hiddenIn}
 use Rattle.rules.specs.Meaning.{Assignment}
-use Rattle.keys.specs.Keys.{keyOf, refuted}
+use Rattle.keys.specs.Keys.{refuted}
 use Rattle.numerals.specs.Writing.{Spliced}
 use Rattle.numerals.proofs.Splices.{splice-start}
 use Rattle.lines.specs.Lines.{Judged, accepted, refused}
 use Rattle.reading.specs.Texts.{Contents}
 use Rattle.reading.specs.Meaning.{Reads, rulesOf, FailsFor}
 use Rattle.reading.specs.Reading.{checkText}
-use Rattle.writing.specs.Writing.{tableRules, writtenText}
+use Rattle.writing.specs.Writing.{writtenText}
 use Rattle.writing.specs.Promises.{maxWritten}
 use Rattle.reports.specs.Refusals.{refusalText}
 use Rattle.reports.specs.Reports.{tableReport, reportOf, keyReport}
-use Rattle.reports.specs.Meaning.{KeyText, Unmet}
+use Rattle.reports.specs.Meaning.{KeyText, PrintedKey, Unmet}
 use Rattle.reports.specs.Promises.{KeyPrinted}
 use Rattle.reading.proofs.Means.{Means, text-means, reads-check}
-use Rattle.scripts.specs.Meaning.{setIn, tableIn, OwnKeyText}
-use Rattle.scripts.proofs.OwnKeys.{key-reads, key-spares, key-rules, own-reply}
-use Rattle.scripts.proofs.Sheets.{FineSheet, fine-table, keyIn, sheet-refuted, sheet-unmet, sheet-some, sheet-met, key-text-short}
+use Rattle.scripts.specs.Meaning.{setIn, tableIn}
+use Rattle.scripts.proofs.OwnKeys.{own-reply}
+use Rattle.scripts.proofs.Sheets.{FineSheet, fine-table, sheet-refuted, sheet-unmet, sheet-some, sheet-met}
 use Rattle.reports.proofs.RefusalLengths.{refusal-width}
 use Rattle.reports.proofs.PrintedReplies.{refusal-same, fails-number, text-unlike}
+use Rattle.reports.proofs.TightTexts.{tightIn, tight-short, tight-text, tight-own, texts-same}
 
 -- ---- of a table
 
@@ -43,7 +42,7 @@ report-five c e = rw e
 
 -- not refuted
 pub report-key : (c : Contents) → refuted (c .count) (tableIn c) ≡ false
-    → tableReport (c .count) (setIn c) (tableIn c) ≡ writtenText (c .count) (setIn c) (keyIn c)
+    → tableReport (c .count) (setIn c) (tableIn c) ≡ writtenText (c .count) (setIn c) (tightIn c)
 unfolding tableReport
 report-key c e = rw e
 
@@ -52,9 +51,9 @@ pub table-length : (c : Contents) → FineSheet c → length (tableReport (c .co
 unfolding tableReport
 table-length c s = go (refuted (c .count) (tableIn c))
   where
-    go : (b : Bool) → length (cond b (refusalText NoAssignment) (writtenText (c .count) (setIn c) (keyIn c))) ≤ maxWritten
+    go : (b : Bool) → length (cond b (refusalText NoAssignment) (writtenText (c .count) (setIn c) (tightIn c))) ≤ maxWritten
     go true = omega (arith, refusal-width 0 NoAssignment (omega arith))
-    go false = omega (arith, key-text-short c s)
+    go false = tight-short c s
 
 -- ---- of a text
 
@@ -74,31 +73,9 @@ report-none : (s : List ℕ) (c : Contents) → Reads Sheet s c → ((σ : Assig
     → keyReport s ≡ refusalText NoAssignment
 report-none s c p none = report-accepted s c p ∙ report-five c (sheet-refuted c (fine-table Sheet c (p .spelled .fine)) none)
 
--- some do: the text of its key
+-- some do: the text of its tightest key
 pub report-some : (s : List ℕ) (c : Contents) → Reads Sheet s c → (σ : Assignment) → rulesOf c σ → KeyText c (keyReport s)
-report-some s c p σ₀ m =
-    let t = fine-table Sheet c (p .spelled .fine) in
-    let e = report-accepted s c p ∙ report-key c (sheet-met c t σ₀ m) in
-    record {
-      key = tableRules (c .count) (keyIn c);
-      reads = rw e (key-reads c t);
-      visible = λ q h. key-spares c t q (t .members q ∙ h);
-      meaning = key-rules c t σ₀ m;
-    }
-
--- which is that of the sheet's own key
-pub report-own : (s : List ℕ) (c : Contents) → Reads Sheet s c → (σ : Assignment) → rulesOf c σ → OwnKeyText s (keyReport s)
-report-own s c p σ m =
-    let t = fine-table Sheet c (p .spelled .fine) in
-    record {
-      contents = c;
-      reads = p;
-      integers = σ;
-      satisfied = m;
-      table = tableIn c;
-      held = take-all (blockStart (c .count)) (tableIn c) (omega (arith, t .size));
-      text = report-accepted s c p ∙ report-key c (sheet-met c t σ m);
-    }
+report-some s c p σ m = let t = fine-table Sheet c (p .spelled .fine) in rw (report-accepted s c p ∙ report-key c (sheet-met c t σ m)) (tight-text c t σ m)
 
 -- what is printed is a refusal's text: it is the text's own, or 5 and no integers meet its rules
 report-tells : (s : List ℕ) (f : Refusal) → keyReport s ≡ refusalText f → FailsFor Sheet s f ⊎ ((f ≡ NoAssignment) × Unmet s)
@@ -111,30 +88,31 @@ report-tells s f = go (checkText Sheet s) (text-means Sheet s (checkText Sheet s
       sym (refusal-same NoAssignment f (λ z. omega arith) (sym (report-five c h) ∙ e)),
       record { contents = c; reads = p; none = sheet-unmet c (fine-table Sheet c (p .spelled .fine)) h },
     )
-    table c p false h e = absurd (text-unlike (c .count) (setIn c) (keyIn c) f (sym (report-key c h) ∙ e))
+    table c p false h e = absurd (text-unlike (c .count) (setIn c) (tightIn c) f (sym (report-key c h) ∙ e))
 
     go : (j : Judged Contents) → Means Sheet s j → reportOf j ≡ refusalText f → FailsFor Sheet s f ⊎ ((f ≡ NoAssignment) × Unmet s)
     go (accepted c u) m e = inr (table c (m .0) (refuted (c .count) (tableIn c)) refl e)
     go (refused g) m e = inl (subst (FailsFor Sheet s) (refusal-same g f (fails-number Sheet s g m .1) e) m)
 
--- it is none: it is the text of the sheet's own key
-report-key-text : (s : List ℕ) → ((f : Refusal) → keyReport s ≡ refusalText f → ⊥) → OwnKeyText s (keyReport s)
+-- it is none: it is the text of the sheet's tightest key
+report-key-text : (s : List ℕ) → ((f : Refusal) → keyReport s ≡ refusalText f → ⊥) → PrintedKey s (keyReport s)
 report-key-text s other = go (checkText Sheet s) (text-means Sheet s (checkText Sheet s) .0 refl)
   where
-    table : (c : Contents) → Reads Sheet s c → (b : Bool) → refuted (c .count) (tableIn c) ≡ b → OwnKeyText s (keyReport s)
+    table : (c : Contents) → Reads Sheet s c → (b : Bool) → refuted (c .count) (tableIn c) ≡ b → PrintedKey s (keyReport s)
     table c p true h = absurd (other NoAssignment (report-accepted s c p ∙ report-five c h))
     table c p false h =
         let t = fine-table Sheet c (p .spelled .fine) in
         let w = sheet-some c t h in
-        report-own s c p (w .assignment) (t .held .meaning (w .assignment) .0 (w .satisfies))
+        let m = t .held .meaning (w .assignment) .0 (w .satisfies) in
+        record { contents = c; reads = p; integers = w .assignment; satisfied = m; is = report-some s c p (w .assignment) m }
 
-    go : (j : Judged Contents) → Means Sheet s j → OwnKeyText s (keyReport s)
+    go : (j : Judged Contents) → Means Sheet s j → PrintedKey s (keyReport s)
     go (accepted c u) m = table c (m .0) (refuted (c .count) (tableIn c)) refl
     go (refused g) m = absurd (other g (report-refused s g m))
 
 -- only then
-key-text-other : (s text : List ℕ) → OwnKeyText s text → (f : Refusal) → text ≡ refusalText f → ⊥
-key-text-other s text k f e = text-unlike (k .contents .count) (setIn (k .contents)) (keyOf (hiddenIn (setIn (k .contents))) (k .contents .count) (k .table)) f (sym (k .text) ∙ e)
+key-text-other : (s text : List ℕ) → PrintedKey s text → (f : Refusal) → text ≡ refusalText f → ⊥
+key-text-other s text k f e = text-unlike (k .contents .count) (setIn (k .contents)) (k .is .key) f (sym (k .is .written) ∙ e)
 
 -- a refusal other than 5, exactly when the text is refused for it
 pub refused-exactly : (s : List ℕ) (f : Refusal) → (f ≡ NoAssignment → ⊥) → (keyReport s ≡ refusalText f) ↔ FailsFor Sheet s f
@@ -149,7 +127,7 @@ five-exactly s = (
 
 -- the record of the contract, where the text printed is known
 pub printed : {s out text : List ℕ} {end : ℕ} {out' : List ℕ} → keyReport s ≡ text → Spliced out 0 text end out' → KeyPrinted s out end out'
-unfolding report-own
+unfolding tight-own
 printed {s} {out} {text} {end} {out'} e w =
     let count : end ≡ length (keyReport s) = omega (arith, w .cursor, ap length e) in
     let bytes : out' ≡ keyReport s ++ drop (length (keyReport s)) out = rw e (w .buffer ∙ splice-start out text) in
@@ -162,8 +140,9 @@ printed {s} {out} {text} {end} {out'} e w =
       front = sym (length-take-le end out' room);
       refused = refused-exactly s;
       five = five-exactly s;
-      some = report-some s;
+      some = λ c p σ m. rw text (report-some s c p σ m);
       accepted = (λ h. rw text (report-key-text s (λ f d. h f (text ∙ d))), key-text-other s (take end out'));
-      own-key = λ c p σ m. rw text (report-own s c p σ m);
-      own-script = λ c p σ m lent enough. own-reply s (take end out') lent (rw text (report-own s c p σ m)) enough;
+      same = λ k s₂ text₂ k₂. texts-same s (take end out') s₂ text₂ k k₂;
+      own-key = tight-own s (take end out');
+      own-script = λ k w lent enough. own-reply s (take end out') lent (tight-own s (take end out') k w) enough;
     }

@@ -1,4 +1,4 @@
--- What the key call and the writer answer for a sheet's table: the call refuses with 5 alone, and its key can be written. Assumes nothing.
+-- What the tight key call and the writer answer for a sheet's table: the call refuses with 5 alone, and its key can be written. Assumes nothing.
 use mathlib.Core.Path.{_≡_, refl, sym, _∙_, ap}
 use mathlib.Core.Bool.{Bool, true, false, not}
 use mathlib.Core.List.{List}
@@ -6,7 +6,6 @@ use Prim.Native.Nat.{ℕ, _*_, _≤_}
 use native.Mathlib.Omega.{arith}
 use lib.IntN.{ℤ}
 use lib.ListN.{length}
-use Rattle.places.specs.Numbering.{blockStart}
 use Rattle.rules.specs.declared.paper.Paper.the-variants.{Sheet}
 use Rattle.rules.specs.declared.refusal.Refusal.{Refusal}
 use Rattle.rules.specs.declared.refusal.Refusal.the-variants.{NoAssignment}
@@ -18,8 +17,9 @@ use Rattle.tables.specs.Tables.{serves}
 use Rattle.tables.proofs.Sizes.{small-start, long-serves}
 use Rattle.tables.proofs.Tests.{refused-done}
 use Rattle.tables.specs.Replies.{check}
-use Rattle.keys.specs.Keys.{keyOf, refuted}
-use Rattle.keys.specs.Promises.{Keyed}
+use Rattle.keys.specs.Keys.{refuted}
+use Rattle.tightening.specs.Tightening.{tightKeyOf}
+use Rattle.tightening.specs.Promises.{TightKeyed}
 use Rattle.keys.proofs.Promised.{key-late}
 use Rattle.numerals.specs.Writing.{Spliced}
 use Rattle.numerals.proofs.Splices.{splice-start}
@@ -33,8 +33,9 @@ use Rattle.reports.specs.Refusals.{refusalText}
 use Rattle.reports.specs.Reports.{tableReport}
 use Rattle.reports.specs.Inner.{SheetTable}
 use Rattle.scripts.specs.Meaning.{setIn, tableIn}
-use Rattle.scripts.proofs.Sheets.{FineSheet, fine-table, table-sized, key-length}
+use Rattle.scripts.proofs.Sheets.{FineSheet, fine-table, table-sized}
 use Rattle.reports.proofs.Reports.{table-length}
+use Rattle.reports.proofs.TightTexts.{tightIn, tight-room}
 
 -- ---- the writer, where it can write
 
@@ -62,9 +63,9 @@ module _ {n set : ℕ} {t : List ℤ} {out : List ℕ} {r : Writing} {out' : Lis
 pub report-room : {n set : ℕ} {t : List ℤ} → SheetTable n set t → length (tableReport n set t) ≤ maxWritten
 report-room s = rw (s .counts, s .hides, s .holds) (table-length (s .contents) (fine-table Sheet (s .contents) (s .fine)))
 
--- ---- the key call on it, with a workspace for every table
+-- ---- the tight key call on it, with a workspace for every table
 
-module _ {n set : ℕ} {t w : List ℤ} {r : Reply} {t' w' : List ℤ} (k : Keyed n set t w r t' w') (s : SheetTable n set t)
+module _ {n set : ℕ} {t w : List ℤ} {r : Reply} {t' w' : List ℤ} (k : TightKeyed n set t w r t' w') (s : SheetTable n set t)
     (h : 2 * (maxQuantities * maxQuantities) ≤ length w) where
   -- the sheet's table is fine
   fine : FineSheet (s .contents)
@@ -74,7 +75,7 @@ module _ {n set : ℕ} {t w : List ℤ} {r : Reply} {t' w' : List ℤ} (k : Keye
   replied-key : r ≡ check (not (refuted n t)) NoAssignment Done
   replied-key =
       let c = s .contents in
-      k .reply ∙ rw (s .counts, s .hides, s .holds)
+      k .keyed .reply ∙ rw (s .counts, s .hides, s .holds)
       (key-late (c .count) (setIn c) (tableIn c) (length w)
       (table-sized Sheet c fine, (omega (arith, small-start (c .count) (fine .most)), ((fine .range, fine .bounds), tt))))
 
@@ -87,15 +88,15 @@ module _ {n set : ℕ} {t w : List ℤ} {r : Reply} {t' w' : List ℤ} (k : Keye
   refused-five false f e = absurd (refused-done (sym e))
 
   -- done: the table is the key
-  keyed : r ≡ Done → t' ≡ keyOf (hiddenIn set) n t
-  keyed e = k .words ∙ rw e
+  keyed : r ≡ Done → t' ≡ tightKeyOf (hiddenIn set) n t
+  keyed e = k .keyed .words ∙ rw e
 
   -- which can be written
   pub key-serves : r ≡ Done → (serves n (length t') ≡ true) × (setWithin n set ≡ true)
   key-serves e =
       let c = s .contents in
       rw (keyed e, s .counts, s .hides, s .holds)
-      (rw (key-length c fine) (long-serves (c .count) (blockStart (c .count)) (fine .some) (fine .most) (omega arith)), fine .range)
+      (long-serves (c .count) (length (tightIn c)) (fine .some) (fine .most) (tight-room c fine), fine .range)
 
   -- and its text is what is printed
   pub report-done : r ≡ Done → tableReport n set t ≡ writtenText n set t'

@@ -1,38 +1,49 @@
--- What is meant by what the programs print: the text of a sheet's key, that no integers satisfy a sheet, the text of a verdict. No step of a program is in it but
--- the key's, which document 01 fixes.
+-- What is meant by what the programs print: the text of a sheet's tightest key, that no integers satisfy a sheet, the text of a verdict. No step of a program is in it.
 use mathlib.Core.Path.{_≡_}
 use mathlib.Core.Bool.{true}
 use mathlib.Core.Logic.{_↔_}
 use mathlib.Core.List.{List}
-use Prim.Native.Nat.{ℕ}
+use Prim.Native.Nat.{ℕ, _^_}
 use lib.IntN.{ℤ}
 use lib.ListN.{length}
-use Rattle.rules.specs.Hidden.{hiddenIn, setOf, isListed}
-use Rattle.rules.specs.declared.paper.Paper.the-variants.{Sheet, Script}
+use Rattle.rules.specs.Hidden.{hiddenIn, isListed}
+use Rattle.rules.specs.declared.paper.Paper.the-variants.{Sheet}
 use Rattle.rules.specs.Meaning.{Assignment}
 use Rattle.tables.specs.Meaning.{MeetsAll, NoneNames, SheetAllows}
-use Rattle.lines.specs.Spelling.{Written, writtenRules}
+use Rattle.tightening.specs.Meaning.{TightKey}
+use Rattle.lines.specs.Spelling.{writtenRules}
 use Rattle.reading.specs.Texts.{Contents}
-use Rattle.reading.specs.Meaning.{Reads, rulesOf}
+use Rattle.reading.specs.Meaning.{Spells, Reads, rulesOf}
+use Rattle.writing.specs.Writing.{tableRules, writtenText}
 use Rattle.marking.specs.declared.verdict.Verdict.{Verdict}
 use Rattle.marking.specs.Verdicts.{verdictReturned}
 use Rattle.scripts.specs.declared.room.Lengths.{Lengths}
-use Rattle.scripts.specs.Meaning.{AcceptedPair}
+use Rattle.scripts.specs.Meaning.{setIn, AcceptedPair}
 use Rattle.scripts.specs.Promises.{PairJudged}
 use Rattle.reports.specs.Marks.{verdictText}
 
 -- ---- *key*
 
--- the text is that of a key of these contents, with document 01's words of it
+-- the text is that of the tightest key of these contents (document 02, [2])
 pub record KeyText (c : Contents) (text : List ℕ) : Type 0 where
-  pub key : List Written
-  -- it has their n and hidden list, and is fine as a script: not too long, and every line has quantity numbers of 1 to n, no `+q-q`, and bounds up to the sheet's limit
-  -- doubled once for each hidden quantity ("One hiding step at most doubles the largest magnitude of a bound")
-  pub reads : Reads Script text (record { count = c .count; hiddens = c .hiddens; written = key })
+  pub key : List ℤ
+  -- "A term has a rule exactly when it is of visible quantities and some bound on it is met by all assignments of the sheet; the rule carries the least such bound": of the rules as written
+  pub tight : TightKey (hiddenIn (setIn c)) (c .count) (rulesOf c) key
+  -- it is the writer's text of that table: n and the hidden list are the sheet's, and its rules stand in place order
+  pub written : text ≡ writtenText (c .count) (setIn c) key
+  pub spelled : Spells (2 ^ 63) text (record { count = c .count; hiddens = c .hiddens; written = tableRules (c .count) key })
   -- no rule names a hidden quantity ("then all places that name q become no rule")
-  pub visible : (q : ℕ) → isListed q (c .hiddens) ≡ true → NoneNames q (writtenRules key)
+  pub visible : (q : ℕ) → isListed q (c .hiddens) ≡ true → NoneNames q (writtenRules (tableRules (c .count) key))
   -- its rules allow integers for the visible quantities exactly when some integers for the hidden ones satisfy the whole sheet with them (demand 2)
-  pub meaning : (σ : Assignment) → MeetsAll σ (writtenRules key) ↔ SheetAllows (hiddenIn (setOf (c .hiddens))) (rulesOf c) σ
+  pub meaning : (σ : Assignment) → MeetsAll σ (writtenRules (tableRules (c .count) key)) ↔ SheetAllows (hiddenIn (setIn c)) (rulesOf c) σ
+
+-- a sheet's text is fine, some integers satisfy its rules, and this is the text of its tightest key
+pub record PrintedKey (s text : List ℕ) : Type 0 where
+  pub contents : Contents
+  pub reads : Reads Sheet s contents
+  pub integers : Assignment
+  pub satisfied : rulesOf contents integers
+  pub is : KeyText contents text
 
 -- the text is accepted, and no integers satisfy its rules
 pub record Unmet (s : List ℕ) : Type 0 where

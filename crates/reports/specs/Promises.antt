@@ -5,12 +5,15 @@ use mathlib.Core.List.{List, [], _++_}
 use Prim.Native.Nat.{ℕ, _≤_}
 use lib.IntN.{ℤ}
 use lib.ListN.{length, take, drop}
-use Rattle.rules.specs.declared.paper.Paper.the-variants.{Sheet}
+use Rattle.rules.specs.declared.paper.Paper.the-variants.{Sheet, Script}
 use Rattle.rules.specs.declared.refusal.Refusal.{Refusal}
 use Rattle.rules.specs.declared.refusal.Refusal.the-variants.{NoAssignment}
+use Rattle.rules.specs.Hidden.{hiddenIn}
 use Rattle.rules.specs.Limits.{maxQuantities}
 use Rattle.rules.specs.Meaning.{Assignment}
 use Rattle.rules.specs.Refusal.{refusalNumber}
+use Rattle.tables.specs.Meaning.{BoundsWithin}
+use Rattle.tightening.specs.Meaning.{AllowAlike}
 use Rattle.marking.specs.declared.verdict.Verdict.{Verdict}
 use Rattle.marking.specs.declared.verdict.Verdict.the-variants.{Equal}
 use Rattle.reading.specs.Texts.{Contents}
@@ -20,15 +23,15 @@ use Rattle.scripts.specs.declared.reply.Subject.{Subject}
 use Rattle.scripts.specs.declared.reply.TextMarking.{TextMarking}
 use Rattle.scripts.specs.declared.reply.TextMarking.the-variants.{Marked}
 use Rattle.scripts.specs.Promises.{TextsJudged}
-use Rattle.scripts.specs.Meaning.{AcceptedPair, RefusedPair, Room, OwnKeyText, ownLengths}
+use Rattle.scripts.specs.Meaning.{setIn, AcceptedPair, RefusedPair, Room, OwnKeyText, ownLengths}
 use Rattle.scripts.specs.Marking.{textsReply}
 use Rattle.reports.specs.Refusals.{refusalText}
 use Rattle.reports.specs.Marks.{verdictText, refusedMarkText, markText}
 use Rattle.reports.specs.Reports.{keyReport}
-use Rattle.reports.specs.Meaning.{KeyText, Unmet, VerdictText}
+use Rattle.reports.specs.Meaning.{KeyText, PrintedKey, Unmet, VerdictText}
 
 -- what is printed for the text s: its refusal, exactly when it is refused; 5, exactly when it is accepted and no integers satisfy its rules; and the text
--- of its key, exactly when some do
+-- of its tightest key, exactly when some do
 pub record KeyPrinted (s : List ℕ) (out : List ℕ) (end : ℕ) (out' : List ℕ) : Type 0 where
   pub count : end ≡ length (keyReport s)
   pub bytes : out' ≡ keyReport s ++ drop (length (keyReport s)) out
@@ -37,13 +40,16 @@ pub record KeyPrinted (s : List ℕ) (out : List ℕ) (end : ℕ) (out' : List �
   pub front : end ≡ length (take end out')
   pub refused : (f : Refusal) → (f ≡ NoAssignment → ⊥) → (keyReport s ≡ refusalText f) ↔ FailsFor Sheet s f
   pub five : (keyReport s ≡ refusalText NoAssignment) ↔ Unmet s
-  pub some : (c : Contents) → Reads Sheet s c → (σ : Assignment) → rulesOf c σ → KeyText c (keyReport s)
-  -- what is no refusal's text is that of the sheet's own key
-  pub accepted : ((f : Refusal) → take end out' ≡ refusalText f → ⊥) ↔ OwnKeyText s (take end out')
-  -- it is printed then, and handed in as its script it is accepted and found equal, with the lent words there
-  pub own-key : (c : Contents) → Reads Sheet s c → (σ : Assignment) → rulesOf c σ → OwnKeyText s (take end out')
-  pub own-script : (c : Contents) → Reads Sheet s c → (σ : Assignment) → rulesOf c σ → (lent : Lengths) → Room (c .count) lent
-      → textsReply s (take end out') lent ≡ Marked (c .count) Equal
+  pub some : (c : Contents) → Reads Sheet s c → (σ : Assignment) → rulesOf c σ → KeyText c (take end out')
+  -- what is no refusal's text is that of the sheet's tightest key
+  pub accepted : ((f : Refusal) → take end out' ≡ refusalText f → ⊥) ↔ PrintedKey s (take end out')
+  -- one meaning, one text: two sheets that some integers satisfy, of equal n and hidden set, allow the same visible integers exactly when their key texts are the same bytes
+  pub same : (k : PrintedKey s (take end out')) (s₂ text₂ : List ℕ) (k₂ : PrintedKey s₂ text₂) → k .contents .count ≡ k₂ .contents .count → setIn (k .contents) ≡ setIn (k₂ .contents)
+      → AllowAlike (hiddenIn (setIn (k .contents))) (rulesOf (k .contents)) (rulesOf (k₂ .contents)) ↔ (take end out' ≡ text₂)
+  -- where all its bounds lie in a script's range it is one of the sheet's own keys, which are accepted as scripts and found equal; so it is, with the lent words there
+  pub own-key : (k : PrintedKey s (take end out')) → BoundsWithin Script (k .contents .count) (setIn (k .contents)) (k .is .key) → OwnKeyText s (take end out')
+  pub own-script : (k : PrintedKey s (take end out')) → BoundsWithin Script (k .contents .count) (setIn (k .contents)) (k .is .key)
+      → (lent : Lengths) → Room (k .contents .count) lent → textsReply s (take end out') lent ≡ Marked (k .contents .count) Equal
 
 -- ---- *mark*
 

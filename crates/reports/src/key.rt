@@ -1,13 +1,13 @@
 // What the program *key* prints for a text.
 use crate::refusal;
 use crate::room;
-use keys::key;
 use reading::read;
 use reading::read::Reading;
 use rules::hidden::Set;
 use rules::sheet::Sheet;
 use tables::reply::Reply;
 use tables::table;
+use tightening::key;
 use writing::write;
 use writing::write::Writing;
 ghost use mathlib.Core.Bool.{true};
@@ -39,14 +39,14 @@ fn print_text(n: usize, hidden: Set, table: &[i64], out: &mut [u8]) -> usize
     length
 }
 
-// Writes the key of a sheet's table as its text, or the refusal of the key call, at the start of the output; answers the length.
+// Writes the tightest key of a sheet's table as its text, or the refusal of its call, at the start of the output; answers the length.
 fn print_table(n: usize, hidden: Set, table: &mut [i64], out: &mut [u8]) -> usize
     requires { ⌜ SheetTable n hidden (now table) × (maxWritten ≤ length (now out)) ⌝ }
     ensures { λ r. ⌜ Spliced (now (out .entry)) 0 (tableReport n hidden (now (table .entry))) r (now (out .exit)) ⌝ }
 {
     let mut words = [0; table::LARGEST];
     let workspace: &mut [i64] = &mut words;
-    let reply = key::key(n, hidden, table, workspace);
+    let reply = key::tight_key(n, hidden, table, workspace);
     match reply {
         Reply::Done => print_text(n, hidden, table, out),
         Reply::Refused(r) => refusal::put_refusal(out, r),

@@ -20,7 +20,7 @@ pub alike-back : {A B : Solutions} → Alike A B → Alike B A
 alike-back h σ = (h σ .1, h σ .0)
 
 -- what one sheet allows the other does
-allows : {A B : Solutions} (hidden : ℕ → Bool) → Alike A B → (σ : Assignment) → SheetAllows hidden A σ → SheetAllows hidden B σ
+pub allows : {A B : Solutions} (hidden : ℕ → Bool) → Alike A B → (σ : Assignment) → SheetAllows hidden A σ → SheetAllows hidden B σ
 allows hidden h σ s = record { hiddens = s .hiddens; complete = h (joined hidden σ (s .hiddens)) .0 (s .complete) }
 
 -- a rule that some assignment of one paper breaks some of the other does

@@ -66,7 +66,7 @@ words-spare q k (w ∷ t) f = go (words-spare q (suc k) t (λ j l e. rw (suc-add
     go ih false e = ih
 
 -- the rules of a table that names visible quantities alone name no hidden one
-table-spares : (n : ℕ) (hidden : ℕ → Bool) (t : List ℤ) → NamesVisible n hidden t → (q : ℕ) → hidden q ≡ true
+pub table-spares : (n : ℕ) (hidden : ℕ → Bool) (t : List ℤ) → NamesVisible n hidden t → (q : ℕ) → hidden q ≡ true
     → NoneNames q (writtenRules (tableRules n t))
 table-spares n hidden t v q h = words-spare q 0 (take (blockStart n) t) each
   where

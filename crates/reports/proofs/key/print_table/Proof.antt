@@ -1,4 +1,4 @@
--- `key::print_table` meets its contract: the key's text where the call is done, its refusal where not; there is room for both. Assumes nothing.
+-- `key::print_table` meets its contract: the tightest key's text where the call is done, its refusal where not; there is room for both. Assumes nothing.
 use native.Mathlib.Omega.{arith}
 use borrow.Author.Needs.{needs}
 use Rattle.reports.proofs.TableReports.{report-room, key-serves, report-done, report-refusal}
@@ -8,8 +8,8 @@ use Rattle.reports.proofs.key.print_table.Tie as tie
 slice-aggregate-workspace : tie.Need-slice-aggregate-workspace
 slice-aggregate-workspace c = search needs
 
-key-requires : tie.Need-key-requires
-key-requires c κs = search needs
+tight-key-requires : tie.Need-tight-key-requires
+tight-key-requires c κs = search needs
 
 enum-told : tie.Need-enum-told
 enum-told c = search needs
@@ -20,8 +20,8 @@ print-text-requires c κs =
     let k = d .before .before .before .before in
     let s = k .before .before .before .before in
     let done = d .enum-told .given .1 in
-    let room = rw (report-done (k .key .ensures) (s .pre .0) (omega arith) done) at (report-room (s .pre .0)) in
-    (key-serves (k .key .ensures) (s .pre .0) (omega arith) done, omega (arith, room, s .pre .1))
+    let room = rw (report-done (k .tight-key .ensures) (s .pre .0) (omega arith) done) at (report-room (s .pre .0)) in
+    (key-serves (k .tight-key .ensures) (s .pre .0) (omega arith) done, omega (arith, room, s .pre .1))
 
 enum-known-reply : tie.Need-enum-known-reply
 enum-known-reply c = search needs
@@ -31,7 +31,7 @@ put-refusal-requires c κs =
     let d = c .before .before in
     let k = d .before .before .before .before in
     let s = k .before .before .before .before in
-    let room = rw (report-refusal (k .key .ensures) (s .pre .0) (omega arith) _ (d .reply .given .1)) at (report-room (s .pre .0)) in
+    let room = rw (report-refusal (k .tight-key .ensures) (s .pre .0) (omega arith) _ (d .reply .given .1)) at (report-room (s .pre .0)) in
     omega (arith, room, s .pre .1)
 
 same-length : tie.Need-same-length
@@ -46,7 +46,7 @@ returns c =
     let d = p .before .before .before in
     let k = d .before .before .before .before in
     let s = k .before .before .before .before in
-    rw (report-done (k .key .ensures) (s .pre .0) (omega arith) (d .enum-told .given .1)) (p .print-text .ensures)
+    rw (report-done (k .tight-key .ensures) (s .pre .0) (omega arith) (d .enum-told .given .1)) (p .print-text .ensures)
 
 same-length-3 : tie.Need-same-length-3
 same-length-3 c = search needs
@@ -60,14 +60,14 @@ returns-2 c =
     let d = p .before .before .before in
     let k = d .before .before .before .before in
     let s = k .before .before .before .before in
-    rw (report-refusal (k .key .ensures) (s .pre .0) (omega arith) _ (d .reply .given .1)) (p .put-refusal .ensures)
+    rw (report-refusal (k .tight-key .ensures) (s .pre .0) (omega arith) _ (d .reply .given .1)) (p .put-refusal .ensures)
 
 pub print-table-spec : {M : Type 1} → statement M
 print-table-spec =
     tie.close
     (tie.spec
     slice-aggregate-workspace
-    key-requires
+    tight-key-requires
     enum-told
     print-text-requires
     enum-known-reply

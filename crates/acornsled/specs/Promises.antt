@@ -12,11 +12,13 @@ use Rattle.rules.specs.Limits.{maxQuantities}
 use Rattle.rules.specs.Refusal.{refusalNumber, refusalValue}
 use Rattle.rules.specs.Refusing.{DecidedBy}
 use Rattle.rules.specs.RuleWords.{ruleValues, noRuleWords, ruleOfWords}
+use Rattle.tables.specs.declared.reply.Reply.{Reply}
 use Rattle.tables.specs.Replies.{replyNumber, replyValue}
 use Rattle.tables.specs.Meaning.{Satisfies, Unsatisfiable}
 use Rattle.keys.specs.Keys.{keyReply, assignmentReply}
 use Rattle.keys.specs.Meaning.{keyNeeds, assignmentNeeds}
 use Rattle.keys.specs.Promises.{Keyed, Assigned}
+use Rattle.tightening.specs.Promises.{TightKeyed}
 use Rattle.marking.specs.declared.verdict.Marking.{Marking}
 use Rattle.marking.specs.declared.verdict.Marking.the-variants.{Marked as Given}
 use Rattle.marking.specs.declared.verdict.Marking.the-variants.{Refused as NotGiven}
@@ -73,12 +75,20 @@ pub record WriteAnswer (n set : ℕ) (table : List ℤ) (out : List ℕ) (r v : 
   pub decided : DecidedBy (writeNeeds n set table (length out)) (TellsRefusal r v) (r ≡ 0)
   pub call : TextWritten n set table out (writeReply n set table (length out)) out'
 
--- the key call's number r and value v
-pub record KeyAnswer (n set : ℕ) (table workspace : List ℤ) (r v : ℕ) (table' workspace' : List ℤ) : Type 0 where
+-- the number r and value v of a call with the key call's arguments, of which this is promised
+pub record KeyAnswerBy (Promised : ℕ → ℕ → List ℤ → List ℤ → Reply → List ℤ → List ℤ → Type 0) (n set : ℕ) (table workspace : List ℤ) (r v : ℕ) (table' workspace' : List ℤ) : Type 0 where
   pub number : r ≡ replyNumber (keyReply n set table (length workspace))
   pub value : v ≡ replyValue (keyReply n set table (length workspace))
   pub decided : DecidedBy (keyNeeds n set table (length workspace)) (TellsRefusal r v) (r ≡ 0)
-  pub call : Keyed n set table workspace (keyReply n set table (length workspace)) table' workspace'
+  pub call : Promised n set table workspace (keyReply n set table (length workspace)) table' workspace'
+
+-- the key call's
+abbrev pub KeyAnswer : ℕ → ℕ → List ℤ → List ℤ → ℕ → ℕ → List ℤ → List ℤ → Type 0
+KeyAnswer n set table workspace r v table' workspace' = KeyAnswerBy Keyed n set table workspace r v table' workspace'
+
+-- the tight key call's
+abbrev pub TightKeyAnswer : ℕ → ℕ → List ℤ → List ℤ → ℕ → ℕ → List ℤ → List ℤ → Type 0
+TightKeyAnswer n set table workspace r v table' workspace' = KeyAnswerBy TightKeyed n set table workspace r v table' workspace'
 
 -- the assignment call's
 pub record AssignmentAnswer (n : ℕ) (table workspace values : List ℤ) (r v : ℕ) (workspace' values' : List ℤ) : Type 0 where

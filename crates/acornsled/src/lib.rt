@@ -8,7 +8,7 @@ use reading::read::Reading;
 use rules::sheet::Sheet;
 use scripts::own;
 use scripts::reply::TextMarking;
-ghost use Rattle.acornsled.specs.Promises.{ReadAnswer, WriteAnswer, KeyAnswer, AssignmentAnswer, MarkAnswer, MarkTextsAnswer, MarkTablesAnswer};
+ghost use Rattle.acornsled.specs.Promises.{ReadAnswer, WriteAnswer, KeyAnswer, TightKeyAnswer, AssignmentAnswer, MarkAnswer, MarkTextsAnswer, MarkTablesAnswer};
 
 // Reads a text: where it answers 0, the table's first 2n² words hold its rules, and n and the hidden set are written to `quantities` and `hidden`.
 #[no_mangle]
@@ -63,6 +63,22 @@ pub extern "C" fn acornsled_key(
     ensures { λ r. ⌜ KeyAnswer n hidden (now (table .entry)) (now (workspace .entry)) r (now (value .exit)) (now (table .exit)) (now (workspace .exit)) ⌝ }
 {
     let reply = keys::key::key(n, hidden, table, workspace);
+    *value = reply.value();
+    reply.number()
+}
+
+// The tight key call: where it answers 0, the table's first 2n² words have become the tightest key. The workspace needs as many.
+#[no_mangle]
+pub extern "C" fn acornsled_tight_key(
+    n: usize,
+    hidden: u32,
+    table: &mut [i64],
+    workspace: &mut [i64],
+    value: &mut usize,
+) -> u32
+    ensures { λ r. ⌜ TightKeyAnswer n hidden (now (table .entry)) (now (workspace .entry)) r (now (value .exit)) (now (table .exit)) (now (workspace .exit)) ⌝ }
+{
+    let reply = tightening::key::tight_key(n, hidden, table, workspace);
     *value = reply.value();
     reply.number()
 }

@@ -14,4 +14,5 @@ pub mod MarkPromised
 pub mod Cases
 pub mod Shown
 pub mod Starred
+pub mod Tightest
 pub mod Frauds

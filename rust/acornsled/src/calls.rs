@@ -80,6 +80,24 @@ pub fn key(n: usize, hidden: u32, table: &mut [i64], workspace: &mut [i64]) -> R
     Reply { number, value }
 }
 
+/// Replaces the table's first 2n² words by those of its tightest key. The workspace needs as many.
+pub fn tight_key(n: usize, hidden: u32, table: &mut [i64], workspace: &mut [i64]) -> Reply {
+    let mut value = UNWRITTEN;
+    // SAFETY: as above.
+    let number = unsafe {
+        sys::acornsled_tight_key(
+            n,
+            hidden,
+            table.as_mut_ptr(),
+            table.len(),
+            workspace.as_mut_ptr(),
+            workspace.len(),
+            &mut value,
+        )
+    };
+    Reply { number, value }
+}
+
 /// Writes n integers that satisfy the table's rules to the first n words of `values`. The workspace needs 2n² words.
 pub fn assignment(n: usize, table: &[i64], workspace: &mut [i64], values: &mut [i64]) -> Reply {
     let mut value = UNWRITTEN;

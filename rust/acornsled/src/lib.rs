@@ -1,8 +1,9 @@
 //! Rule sheets, their keys and marked scripts, over `libacornsled.a`, whose every answer is proved.
 //!
 //! A *sheet* is a list of rules "one or two integer quantities, each with a sign, are together at most a bound" (UTVPI
-//! inequalities); some quantities are hidden. [`key`] gives what a sheet implies for the visible ones alone, [`mark`] the
-//! verdict on a candidate's script. Both work on texts held as bytes; [`Table`] has the calls on tables.
+//! inequalities); some quantities are hidden. [`key`] gives what a sheet implies for the visible ones alone, [`tight_key`] the
+//! same with every rule that follows, each at its least bound, [`mark`] the verdict on a candidate's script. All work on texts
+//! held as bytes; [`Table`] has the calls on tables.
 //!
 //! ```no_run
 //! let sheet = b"quantities=3\nhidden=2\nrules=3\nrule=+1+2:5\nrule=+1-2:2\nrule=+3-2:0\n";
@@ -27,4 +28,4 @@ mod table;
 pub use marking::{mark, Paper, Refused, Verdict};
 pub use refusal::Refusal;
 pub use rule::Rule;
-pub use table::{key, Table};
+pub use table::{key, tight_key, Table};

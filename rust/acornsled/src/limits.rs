@@ -8,7 +8,7 @@ pub const MOST_BOUND: i64 = 1_000_000_000;
 pub const MOST_RULES: usize = 2_048;
 /// The most bytes of a text that is read.
 pub const MOST_BYTES: usize = 65_536;
-/// Words enough for every table, and for every workspace of a key or of an assignment.
+/// Words enough for every table, and for every workspace of a key, of a tightest key or of an assignment.
 pub const TABLE_WORDS: usize = 2_048;
 /// Words enough for every workspace of marking two tables.
 pub const MARKING_WORDS: usize = 4_096;
@@ -18,7 +18,7 @@ pub const TEXT_BYTES: usize = 67_703;
 pub const NO_RULE: i64 = i64::MAX;
 
 /// The largest magnitude of a bound in a script with these hidden quantities, bit q - 1 for quantity q: a sheet's, doubled for
-/// each of them. The bounds of a key are never larger.
+/// each of them. The bounds of a key are never larger; those of a tightest key may be.
 ///
 /// ```
 /// use acornsled::limits::{script_bound, MOST_BOUND};

@@ -32,6 +32,16 @@ extern "C" {
         value: *mut usize,
     ) -> u32;
 
+    pub fn acornsled_tight_key(
+        n: usize,
+        hidden: u32,
+        table: *mut i64,
+        table_length: usize,
+        workspace: *mut i64,
+        workspace_length: usize,
+        value: *mut usize,
+    ) -> u32;
+
     pub fn acornsled_assignment(
         n: usize,
         table: *const i64,

@@ -1,4 +1,4 @@
-//! Tables that hold their own words, and the key of a text.
+//! Tables that hold their own words, and the keys of a text.
 
 use crate::calls::{self, Header, Reply};
 use crate::limits::{MARKING_WORDS, MOST_QUANTITIES, TABLE_WORDS, TEXT_BYTES};
@@ -37,10 +37,21 @@ impl Table {
         Ok(out)
     }
 
-    /// The key: what the table implies for the visible quantities alone.
+    /// The key, by document 01's steps: what the table implies for the visible quantities alone. Marking takes the rule of a
+    /// loose verdict from it, and handed in as a script it is always accepted, and equal.
     pub fn key(mut self) -> Result<Table, Refusal> {
         let mut workspace = vec![0; TABLE_WORDS];
         done(calls::key(self.quantities, self.hidden, &mut self.words, &mut workspace))?;
+        Ok(self)
+    }
+
+    /// The tightest key: a term has a rule exactly where it is of visible quantities and some bound on it is met by all integers
+    /// that satisfy the table, and the rule has the least such bound. Two tables with one n and one hidden set have the same
+    /// tightest key exactly when they allow the same visible integers. Its bounds may be past
+    /// [`script_bound`](crate::limits::script_bound); where none is, it is accepted as a script, and equal.
+    pub fn tight_key(mut self) -> Result<Table, Refusal> {
+        let mut workspace = vec![0; TABLE_WORDS];
+        done(calls::tight_key(self.quantities, self.hidden, &mut self.words, &mut workspace))?;
         Ok(self)
     }
 
@@ -70,13 +81,29 @@ impl Table {
     }
 }
 
-/// The text of the key of a sheet's text.
+/// The text of the key of a sheet's text, by document 01's steps.
 ///
 /// # Panics
 ///
 /// As the functions of [`Table`].
 pub fn key(sheet: &[u8]) -> Result<Vec<u8>, Refusal> {
     Table::read(sheet)?.key()?.text()
+}
+
+/// The text of the tightest key of a sheet's text: what the program *key* prints. Sheets of one n and one hidden set that allow
+/// the same visible integers have one such text.
+///
+/// ```no_run
+/// let short = b"quantities=2\nhidden=\nrules=2\nrule=+1:1\nrule=+2:1\n";
+/// let long = b"quantities=2\nhidden=\nrules=3\nrule=+1:1\nrule=+2:1\nrule=+1+2:7\n";
+/// assert_eq!(acornsled::tight_key(short), acornsled::tight_key(long));
+/// ```
+///
+/// # Panics
+///
+/// As the functions of [`Table`].
+pub fn tight_key(sheet: &[u8]) -> Result<Vec<u8>, Refusal> {
+    Table::read(sheet)?.tight_key()?.text()
 }
 
 /// What is returned beside 0, or the refusal.

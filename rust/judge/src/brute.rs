@@ -11,6 +11,8 @@
 //! - Away from 0 a term can only grow where it adds a quantity from above the gap, the other being absent, added, or
 //!   subtracted from below the gap. Such a term was above M, so no rule bounds it.
 
+pub mod least;
+
 use crate::meaning::{broken, is_in, largest_bound, Rule};
 
 /// Is enumeration quick enough for this sheet?
@@ -160,12 +162,17 @@ impl Search<'_> {
     }
 
     fn finds(&self, values: &mut [i64], turn: usize) -> bool {
+        self.any(values, turn, &mut |_| true)
+    }
+
+    /// Does some choice end the search? Each that breaks no rule is asked about until one does.
+    fn any(&self, values: &mut [i64], turn: usize, ends: &mut dyn FnMut(&[i64]) -> bool) -> bool {
         if turn == self.order.len() {
-            return true;
+            return ends(values);
         }
         (-self.radius..=self.radius).any(|value| {
             values[self.order[turn] - 1] = value;
-            broken(&self.due[turn], values).is_none() && self.finds(values, turn + 1)
+            broken(&self.due[turn], values).is_none() && self.any(values, turn + 1, ends)
         })
     }
 }

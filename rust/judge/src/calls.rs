@@ -1,10 +1,11 @@
 //! A call on lent memory, and which words each reply may have changed (document 01, 'Returned to the caller').
 
 use crate::lent::Lent;
-use crate::library::{spelled, Library, Reply, DONE, NO_ASSIGNMENT};
+use crate::library::{spelled, Key, Library, Reply, DONE, NO_ASSIGNMENT};
 use crate::meaning::size;
 
 pub struct KeyCall {
+    pub key: Key,
     pub n: usize,
     pub hidden: u32,
     pub table: Lent,
@@ -14,7 +15,7 @@ pub struct KeyCall {
 impl KeyCall {
     pub fn run(&mut self, library: &dyn Library) -> Reply {
         let (table, workspace) = (self.table.slice(), self.workspace.slice());
-        library.key(self.n, self.hidden, table, workspace)
+        library.keyed(self.key, self.n, self.hidden, table, workspace)
     }
 
     /// Has the call changed no word but those that its reply leaves free?

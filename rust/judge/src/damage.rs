@@ -7,7 +7,7 @@ use crate::check;
 use crate::counts::Counts;
 use crate::due::Due;
 use crate::lent::{further, Lent};
-use crate::library::{too_short, Library, Reply, PAST_LIMIT, SIZE};
+use crate::library::{too_short, Key, Library, Reply, PAST_LIMIT, SIZE};
 use crate::meaning::{rules, size, LIMIT, MOST_QUANTITIES, NO_RULE};
 use crate::random::Random;
 use crate::sheets::Sheet;
@@ -22,26 +22,23 @@ struct Damaged {
     values: usize,
 }
 
-/// Judges both calls on a sheet that is damaged in at least one way.
-pub fn both_calls(
-    library: &dyn Library,
-    sheet: &Sheet,
-    random: &mut Random,
-    counts: &mut Counts,
-) -> Result<(), String> {
+/// Judges the three calls on a sheet that is damaged in at least one way.
+pub fn all_calls(library: &dyn Library, sheet: &Sheet, random: &mut Random, counts: &mut Counts) -> Result<(), String> {
     let damaged = Damaged::from(sheet, random);
-    let reply = key(library, &damaged, random).map_err(|e| format!("key: {e}\n{damaged}"))?;
-    counts.damaged[reply.number as usize] += 1;
+    for form in Key::BOTH {
+        let reply = key(library, form, &damaged, random).map_err(|e| format!("{}: {e}\n{damaged}", form.name()))?;
+        counts.damaged[reply.number as usize] += 1;
+    }
     let reply = assignment(library, &damaged, random).map_err(|e| format!("assignment: {e}\n{damaged}"))?;
     counts.damaged[reply.number as usize] += 1;
     Ok(())
 }
 
-fn key(library: &dyn Library, damaged: &Damaged, random: &mut Random) -> Result<Reply, String> {
+fn key(library: &dyn Library, key: Key, damaged: &Damaged, random: &mut Random) -> Result<Reply, String> {
     let (n, hidden) = (damaged.n, damaged.hidden);
     let table = Lent::new(&damaged.table, random);
     let workspace = Lent::new(&random.words(damaged.workspace), random);
-    let mut call = KeyCall { n, hidden, table, workspace };
+    let mut call = KeyCall { key, n, hidden, table, workspace };
     let Some(refusal) = damaged.refusal_of_key() else {
         return check::key(library, &Due::of(&damaged.sheet())?, call);
     };

@@ -5,7 +5,7 @@
 //! node exceeds the first by at most c. A lone rule s <= c is the arc from -s to s of length 2c; a doubled one, s + s <= c,
 //! is that arc of length c, as it is written.
 
-use crate::meaning::{terms, Literal, Rule, Term};
+use crate::meaning::{terms, Literal, Rule, Term, NO_RULE};
 
 /// No path. Lengths stay far below: 64 arcs of at most 2^63 each.
 const FAR: i128 = i128::MAX;
@@ -53,6 +53,15 @@ impl Closure {
             None => (self.at(s ^ 1, s), 2),
         };
         (found != FAR).then_some(found / share)
+    }
+
+    /// The words of the tightest key with this hidden set, by its definition: a visible term that has a bound has its least one.
+    pub fn tightest(&self, hidden: u32) -> Vec<i64> {
+        let word = |term: Term| match term.names(hidden) {
+            true => NO_RULE,
+            false => self.least(&term).map_or(NO_RULE, |least| least as i64),
+        };
+        terms(self.nodes / 2).into_iter().map(word).collect()
     }
 
     fn put(&mut self, rule: &Rule) {

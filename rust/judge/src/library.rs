@@ -1,4 +1,4 @@
-//! The seven calls of the library, and their replies. The judge knows the calls as traits, so that it can be tried on
+//! The eight calls of the library, and their replies. The judge knows the calls as traits, so that it can be tried on
 //! wrong answers too: one for the calls on one table, one for the calls on texts, one for the two that mark two texts, one
 //! for the call that marks two tables.
 
@@ -35,10 +35,41 @@ pub fn written(length: usize) -> Reply {
     Reply { number: 0, value: length }
 }
 
+/// The keys that a table can be replaced by. The calls for them differ in nothing but the words that they write.
+#[derive(Clone, Copy, PartialEq, Eq, Debug)]
+pub enum Key {
+    /// document 01's, by its steps
+    Plain,
+    /// request 2's of document 02, the tightest
+    Tight,
+}
+
+impl Key {
+    pub const BOTH: [Key; 2] = [Key::Plain, Key::Tight];
+
+    pub fn name(self) -> &'static str {
+        match self {
+            Key::Plain => "key",
+            Key::Tight => "tight key",
+        }
+    }
+}
+
 /// Shared by threads, for two may call at once.
 pub trait Library: Sync {
     /// Replaces the table's first 2n² words by the key's.
     fn key(&self, n: usize, hidden: u32, table: &mut [i64], workspace: &mut [i64]) -> Reply;
+
+    /// Replaces the table's first 2n² words by those of the tightest key.
+    fn tight_key(&self, n: usize, hidden: u32, table: &mut [i64], workspace: &mut [i64]) -> Reply;
+
+    /// The call for the one or the other.
+    fn keyed(&self, key: Key, n: usize, hidden: u32, table: &mut [i64], workspace: &mut [i64]) -> Reply {
+        match key {
+            Key::Plain => self.key(n, hidden, table, workspace),
+            Key::Tight => self.tight_key(n, hidden, table, workspace),
+        }
+    }
 
     /// Writes n integers that satisfy the table's rules to the first n words of `values`.
     fn assignment(&self, n: usize, table: &[i64], workspace: &mut [i64], values: &mut [i64]) -> Reply;

@@ -11,6 +11,10 @@ impl Library for Linked {
         calls::key(n, hidden, table, workspace)
     }
 
+    fn tight_key(&self, n: usize, hidden: u32, table: &mut [i64], workspace: &mut [i64]) -> Reply {
+        calls::tight_key(n, hidden, table, workspace)
+    }
+
     fn assignment(&self, n: usize, table: &[i64], workspace: &mut [i64], values: &mut [i64]) -> Reply {
         calls::assignment(n, table, workspace, values)
     }

@@ -1,31 +1,45 @@
-//! The two calls on tables in ordinary Rust, as the library makes them: what its times are measured against. Hiding is
+//! The three calls on one table in ordinary Rust, as the library makes them: what its times are measured against. Hiding is
 //! document 01's step. 'No assignment' is decided by a device of the program's own: each quantity is eliminated among the
-//! later ones alone, which is less work and leaves what the choice of integers needs.
+//! later ones alone, which is less work and leaves what the choice of integers needs. A tightest key is the same in whatever
+//! order it is made, so that there the hidden quantities are put first and eliminated in that way, and the decision needs no
+//! work of its own.
 //!
 //! A quantity has a number from 0 here, and quantity k the literals 2k, for plus, and 2k + 1. One literal x stands at place
 //! 2 (x/2)² + x%2; two literals x < y of different quantities stand at 2 (y/2)² + 2 + 2x + y%2.
 
 pub(crate) mod choose;
+mod order;
 pub(crate) mod step;
 pub mod tight;
 
 use crate::library::{too_short, Reply, DONE, NO_ASSIGNMENT, PAST_LIMIT, SIZE};
 use crate::meaning::{LIMIT, MOST_QUANTITIES, NO_RULE};
+use order::Order;
 
 pub fn key(n: usize, hidden: u32, table: &mut [i64], workspace: &mut [i64]) -> Reply {
-    if let Err(refusal) = lengths(n, table, workspace) {
-        return refusal;
-    }
-    let (table, workspace) = (&mut table[..2 * n * n], &mut workspace[..2 * n * n]);
-    // as 64 bits, for a 32-bit number cannot be shifted by 32
-    if u64::from(hidden) >> n != 0 || !within(LIMIT, table) {
-        return PAST_LIMIT;
-    }
+    let (table, workspace) = match accepted(n, hidden, table, workspace) {
+        Ok(lent) => lent,
+        Err(refusal) => return refusal,
+    };
     workspace.copy_from_slice(table);
     if !step::eliminate(n, workspace) {
         return NO_ASSIGNMENT;
     }
     step::hide(n, table, (0..n).filter(|k| (hidden >> k) & 1 == 1));
+    DONE
+}
+
+pub fn tight_key(n: usize, hidden: u32, table: &mut [i64], workspace: &mut [i64]) -> Reply {
+    let (table, workspace) = match accepted(n, hidden, table, workspace) {
+        Ok(lent) => lent,
+        Err(refusal) => return refusal,
+    };
+    let order = Order::hidden_first(n, hidden);
+    order.arrange(table, workspace);
+    if !tight::tighten(n, workspace, order.hidden) {
+        return NO_ASSIGNMENT;
+    }
+    order.restore(workspace, table);
     DONE
 }
 
@@ -48,7 +62,23 @@ pub fn assignment(n: usize, table: &[i64], workspace: &mut [i64], values: &mut [
     DONE
 }
 
-/// The refusals that both calls begin with. n is tested first, so that 2n² cannot wrap.
+/// The words of the table and as many of the workspace, unless a call for a key refuses what it is given.
+fn accepted<'a>(
+    n: usize,
+    hidden: u32,
+    table: &'a mut [i64],
+    workspace: &'a mut [i64],
+) -> Result<(&'a mut [i64], &'a mut [i64]), Reply> {
+    lengths(n, table, workspace)?;
+    let (table, workspace) = (&mut table[..2 * n * n], &mut workspace[..2 * n * n]);
+    // as 64 bits, for a 32-bit number cannot be shifted by 32
+    if u64::from(hidden) >> n != 0 || !within(LIMIT, table) {
+        return Err(PAST_LIMIT);
+    }
+    Ok((table, workspace))
+}
+
+/// The refusals that all three calls begin with. n is tested first, so that 2n² cannot wrap.
 fn lengths(n: usize, table: &[i64], workspace: &[i64]) -> Result<(), Reply> {
     if n == 0 || n > MOST_QUANTITIES || table.len() < 2 * n * n {
         return Err(SIZE);

@@ -27,7 +27,7 @@ fn verdict(sheet: &[u8], script: &[u8]) -> Result<u32, Reply> {
         return Ok(MISMATCH);
     }
     let n = sheet.header.quantities;
-    Ok(match (tighten(n, &mut sheet.table), tighten(n, &mut script.table)) {
+    Ok(match (tighten(n, &mut sheet.table, 0), tighten(n, &mut script.table, 0)) {
         (false, false) => EQUAL,
         (false, true) => LOOSE,
         (true, false) => TIGHT,
@@ -62,7 +62,7 @@ impl Paper {
     /// The tightest table, none where no integers satisfy the paper.
     pub fn tightened(&self) -> Option<Vec<i64>> {
         let mut table = self.table.clone();
-        tighten(self.header.quantities, &mut table).then_some(table)
+        tighten(self.header.quantities, &mut table, 0).then_some(table)
     }
 
     fn names_hidden(&self) -> bool {

@@ -31,7 +31,7 @@ fn numbered(library: &dyn Library, seed: u64, number: u64, counts: &mut Counts) 
     };
     check::sheet(library, &sheet, &mut random, counts)
         .map_err(|e| format!("seed {seed}, sheet {number}: {e}\n{sheet}"))?;
-    damage::both_calls(library, &sheet, &mut random, counts)
+    damage::all_calls(library, &sheet, &mut random, counts)
         .map_err(|e| format!("seed {seed}, sheet {number}, damaged: {e}"))?;
     if number.is_multiple_of(REPEATED) {
         state::none_kept(library, &sheet, &mut random, counts)

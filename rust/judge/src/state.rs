@@ -3,7 +3,7 @@
 //! only.
 
 use crate::counts::Counts;
-use crate::library::{Library, Reply};
+use crate::library::{Key, Library, Reply};
 use crate::meaning::size;
 use crate::random::Random;
 use crate::sheets::Sheet;
@@ -39,11 +39,11 @@ fn at_once(library: &dyn Library, first: &[&Called], second: &[&Called]) -> Resu
     })
 }
 
-/// A sheet and what both calls on it have come to. The workspace is no part of it, for its content is free.
+/// A sheet and what the three calls on it have come to. The workspace is no part of it, for its content is free.
 struct Called<'a> {
     sheet: &'a Sheet,
-    key: Reply,
-    table: Vec<i64>,
+    /// of each key the reply and the words
+    keys: [(Reply, Vec<i64>); 2],
     assignment: Reply,
     values: Vec<i64>,
 }
@@ -52,17 +52,23 @@ impl Called<'_> {
     /// The same words are lent each time, so that nothing but state can make a difference.
     fn alone<'a>(library: &dyn Library, sheet: &'a Sheet) -> Called<'a> {
         let n = sheet.n;
-        let (mut table, mut values) = (sheet.table.clone(), vec![0; n]);
-        let key = library.key(n, sheet.hidden, &mut table, &mut vec![0; size(n)]);
+        let keys = Key::BOTH.map(|key| {
+            let mut table = sheet.table.clone();
+            (library.keyed(key, n, sheet.hidden, &mut table, &mut vec![0; size(n)]), table)
+        });
+        let mut values = vec![0; n];
         let assignment = library.assignment(n, &sheet.table, &mut vec![0; size(n)], &mut values);
-        Called { sheet, key, table, assignment, values }
+        Called { sheet, keys, assignment, values }
     }
 
     fn again(&self, library: &dyn Library) -> Result<(), String> {
         let again = Called::alone(library, self.sheet);
+        let [(key, table), (tight_key, tight_table)] = &self.keys;
         let parts = [
-            ("the key's reply", again.key == self.key),
-            ("the key's words", again.table == self.table),
+            ("the key's reply", again.keys[0].0 == *key),
+            ("the key's words", again.keys[0].1 == *table),
+            ("the tight key's reply", again.keys[1].0 == *tight_key),
+            ("the tight key's words", again.keys[1].1 == *tight_table),
             ("the assignment's reply", again.assignment == self.assignment),
             ("the assignment's words", again.values == self.values),
         ];

@@ -2,9 +2,10 @@
 
 mod wrong;
 
+use judge::library::Library;
 use judge::meaning::LIMIT;
 use judge::run;
-use wrong::{Trap, Wrong};
+use wrong::{InTightKey, Trap, Wrong};
 
 const SHEETS: u64 = 300;
 
@@ -60,8 +61,64 @@ const TRAPS: [(Trap, &str); 49] = [
     (Trap::PutsFree(FARTHEST + 1), "is out of range"),
     (Trap::PutsFree(-FARTHEST - 1), "is out of range"),
     (Trap::OtherIntegersNextTime, "not as before: the assignment's words"),
-    (Trap::MixesCalls, "at once: not as before: the key's words"),
+    (Trap::MixesCalls, "at once: not as before: the "),
     (Trap::RefusesSecondCaller, "at once: not as before: "),
+];
+
+/// The same where the call for a tightest key alone falls into the trap.
+const TIGHT_TRAPS: [(Trap, &str); 52] = [
+    (Trap::PlainForTight, "tight key: tightened again: place "),
+    (Trap::TightensHidden, "tight key: rule +1+2:5 names a hidden quantity"),
+    (Trap::NeverStrengthens, "tight key: tightened again: place "),
+    (Trap::StrengthensFirst, "tight key: tightened again: place "),
+    (Trap::StrengthensOnly, "tight key: tightened again: place "),
+    (Trap::PairsAllButLast, "tight key: tightened again: place "),
+    (Trap::EmptiesPaired, "tight key: place "),
+    (Trap::LeavesOut(LIMIT), "tight key: place "),
+    (Trap::LeavesOut(1 << 31), "tight key: "),
+    (Trap::LeavesOutLone, "tight key: tightened again: place "),
+    (Trap::BringsToLimit, "tight key: place "),
+    (Trap::OneAbove, "tight key: place 0: word 4, due 3"),
+    (Trap::OneBelow, "tight key: place 0: word 2, due 3"),
+    (Trap::BoundsAll, "tight key: tightened again: place "),
+    (Trap::RoundsTowardZero, "tight key: "),
+    (Trap::ForgetsLoneRules, "tight key: "),
+    (Trap::KeepsLoneRules, "names a hidden quantity"),
+    (Trap::DecidesOnHiddenOnly, "tight key: reply 0 with value 0, due 5"),
+    (Trap::HidesFirstOnly, "tight key: place "),
+    (Trap::EmptyKey, "tight key: place "),
+    (Trap::SheetAsKey, "names a hidden quantity"),
+    (Trap::AlwaysFive, "tight key: reply 5 with value 0, due 0"),
+    (Trap::NeverFive, "tight key: reply 0 with value 0, due 5"),
+    (Trap::LimitFirst, "tight key: reply 3 with value 0, due 6"),
+    (Trap::LimitSkipsLast, "tight key: reply 0 with value 0, due 3"),
+    (Trap::Limits { least: -LIMIT, most: LIMIT + 1 }, "due 3"),
+    (Trap::Limits { least: -LIMIT - 1, most: LIMIT }, "due 3"),
+    (Trap::Limits { least: -LIMIT, most: LIMIT - 1 }, "tight key: reply 3"),
+    (Trap::Limits { least: 1 - LIMIT, most: LIMIT }, "tight key: reply 3"),
+    (Trap::LeastWordPasses, "due 3"),
+    (Trap::HiddenUntested, "due 3"),
+    (Trap::Accepts(0), "tight key: reply 0 with value 0, due 1"),
+    (Trap::Accepts(33), "tight key: reply 0 with value 0, due 1"),
+    (Trap::Accepts(1 << 32), "tight key: reply 0 with value 0, due 1"),
+    (Trap::Accepts(1 << 63), "tight key: reply 0 with value 0, due 1"),
+    (Trap::NarrowsN, "due 1"),
+    (Trap::TableLengthAsNeeded, "tight key: reply 6"),
+    (Trap::ValueBeside(0), "tight key: reply 0 with value 1"),
+    (Trap::ValueBeside(1), "tight key: reply 1 with value 1"),
+    (Trap::ValueBeside(3), "reply 3 with value 1"),
+    (Trap::ValueBeside(5), "tight key: reply 5 with value 1"),
+    (Trap::TableLost(1), "table: a word changed"),
+    (Trap::TableLost(3), "table: a word changed"),
+    (Trap::TableLost(5), "table: a word changed"),
+    (Trap::TableLost(6), "table: a word changed"),
+    (Trap::WorkspaceLost(1), "workspace: a word changed"),
+    (Trap::WorkspaceLost(3), "workspace: a word changed"),
+    (Trap::WorkspaceLost(6), "workspace: a word changed"),
+    (Trap::WritesPastTable, "table: a word changed"),
+    (Trap::WritesPastWorkspace, "workspace: a word changed"),
+    (Trap::MixesCalls, "at once: not as before: the tight key's words"),
+    (Trap::RefusesSecondCaller, "at once: not as before: the tight key's "),
 ];
 
 #[test]
@@ -80,7 +137,18 @@ fn the_farthest_integers_are_accepted() {
 #[test]
 fn each_trap_is_seen() {
     for (trap, seen_as) in TRAPS {
-        let failure = run::all(&Wrong::new(trap), 1, SHEETS).err().unwrap_or_else(|| panic!("{trap:?} goes unseen"));
-        assert!(failure.contains(seen_as), "{trap:?} is seen as {failure}");
+        seen(&Wrong::new(trap), trap, seen_as);
     }
+}
+
+#[test]
+fn each_trap_in_the_tightest_key_is_seen() {
+    for (trap, seen_as) in TIGHT_TRAPS {
+        seen(&InTightKey::new(trap), trap, seen_as);
+    }
+}
+
+fn seen(library: &dyn Library, trap: Trap, seen_as: &str) {
+    let failure = run::all(library, 1, SHEETS).err().unwrap_or_else(|| panic!("{trap:?} goes unseen"));
+    assert!(failure.contains(seen_as), "{trap:?} is seen as {failure}");
 }

@@ -2,9 +2,10 @@
 
 mod refusals;
 mod steps;
+mod tight;
 mod trap;
 
-use judge::library::{Library, Reply, DONE, NO_ASSIGNMENT, SIZE};
+use judge::library::{Key, Library, Reply, DONE, NO_ASSIGNMENT, SIZE};
 use judge::meaning::{rules, size, LIMIT, NO_RULE};
 use judge::plain;
 use std::sync::atomic::{AtomicUsize, Ordering::SeqCst};
@@ -20,12 +21,11 @@ pub struct Wrong {
 
 impl Library for Wrong {
     fn key(&self, n: usize, hidden: u32, table: &mut [i64], workspace: &mut [i64]) -> Reply {
-        let beside = self.under_way.fetch_add(1, SeqCst) > 0;
-        let reply = self.keyed(self.narrowed(n), hidden, table, workspace);
-        self.under_way.fetch_sub(1, SeqCst);
-        spoil(table, self.trap == Trap::TableLost(reply.number) || beside && self.trap == Trap::MixesCalls);
-        spoil(workspace, self.trap == Trap::WorkspaceLost(reply.number));
-        self.told(reply, beside)
+        self.call_for(Key::Plain, n, hidden, table, workspace)
+    }
+
+    fn tight_key(&self, n: usize, hidden: u32, table: &mut [i64], workspace: &mut [i64]) -> Reply {
+        self.call_for(Key::Tight, n, hidden, table, workspace)
     }
 
     fn assignment(&self, n: usize, table: &[i64], workspace: &mut [i64], values: &mut [i64]) -> Reply {
@@ -43,7 +43,17 @@ impl Wrong {
         Wrong { trap, assignments: AtomicUsize::new(0), under_way: AtomicUsize::new(0) }
     }
 
-    fn keyed(&self, n: usize, hidden: u32, table: &mut [i64], workspace: &mut [i64]) -> Reply {
+    /// A call for a key, with what befalls it on its way to the caller.
+    fn call_for(&self, key: Key, n: usize, hidden: u32, table: &mut [i64], workspace: &mut [i64]) -> Reply {
+        let beside = self.under_way.fetch_add(1, SeqCst) > 0;
+        let reply = self.made(key, self.narrowed(n), hidden, table, workspace);
+        self.under_way.fetch_sub(1, SeqCst);
+        spoil(table, self.trap == Trap::TableLost(reply.number) || beside && self.trap == Trap::MixesCalls);
+        spoil(workspace, self.trap == Trap::WorkspaceLost(reply.number));
+        self.told(reply, beside)
+    }
+
+    fn made(&self, key: Key, n: usize, hidden: u32, table: &mut [i64], workspace: &mut [i64]) -> Reply {
         if let Some(reply) = self.early(n, hidden, table, workspace.len(), n) {
             return reply;
         }
@@ -51,7 +61,10 @@ impl Wrong {
         if !self.satisfiable(n, hidden, &sheet) {
             return NO_ASSIGNMENT;
         }
-        table[..size(n)].copy_from_slice(&self.hidden_table(n, hidden, &sheet));
+        table[..size(n)].copy_from_slice(&match key {
+            Key::Plain => self.hidden_table(n, hidden, &sheet),
+            Key::Tight => self.tight_table(n, hidden, &sheet),
+        });
         spoil(&mut table[size(n)..], self.trap == Trap::WritesPastTable);
         spoil(&mut workspace[size(n)..], self.trap == Trap::WritesPastWorkspace);
         DONE
@@ -107,6 +120,32 @@ impl Wrong {
             true => Reply { value: 1, ..reply },
             false => reply,
         }
+    }
+}
+
+/// A library that falls into its trap in the call for a tightest key alone.
+pub struct InTightKey {
+    wrong: Wrong,
+    right: Wrong,
+}
+
+impl InTightKey {
+    pub fn new(trap: Trap) -> InTightKey {
+        InTightKey { wrong: Wrong::new(trap), right: Wrong::new(Trap::Nothing) }
+    }
+}
+
+impl Library for InTightKey {
+    fn key(&self, n: usize, hidden: u32, table: &mut [i64], workspace: &mut [i64]) -> Reply {
+        self.right.key(n, hidden, table, workspace)
+    }
+
+    fn tight_key(&self, n: usize, hidden: u32, table: &mut [i64], workspace: &mut [i64]) -> Reply {
+        self.wrong.tight_key(n, hidden, table, workspace)
+    }
+
+    fn assignment(&self, n: usize, table: &[i64], workspace: &mut [i64], values: &mut [i64]) -> Reply {
+        self.right.assignment(n, table, workspace, values)
     }
 }
 

@@ -36,6 +36,13 @@ impl Wrong {
 
     /// As `judge::naive::hide`, which makes no mistakes.
     fn hide(&self, n: usize, q: usize, table: &mut [i64]) -> bool {
+        let possible = self.pair(n, q, table);
+        self.blank(n, q, table);
+        possible
+    }
+
+    /// Puts in the sums of the rules on a quantity, which stay; false at a contradiction.
+    pub fn pair(&self, n: usize, q: usize, table: &mut [i64]) -> bool {
         let mut possible = true;
         for sum in sums(q, &rules(n, table)) {
             if self.trap == Trap::ForgetsLoneRules && sum.rest.contains(&None) {
@@ -46,7 +53,6 @@ impl Wrong {
                 None => possible &= sum.bound >= 0,
             }
         }
-        self.blank(n, q, table);
         possible
     }
 
@@ -57,7 +63,7 @@ impl Wrong {
         }
     }
 
-    fn blank(&self, n: usize, q: usize, table: &mut [i64]) {
+    pub fn blank(&self, n: usize, q: usize, table: &mut [i64]) {
         for (word, term) in table.iter_mut().zip(terms(n)) {
             let kept = term.second.is_none() && self.trap == Trap::KeepsLoneRules;
             if term.quantities().any(|named| named == q) && !kept {

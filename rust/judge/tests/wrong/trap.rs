@@ -27,6 +27,34 @@ pub enum Trap {
     /// hiding goes from the last quantity to the first: the same meaning, other words
     HidesDownward,
 
+    // the tightest key
+    /// the plain key is handed out
+    PlainForTight,
+    /// hidden quantities are tightened with the others and stay
+    TightensHidden,
+    /// two lone bounds are not added
+    NeverStrengthens,
+    /// lone bounds are added before anything is paired
+    StrengthensFirst,
+    /// lone bounds are added, and nothing is paired
+    StrengthensOnly,
+    /// the last visible quantity is not paired
+    PairsAllButLast,
+    /// the rules of a quantity are emptied once they are paired
+    EmptiesPaired,
+    /// a bound past this magnitude is left out
+    LeavesOut(i64),
+    /// a rule that another two of its quantities' lone rules give is left out
+    LeavesOutLone,
+    /// a bound past the limit is brought to the limit
+    BringsToLimit,
+    /// the first bound is one above the least
+    OneAbove,
+    /// the first bound is one below the least
+    OneBelow,
+    /// a visible term without a bound has a rule nevertheless
+    BoundsAll,
+
     // refusals
     /// the limit is tested before the lengths
     LimitFirst,

@@ -16,10 +16,11 @@ mod times;
 use grid::{Call, Grid};
 use times::{ROUNDS, TURNS};
 
-const CALLS: [Call; 10] = [
+const CALLS: [Call; 11] = [
     Call { name: "Reading the sheet", batches: texts::read_sheet, parts: 1 },
     Call { name: "Reading the script", batches: texts::read_script, parts: 1 },
     Call { name: "Key", batches: tables::key, parts: 1 },
+    Call { name: "Tight key", batches: tables::tight_key, parts: 1 },
     Call { name: "Assignment", batches: tables::assignment, parts: 1 },
     Call { name: "Verdict equal", batches: marks::equal, parts: 4 },
     Call { name: "Verdict loose", batches: marks::loose, parts: 4 },

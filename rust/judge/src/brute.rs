@@ -52,18 +52,29 @@ pub fn choice(
 ) -> Option<Vec<i64>> {
     let (hidden_ones, visible) = parted(n, hidden);
     let reach = visible_radius(&hidden_ones, &visible, sheet, script);
-    let (among_visible, rest): (Vec<Rule>, Vec<Rule>) = sheet.iter().partition(|rule| !rule.term.names(hidden));
-    let hidden_reach = hidden_radius(&hidden_ones, reach, sheet);
-    let completion = Search::new(&hidden_ones, &rest, hidden_reach);
+    let completion = Completion::new(&hidden_ones, hidden, sheet, reach);
+    first(n, &visible, reach, |values| wanted(broken(script, values).is_none(), completion.of(values)))
+}
+
+/// Visible integers that hidden ones complete on one sheet and not on the other. What `visible_radius` says of a sheet and a
+/// key holds for two sheets with the larger magnitude of both.
+pub fn apart(n: usize, hidden: u32, one: &[Rule], other: &[Rule]) -> Option<Vec<i64>> {
+    let (hidden_ones, visible) = parted(n, hidden);
+    let larger = if largest_bound(one) < largest_bound(other) { other } else { one };
+    let reach = visible_radius(&hidden_ones, &visible, larger, &[]);
+    let [one, other] = [one, other].map(|sheet| Completion::new(&hidden_ones, hidden, sheet, reach));
+    first(n, &visible, reach, |values| one.of(values) != other.of(values))
+}
+
+/// The first choice for the visible quantities from -reach to reach that is as wanted.
+fn first(n: usize, visible: &[usize], reach: i64, wanted: impl Fn(&[i64]) -> bool) -> Option<Vec<i64>> {
     let mut values = vec![0; n];
     visible.iter().for_each(|&q| values[q - 1] = -reach);
     loop {
-        let allowed = broken(script, &values).is_none();
-        let completed = broken(&among_visible, &values).is_none() && completion.finds(&mut values.clone(), 0);
-        if wanted(allowed, completed) {
+        if wanted(&values) {
             return Some(values);
         }
-        if !advance(&visible, reach, &mut values) {
+        if !advance(visible, reach, &mut values) {
             return None;
         }
     }
@@ -80,9 +91,7 @@ pub fn tries(n: usize, hidden: u32, sheet: &[Rule], script: &[Rule]) -> u128 {
 /// Do hidden integers complete the visible ones among these?
 pub fn completed(n: usize, hidden: u32, sheet: &[Rule], values: &[i64]) -> bool {
     let (hidden_ones, visible) = parted(n, hidden);
-    let (among_visible, rest): (Vec<Rule>, Vec<Rule>) = sheet.iter().partition(|rule| !rule.term.names(hidden));
-    let radius = hidden_radius(&hidden_ones, farthest(&visible, values), sheet);
-    broken(&among_visible, values).is_none() && Search::new(&hidden_ones, &rest, radius).finds(&mut values.to_vec(), 0)
+    Completion::new(&hidden_ones, hidden, sheet, farthest(&visible, values)).of(values)
 }
 
 /// How many integers `completed` has to try at most.
@@ -139,6 +148,25 @@ fn advance(quantities: &[usize], reach: i64, values: &mut [i64]) -> bool {
         values[q - 1] = -reach;
     }
     false
+}
+
+/// Whether hidden integers complete visible ones.
+struct Completion<'a> {
+    among_visible: Vec<Rule>,
+    search: Search<'a>,
+}
+
+impl Completion<'_> {
+    /// For visible integers of at most this magnitude.
+    fn new<'a>(hidden_ones: &'a [usize], hidden: u32, sheet: &[Rule], reach: i64) -> Completion<'a> {
+        let (among_visible, rest): (Vec<Rule>, Vec<Rule>) = sheet.iter().partition(|rule| !rule.term.names(hidden));
+        let search = Search::new(hidden_ones, &rest, hidden_radius(hidden_ones, reach, sheet));
+        Completion { among_visible, search }
+    }
+
+    fn of(&self, values: &[i64]) -> bool {
+        broken(&self.among_visible, values).is_none() && self.search.finds(&mut values.to_vec(), 0)
+    }
 }
 
 /// Tries all integers from -radius to radius for some quantities, the others being fixed. A choice is given up as soon as

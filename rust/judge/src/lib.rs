@@ -3,8 +3,9 @@
 //!
 //! What a sheet means is decided by enumeration on small sheets (`brute`) and by shortest paths on all (`graph`), and
 //! neither eliminates a quantity. How far they are independent of the fact that hiding rests on, `graph` says. The key's
-//! words are compared with document 01's steps, written by its own words (`naive`); so is what the benchmark measures
-//! against, the library's design in ordinary Rust (`plain`).
+//! words are compared with document 01's steps, written by its own words (`naive`), and those of the tightest key with the
+//! least bounds that both ways find; so is what the benchmark measures against, the library's design in ordinary Rust
+//! (`plain`). Two sheets have one tightest key exactly where they mean the same (`alike`).
 //!
 //! What a text says is decided by spelling (`text`), and held against a parser in ordinary Rust (`plain_text`).
 //!
@@ -19,6 +20,7 @@
 //! Most runs are made on two threads (`halves`). Beside the judge stand what the exam host uses (`held`), and the trial of
 //! wrong programs on the crates' proofs (`wrong`).
 
+pub mod alike;
 pub mod brute;
 pub mod calls;
 pub mod check;

@@ -1,6 +1,7 @@
 //! The judge over the library that it is linked with. With the feature `plain` that is the stand-in, so that the
 //! declarations of the crate `acornsled` are tried without an archive.
 
+use judge::alike;
 use judge::enums;
 use judge::linked::Linked;
 use judge::marking;
@@ -12,6 +13,14 @@ use judge::text;
 fn the_linked_library_is_accepted_on_sheets() {
     let counts = run::all(&Linked, 1, 1000).unwrap_or_else(|failure| panic!("{failure}"));
     assert_eq!(counts.sheets, 1000);
+    // tightest keys with bounds within a sheet's limits and past them
+    assert!(counts.again > 0 && counts.far > 0, "{counts}");
+}
+
+#[test]
+fn the_linked_library_is_accepted_on_pairs_of_sheets() {
+    // so many that every kind of pair has to be met
+    alike::run::all(&Linked, 1, 2000).unwrap_or_else(|failure| panic!("{failure}"));
 }
 
 #[test]

@@ -11,10 +11,11 @@ use wrong_printed::{Trap, Wrong};
 const ANSWERS: u64 = 2_000;
 
 /// Each trap with what the judge says of the first failure: that it stumbles over something else is not enough.
-const TRAPS: [(Trap, &str); 20] = [
+const TRAPS: [(Trap, &str); 22] = [
     (Trap::FirstListed, "line 2: 'rule=-1+4:-2\\n', due 'rule=+19+22:1\\n'"),
     (Trap::LastBroken, "line 2: 'rule=-19-22:-1\\n', due 'rule=+19+22:1\\n'"),
     (Trap::RuleOfSheet, "line 2: 'rule=+2+8:165958084\\n', due 'rule=-5+7:972691734\\n'"),
+    (Trap::RuleOfTightKey, "line 2: 'rule=+2:4\\n', due 'rule=+1+2:4\\n'"),
     (Trap::HigherFirst, "line 2: 'rule=+22+19:1\\n', due 'rule=+19+22:1\\n'"),
     (Trap::WithinLimits, "line 2: 'rule=-1+5:1000000000\\n', due 'rule=-1+5:2000000000\\n'"),
     (Trap::NoEmptyRule, "line 2: 'values=0,0,0\\n', due 'rule=\\n'"),
@@ -28,8 +29,9 @@ const TRAPS: [(Trap, &str); 20] = [
     (Trap::AlwaysScript, "line 2: 'paper=script\\n', due 'paper=sheet\\n'"),
     (Trap::ScriptForBoth, "line 2: 'paper=script\\n', due 'paper=both\\n'"),
     (Trap::NoPaper, "line 2: 'line=1\\n', due 'paper=sheet\\n'"),
-    (Trap::VisibleRules, "line 5: 'rule=-2:0\\n', due 'rule=-2:-1\\n'"),
-    (Trap::NothingHidden, "line 3: 'rules=18\\n', due 'rules=8\\n'"),
+    (Trap::VisibleRules, "line 3: 'rules=4\\n', due 'rules=6\\n'"),
+    (Trap::NothingHidden, "line 3: 'rules=14\\n', due 'rules=6\\n'"),
+    (Trap::PlainKey, "line 3: 'rules=5\\n', due 'rules=6\\n'"),
     (Trap::NoLineZero, "line 2: nothing, due 'line=0\\n'"),
     (Trap::NoLastEnd, "line 2: 'line=0', due 'line=0\\n'"),
 ];

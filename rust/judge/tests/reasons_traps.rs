@@ -8,7 +8,7 @@ use wrong_reasons::{Trap, Wrong};
 const PAIRS: u64 = 2_000;
 
 /// Each trap with what the judge says of the first failure: that it stumbles over something else is not enough.
-const TRAPS: [(Trap, &str); 38] = [
+const TRAPS: [(Trap, &str); 39] = [
     // the paper
     (Trap::PapersExchanged, "the paper is 2, due 1"),
     (Trap::SevenOfScript, "the paper is 2, due 3"),
@@ -31,6 +31,7 @@ const TRAPS: [(Trap, &str); 38] = [
     (Trap::SignsExchanged, "the rule is [-4, -25, 1], due [4, 25, 1]"),
     (Trap::HigherFirst, "the rule is [25, 4, 1], due [4, 25, 1]"),
     (Trap::LeastBound, "the rule is [11, -12, 967859178], due [11, -12, 989655612]"),
+    (Trap::OfTightKey, "the rule is [2, 0, 4], due [1, 2, 4]"),
     (Trap::LastBroken, "the rule is [-1, 2, 4], due [1, 2, 4]"),
     (Trap::FirstListed, "the rule is [11, 0, 1117520373], due [11, -12, 989655612]"),
     (Trap::WithinLimits, "the rule is [-1, 5, 1000000000], due [-1, 5, 2000000000]"),

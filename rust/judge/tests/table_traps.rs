@@ -44,7 +44,7 @@ const TRAPS: [(Trap, &str); 46] = [
     (Trap::RuleUnwritten, "the rule is not written, due [0, 0, 0]"),
     (Trap::RuleExchanged, "the rule is [25, 4, 1], due [4, 25, 1]"),
     (Trap::BoundFirst, "the rule is [1, 4, 25], due [4, 25, 1]"),
-    (Trap::RuleWithinLimit, "the rule is [-1, 5, 1000000000], due [-1, 5, 2000000000]"),
+    (Trap::RuleWithinLimit, "the rule is [4, 0, -1000000000], due [4, 0, -65536000000000]"),
     (Trap::NoRuleWord, "the rule is [0, 0, 9223372036854775807], due [0, 0, 0]"),
     (Trap::RuleWhenEqual, "the rule is changed, where nothing is due"),
     (Trap::RuleWhenRefused(3), "the rule is changed, where nothing is due"),

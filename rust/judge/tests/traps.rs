@@ -2,6 +2,7 @@
 
 mod wrong;
 
+use judge::alike;
 use judge::library::Library;
 use judge::meaning::LIMIT;
 use judge::run;
@@ -145,6 +146,16 @@ fn each_trap_is_seen() {
 fn each_trap_in_the_tightest_key_is_seen() {
     for (trap, seen_as) in TIGHT_TRAPS {
         seen(&InTightKey::new(trap), trap, seen_as);
+    }
+}
+
+#[test]
+fn keys_that_do_not_go_by_the_meaning_are_seen() {
+    let told = [(Trap::PlainForTight, "the same words are due"), (Trap::EmptyKey, "other words are due")];
+    for (trap, seen_as) in told {
+        let failure = alike::run::all(&InTightKey::new(trap), 1, SHEETS).err();
+        let failure = failure.unwrap_or_else(|| panic!("{trap:?} goes unseen"));
+        assert!(failure.contains(seen_as), "{trap:?} is seen as {failure}");
     }
 }
 

@@ -16,8 +16,8 @@ pub fn texts(sheet: &[u8], script: &[u8], random: &mut Random) -> Result<bool, S
         return Ok(false);
     };
     tables(&sheet, &script)?;
-    // its bounds may be past those of a text that is read as a sheet
-    if let Ok(key) = sheet.clone().key() {
+    // their bounds may be past those of a text that is read as a sheet, and of the second past a script's
+    for key in [sheet.clone().key(), sheet.clone().tight_key()].into_iter().flatten() {
         tables(&sheet, &key)?;
     }
     match random.chance(50) {

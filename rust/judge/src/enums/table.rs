@@ -1,7 +1,7 @@
-//! Tables that hold their own words, against the calls on lent ones: reading, the key, the integers, writing, and the text of
-//! the key of a text.
+//! Tables that hold their own words, against the calls on lent ones: reading, both keys, the integers, writing, and the texts
+//! of both keys of a text.
 
-use crate::library::{spelled, Header, Library, Reply, Texts, DONE};
+use crate::library::{spelled, Header, Key, Library, Reply, Texts, DONE};
 use crate::linked::Linked;
 use crate::meaning::{size, LIMIT, MOST_QUANTITIES};
 use crate::random::Random;
@@ -16,22 +16,35 @@ pub fn text(text: &[u8], random: &mut Random) -> Result<bool, String> {
     words.truncate(size(header.quantities));
     let due = Table { quantities: header.quantities, hidden: header.hidden, words };
     same(&Table::read(text), reply, &due).map_err(|e| format!("reading: {e}"))?;
-    let key = acornsled::key(text);
-    if reply != DONE {
-        return same(&key, reply, &vec![]).map(|()| false).map_err(|e| format!("key of the text: {e}"));
+    for key in Key::BOTH {
+        let (reply, key_text) = if reply == DONE { keyed(key, &due) } else { (reply, vec![]) };
+        let answer = match key {
+            Key::Plain => acornsled::key(text),
+            Key::Tight => acornsled::tight_key(text),
+        };
+        same(&answer, reply, &key_text).map_err(|e| format!("{} of the text: {e}", key.name()))?;
     }
-    same(&key, keyed(&due).0, &keyed(&due).1).map_err(|e| format!("key of the text: {e}"))?;
+    if reply != DONE {
+        return Ok(false);
+    }
     table(&due)?;
     table(&damaged(due, random))?;
     Ok(true)
 }
 
-/// Holds the three functions of a table against the calls.
+/// Holds the four functions of a table against the calls.
 fn table(table: &Table) -> Result<(), String> {
     let Table { quantities: n, hidden, words } = table;
-    let (mut key, mut workspace) = (words.clone(), vec![0; TABLE_WORDS]);
-    let reply = Linked.key(*n, *hidden, &mut key, &mut workspace);
-    same(&table.clone().key(), reply, &Table { words: key, ..table.clone() }).map_err(|e| format!("key: {e}"))?;
+    let mut workspace = vec![0; TABLE_WORDS];
+    for key in Key::BOTH {
+        let mut due = table.clone();
+        let reply = Linked.keyed(key, *n, *hidden, &mut due.words, &mut workspace);
+        let answer = match key {
+            Key::Plain => table.clone().key(),
+            Key::Tight => table.clone().tight_key(),
+        };
+        same(&answer, reply, &due).map_err(|e| format!("{}: {e}", key.name()))?;
+    }
     let mut values = vec![0; MOST_QUANTITIES];
     let reply = Linked.assignment(*n, words, &mut workspace, &mut values);
     values.truncate(*n);
@@ -41,10 +54,10 @@ fn table(table: &Table) -> Result<(), String> {
 }
 
 /// The reply to the last of the calls that make the text of a key, and that text.
-fn keyed(table: &Table) -> (Reply, Vec<u8>) {
-    let mut key = table.clone();
-    match Linked.key(key.quantities, key.hidden, &mut key.words, &mut vec![0; TABLE_WORDS]) {
-        DONE => written(&key),
+fn keyed(key: Key, table: &Table) -> (Reply, Vec<u8>) {
+    let mut made = table.clone();
+    match Linked.keyed(key, made.quantities, made.hidden, &mut made.words, &mut vec![0; TABLE_WORDS]) {
+        DONE => written(&made),
         refusal => (refusal, vec![]),
     }
 }

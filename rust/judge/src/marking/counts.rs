@@ -12,7 +12,7 @@ const NUMBERS: [u32; 9] = [1, 2, 3, 4, 6, 7, 100, 101, 102];
 #[derive(Default)]
 pub struct Counts {
     pub examples: usize,
-    /// sheets whose own key was handed in as the writer prints it
+    /// keys of sheets, plain or the tightest, that were handed in as the writer prints them
     pub own_keys: usize,
     /// verdicts that were decided by enumeration too
     enumerated: usize,

@@ -13,7 +13,7 @@ use crate::random::Random;
 /// From so many pairs on a run has to meet every number and every kind of pair.
 const ENOUGH: u64 = 5_000;
 
-/// One sheet of so many is marked with its own key. It is no multiple of 3, so that small sheets and others come in turn.
+/// One sheet of so many is marked with its own keys. It is no multiple of 3, so that small sheets and others come in turn.
 const OWN: u64 = 5;
 
 /// How often a pair is damaged.
@@ -45,7 +45,7 @@ fn numbered(library: &dyn Marker, seed: u64, number: u64, counts: &mut Counts) -
         check::texts(library, &sheet, &script, &mut random, counts).map_err(failed)?;
     }
     if number.is_multiple_of(OWN) {
-        own::key_text(library, &pair.sheet, &mut random, counts).map_err(failed)?;
+        own::key_texts(library, &pair.sheet, &mut random, counts).map_err(failed)?;
     }
     Ok(())
 }

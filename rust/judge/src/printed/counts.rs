@@ -14,7 +14,7 @@ pub struct Counts {
 }
 
 /// What a run is to meet. 5 is no answer of *mark*, and 6 is one of neither.
-const KINDS: [&str; 37] = [
+const KINDS: [&str; 44] = [
     "equal",
     "equal, own key past a sheet's limit",
     "loose, and narrow",
@@ -47,6 +47,13 @@ const KINDS: [&str; 37] = [
     "key, rules",
     "key, no rule",
     "key, past the limits",
+    "key, past a script's limits",
+    "key, the plain key",
+    "key, not the plain key",
+    "keys, one meaning",
+    "keys, two meanings",
+    "own key, equal",
+    "own key, refused 3",
     "key, refused 1",
     "key, refused 2",
     "key, refused 3",

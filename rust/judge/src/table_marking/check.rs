@@ -4,12 +4,14 @@ use super::call::TablesCall;
 use super::counts::Counts;
 use super::given::Given;
 use crate::calls::same_reply;
-use crate::due::key;
-use crate::library::{Reply, TableMarker, EQUAL};
+use crate::due::{key, tight_key};
+use crate::library::{Reply, TableMarker, EQUAL, PAST_LIMIT};
 use crate::marking::due::{self, Beside, Due};
 use crate::marking::pairs::Tables;
 use crate::marking::reasons::{words, written};
 use crate::marking::shown::Shown;
+use crate::meaning::script_limit;
+use crate::plain::within;
 use crate::plain_tables::Plain;
 use crate::random::Random;
 use crate::sheets::Sheet;
@@ -68,23 +70,29 @@ pub fn tables(
     Ok(owed)
 }
 
-/// Judges the marking of a sheet's own key, if the sheet has an assignment: whatever its bounds are, it is accepted and equal.
-pub fn own_key(
+/// Judges the marking of a sheet's own keys, if the sheet has an assignment. Whatever the bounds of the plain one are, it is
+/// accepted and equal; the tightest is where its bounds are a script's, and else refused with 3.
+pub fn own_keys(
     library: &dyn TableMarker,
     sheet: Sheet,
     random: &mut Random,
     counts: &mut Counts,
 ) -> Result<(), String> {
-    let Some(table) = key(&sheet)? else {
+    let Some((plain, tight)) = key(&sheet)?.zip(tight_key(&sheet)) else {
         return Ok(());
     };
-    let script = Sheet { n: sheet.n, hidden: sheet.hidden, table };
-    let given = Given::sound(&Tables { sheet, script }, random);
-    counts.own_keys += 1;
-    match tables(library, &given, random, counts)?.reply().number {
-        EQUAL => Ok(()),
-        number => Err(format!("the judges differ: {number} is due of a sheet's own key\n{given}")),
+    let Sheet { n, hidden, table } = sheet;
+    let due = if within(script_limit(hidden), &tight) { EQUAL } else { PAST_LIMIT.number };
+    for (own, due) in [(plain, EQUAL), (tight, due)] {
+        let [sheet, script] = [table.clone(), own].map(|table| Sheet { n, hidden, table });
+        let given = Given::sound(&Tables { sheet, script }, random);
+        let number = tables(library, &given, random, counts)?.reply().number;
+        if number != due {
+            return Err(format!("the judges differ: {number}, and {due} is due of a sheet's own key\n{given}"));
+        }
+        counts.own_keys += 1;
     }
+    Ok(())
 }
 
 /// Judges two calls on different memory, which have to come to the same. Gives the integers that they have written.

@@ -40,7 +40,7 @@ fn numbered(library: &dyn TableMarker, seed: u64, number: u64, counts: &mut Coun
     let given = Given::sound(&tables, &mut random);
     let failed = |e| format!("seed {seed}, pair of tables {number}: {e}");
     check::tables(library, &given, &mut random, counts).map_err(failed)?;
-    check::own_key(library, tables.sheet, &mut random, counts).map_err(failed)?;
+    check::own_keys(library, tables.sheet, &mut random, counts).map_err(failed)?;
     for _ in 0..DAMAGED {
         let given = damaged(given.clone(), &mut random);
         check::tables(library, &given, &mut random, counts).map_err(failed)?;

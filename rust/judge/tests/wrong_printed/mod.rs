@@ -5,9 +5,10 @@ pub mod stated;
 mod trap;
 mod verdicts;
 
+use judge::graph::Closure;
 use judge::library::{Reply, EQUAL, LOOSE, MISMATCH, NO_ASSIGNMENT};
 use judge::marking::due::{self, read, read_script};
-use judge::meaning::{terms, NO_RULE};
+use judge::meaning::{rules, terms, NO_RULE};
 use judge::naive;
 use judge::printed::programs::Printer;
 use judge::sheets::Sheet;
@@ -54,14 +55,15 @@ impl Wrong {
 
     fn key_text(&self, sheet: Sheet) -> String {
         let Sheet { n, hidden, table } = sheet;
-        let Some(key) = naive::key(n, hidden, &table) else {
+        let Some(closure) = Closure::of(n, &rules(n, &table)) else {
             return self.refusal(NO_ASSIGNMENT, None);
         };
         let visible = table.iter().zip(terms(n)).map(|(&word, term)| if term.names(hidden) { NO_RULE } else { word });
         let table = match self.trap {
             Trap::VisibleRules => visible.collect(),
             Trap::NothingHidden => table,
-            _ => key,
+            Trap::PlainKey => naive::key(n, hidden, &table).expect("the sheet has an assignment"),
+            _ => closure.tightest(hidden),
         };
         Sheet { n, hidden, table }.to_string()
     }

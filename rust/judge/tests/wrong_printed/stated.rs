@@ -18,7 +18,10 @@ const FAR: Said = ("3", "2", &["+1-2:1000000000", "+2-3:1000000000"]);
 /// Only a half would fit.
 const NOTHING_ALLOWED: Said = ("1", "", &["+1+1:1", "-1-1:-1"]);
 
-pub const MARKED: [Marked; 10] = [
+/// Its tightest key has one rule more, which is the first.
+const ODD: Said = ("2", "", &["+1+2:1", "+1-2:0"]);
+
+pub const MARKED: [Marked; 11] = [
     Marked {
         sheet: A,
         script: ("3", "2", &["+1+1:7", "+1+3:5"]),
@@ -81,6 +84,16 @@ pub const MARKED: [Marked; 10] = [
             ("verdict=loose\nrule=+1:3\nvalues=0,0,6\n", "line 2: 'rule=+1:3\\n', due 'rule=+1+3:5\\n'"),
             ("verdict=loose\nrule=+3+1:5\nvalues=0,0,6\n", "line 2: 'rule=+3+1:5\\n', due 'rule=+1+3:5\\n'"),
             ("verdict=loose\nrule=+1+3:5\nvalues=4,0,2\n", "the integers break the script's rule +1:3"),
+        ],
+    },
+    // the rule is one of the plain key
+    Marked {
+        sheet: ODD,
+        script: ("2", "", &[]),
+        right: &["verdict=loose\nrule=+1+2:1\nvalues=1,1\n"],
+        wrong: &[
+            ("verdict=loose\nrule=+1:0\nvalues=1,1\n", "line 2: 'rule=+1:0\\n', due 'rule=+1+2:1\\n'"),
+            ("verdict=loose\nrule=+1+2:1\nvalues=1,0\n", "the integers meet the rule +1+2:1"),
         ],
     },
     // both rules of the script can be broken
@@ -168,7 +181,7 @@ pub const MARKED: [Marked; 10] = [
 /// A sheet, what *key* has to print, and wrong answers.
 pub type Keyed = (Said, &'static str, &'static [(&'static str, &'static str)]);
 
-pub const KEYED: [Keyed; 3] = [
+pub const KEYED: [Keyed; 5] = [
     (
         A,
         "quantities=3\nhidden=2\nrules=2\nrule=+1:3\nrule=+1+3:5\n",
@@ -180,6 +193,23 @@ pub const KEYED: [Keyed; 3] = [
             ),
             ("quantities=3\nhidden=2\nrules=2\nrule=+1:3\n", "line 5: nothing, due 'rule=+1+3:5\\n'"),
             ("quantities=3\nhidden=2\nrules=2\nrule=+1:3\nrule=+1+3:5\n\n", "line 6: '\\n', due nothing"),
+        ],
+    ),
+    (
+        ODD,
+        "quantities=2\nhidden=\nrules=3\nrule=+1:0\nrule=+1+2:1\nrule=+1-2:0\n",
+        &[("quantities=2\nhidden=\nrules=2\nrule=+1+2:1\nrule=+1-2:0\n", "line 3: 'rules=2\\n', due 'rules=3\\n'")],
+    ),
+    // a bound past a script's limits is printed
+    (
+        ("2", "", &["+1:1000000000", "-1+2:1000000000"]),
+        "quantities=2\nhidden=\nrules=4\nrule=+1:1000000000\nrule=+2:2000000000\nrule=+1+2:3000000000\nrule=-1+2:1000000000\n",
+        &[
+            (
+                "quantities=2\nhidden=\nrules=2\nrule=+1:1000000000\nrule=-1+2:1000000000\n",
+                "line 3: 'rules=2\\n', due 'rules=4\\n'",
+            ),
+            ("refused=3\nline=0\n", "line 1: 'refused=3\\n', due 'quantities=2\\n'"),
         ],
     ),
     (

@@ -12,6 +12,8 @@ pub enum Trap {
     LastBroken,
     /// for loose a rule of the sheet is named, one that can be broken, where there is such a rule of visible quantities
     RuleOfSheet,
+    /// the rule of a loose verdict is one of the tightest key
+    RuleOfTightKey,
     /// the higher quantity stands first
     HigherFirst,
     /// a bound past the sheet's limits is brought to the limit
@@ -48,6 +50,8 @@ pub enum Trap {
     VisibleRules,
     /// the sheet as it is
     NothingHidden,
+    /// the plain key
+    PlainKey,
     /// a refusal without a line, where that is 0
     NoLineZero,
 

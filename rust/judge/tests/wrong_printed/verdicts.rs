@@ -15,6 +15,9 @@ impl Wrong {
         let own: Vec<Rule> = rules(n, &table).into_iter().filter(|rule| !rule.term.names(hidden)).collect();
         let listed = match naive::key(n, hidden, &table) {
             Some(_) if self.trap == Trap::RuleOfSheet && !breakable(n, &own, &allowed).is_empty() => own,
+            Some(_) if self.trap == Trap::RuleOfTightKey => {
+                rules(n, &Closure::of(n, &rules(n, &table)).expect("the sheet has an assignment").tightest(hidden))
+            }
             Some(key) => rules(n, &key),
             None => vec![],
         };

@@ -20,6 +20,7 @@ impl Wrong {
             (Trap::WithinLimits, LOOSE) => [first, second, bound.clamp(-LIMIT, LIMIT)],
             (Trap::Doubled, LOOSE | TIGHT) if second == 0 => [first, first, 2 * bound],
             (Trap::LeastBound, LOOSE) => self.of_key(answered, |_, least| least.first().copied()),
+            (Trap::OfTightKey, LOOSE) => self.of_key(answered, |_, broken| broken.first().copied()),
             (Trap::LastBroken, LOOSE) => self.of_key(answered, |_, broken| broken.last().copied()),
             (Trap::FirstListed, LOOSE) => self.of_key(answered, |listed, _| listed.first().copied()),
             _ => return,
@@ -31,10 +32,13 @@ impl Wrong {
         let [sheet, script] =
             [read(answered.sheet), read_script(answered.script)].map(|paper| paper.expect("both texts are read"));
         let written = rules(&sheet, &script);
-        let key = naive::key(sheet.n, sheet.hidden, &sheet.sheet().table).expect("the sheet has an assignment");
-        let listed = meaning::rules(sheet.n, &key);
         let [of_sheet, of_script] = [&written.sheet, &written.script]
             .map(|rules| Closure::of(sheet.n, rules).expect("both papers have an assignment"));
+        let key = match self.trap {
+            Trap::OfTightKey => of_sheet.tightest(sheet.hidden),
+            _ => naive::key(sheet.n, sheet.hidden, &sheet.sheet().table).expect("the sheet has an assignment"),
+        };
+        let listed = meaning::rules(sheet.n, &key);
         let above = |rule: &&Rule| of_script.least(&rule.term).is_none_or(|least| least > rule.bound as i128);
         let mut broken: Vec<Rule> = listed.iter().filter(above).copied().collect();
         if self.trap == Trap::LeastBound {

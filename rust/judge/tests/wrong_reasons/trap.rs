@@ -48,6 +48,8 @@ pub enum Trap {
     HigherFirst,
     /// the bound is the least that follows from the sheet, and not the key's
     LeastBound,
+    /// the rule is one of the tightest key
+    OfTightKey,
     /// of the rules that can be broken the last is named
     LastBroken,
     /// the first rule of the list is named, can it be broken or not

@@ -16,7 +16,7 @@ pub struct Counts {
 }
 
 /// What a run is to meet.
-const WAYS: [(Way, bool); 9] = [
+const WAYS: [(Way, bool); 10] = [
     (Way::Added, true),
     (Way::Dropped, true),
     (Way::Exchanged, true),
@@ -26,6 +26,7 @@ const WAYS: [(Way, bool); 9] = [
     (Way::HiddenChanged, false),
     (Way::Changed, true),
     (Way::Changed, false),
+    (Way::Lowered, false),
 ];
 
 impl Counts {

@@ -46,8 +46,8 @@ impl Pair {
         if self.enumerated && brute::apart(n, hidden, &one, &other).is_none() != self.same {
             return Err(format!("the judges differ: enumeration and shortest paths on two sheets\n{self}"));
         }
-        match self.way.keeps_meaning() && !self.same {
-            true => Err(format!("the judges differ: a sheet with one meaning is made, and has another\n{self}")),
+        match self.way.keeps_meaning() == Some(!self.same) {
+            true => Err(format!("the judges differ: the meaning of two sheets is not as they were made\n{self}")),
             false => Ok(self),
         }
     }

@@ -23,15 +23,29 @@ pub enum Way {
     HiddenChanged,
     /// any rule has
     Changed,
+    /// a visible term is bounded by one less than its least bound
+    Lowered,
 }
 
 impl Way {
-    const ALL: [Way; 7] =
-        [Way::Added, Way::Dropped, Way::Exchanged, Way::ItsKey, Way::ItsTightKey, Way::HiddenChanged, Way::Changed];
+    const ALL: [Way; 8] = [
+        Way::Added,
+        Way::Dropped,
+        Way::Exchanged,
+        Way::ItsKey,
+        Way::ItsTightKey,
+        Way::HiddenChanged,
+        Way::Changed,
+        Way::Lowered,
+    ];
 
-    /// Is a sheet that is made so sure to allow the same visible integers?
-    pub fn keeps_meaning(self) -> bool {
-        !matches!(self, Way::HiddenChanged | Way::Changed)
+    /// Is a sheet that is made so sure to allow the same visible integers, or sure not to? None where it is neither.
+    pub fn keeps_meaning(self) -> Option<bool> {
+        match self {
+            Way::Added | Way::Dropped | Way::Exchanged | Way::ItsKey | Way::ItsTightKey => Some(true),
+            Way::HiddenChanged | Way::Changed => None,
+            Way::Lowered => Some(false),
+        }
     }
 }
 
@@ -51,6 +65,7 @@ pub fn made(sheet: &Sheet, closure: &Closure, random: &mut Random) -> Option<(Wa
         Way::ItsTightKey => other = closure.tightest(*hidden),
         Way::HiddenChanged => change(&mut other, |place| terms(*n)[place].names(*hidden), random)?,
         Way::Changed => change(&mut other, |_| true, random)?,
+        Way::Lowered => lower(&closure.tightest(*hidden), &mut other, random)?,
     }
     within(LIMIT, &other).then_some((way, other))
 }
@@ -99,5 +114,16 @@ fn change(table: &mut [i64], chosen: impl Fn(usize) -> bool, random: &mut Random
         0 => NO_RULE,
         _ => *word + random.pick(&[-1, 1, 2, -1000, 1000]),
     };
+    Some(())
+}
+
+/// Bounds one term of the tightest key by one less; none where it has no rule.
+fn lower(tight: &[i64], table: &mut [i64], random: &mut Random) -> Option<()> {
+    let held: Vec<usize> = (0..tight.len()).filter(|&place| tight[place] != NO_RULE).collect();
+    if held.is_empty() {
+        return None;
+    }
+    let place = random.pick(&held);
+    table[place] = tight[place] - 1;
     Some(())
 }

@@ -203,6 +203,7 @@ static void assigning(void)
     due("assignment", acornsled_assignment(1, table, 2, workspace, 2, values, 1, &value), ACORNSLED_NO_ASSIGNMENT, 0);
     holds(kept(workspace, 2) && kept(values, 0), "no assignment is written where there is none");
     due("key", acornsled_key(1, 0, table, 2, workspace, 2, &value), ACORNSLED_NO_ASSIGNMENT, 0);
+    due("tight_key", acornsled_tight_key(1, 0, table, 2, workspace, 2, &value), ACORNSLED_NO_ASSIGNMENT, 0);
     holds(memcmp(table, half, sizeof half) == 0 && kept(table, 2), "a table without an assignment stays");
 }
 
@@ -225,6 +226,34 @@ static void keying(void)
     bound[0]++;
     lend(bound, 2);
     due("key", acornsled_key(1, 0, table, 2, workspace, 2, &value), ACORNSLED_PAST_LIMIT, 0);
+}
+
+/* Document 02, request 2: sheet A's tightest key is its key, and another sheet's bounds are past a script's. */
+static void keying_tight(void)
+{
+    enum { TWO = 8 }; /* the words of two quantities */
+    int64_t bound[] = {ACORNSLED_MOST_BOUND + 1, NONE};
+    const int64_t most = ACORNSLED_MOST_BOUND;
+    const int64_t chain[TWO] = {most, NONE, NONE, NONE, NONE, NONE, most, NONE};                /* +1, -1+2 */
+    const int64_t tightest[TWO] = {most, NONE, 2 * most, NONE, 3 * most, NONE, most, NONE}; /* and +2, +1+2 */
+
+    lend(sheet_table, WORDS);
+    due("tight_key", acornsled_tight_key(N, HIDDEN, table, WORDS - 1, workspace, WORDS, &value), ACORNSLED_SIZE, 0);
+    due("tight_key", acornsled_tight_key(ACORNSLED_MOST_QUANTITIES + 1, 0, table, LARGEST, workspace, LARGEST, &value),
+        ACORNSLED_SIZE, 0);
+    due("tight_key", acornsled_tight_key(N, HIDDEN, table, WORDS, workspace, WORDS - 1, &value), ACORNSLED_TOO_SHORT, WORDS);
+    due("tight_key", acornsled_tight_key(N, 1 << N, table, WORDS, workspace, WORDS, &value), ACORNSLED_PAST_LIMIT, 0);
+    holds(held(sheet_table) && kept(workspace, 0), "a refused tight key changes nothing");
+    due("tight_key", acornsled_tight_key(N, HIDDEN, table, LARGEST, workspace, LARGEST, &value), ACORNSLED_DONE, 0);
+    holds(held(key_table) && kept(workspace, WORDS), "sheet A's table becomes its tightest key");
+    due("tight_key", acornsled_tight_key(N, HIDDEN, table, LARGEST, workspace, LARGEST, &value), ACORNSLED_DONE, 0);
+    holds(held(key_table), "a tightest key is its own");
+
+    lend(chain, TWO);
+    due("tight_key", acornsled_tight_key(2, 0, table, TWO, workspace, TWO, &value), ACORNSLED_DONE, 0);
+    holds(memcmp(table, tightest, sizeof tightest) == 0 && kept(table, TWO), "least bounds may be past every limit");
+    lend(bound, 2);
+    due("tight_key", acornsled_tight_key(1, 0, table, 2, workspace, 2, &value), ACORNSLED_PAST_LIMIT, 0);
 }
 
 static void writing(void)
@@ -388,6 +417,7 @@ int main(void)
     refusals();
     assigning();
     keying();
+    keying_tight();
     writing();
     marking();
     marking_large();

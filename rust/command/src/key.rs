@@ -1,4 +1,4 @@
-//! `acornsled key`: the key of a sheet, printed as document 01's program *key* prints it.
+//! `acornsled key`: the tightest key of a sheet, printed as the program *key* prints it.
 
 use crate::source::Source;
 use crate::status::Status;
@@ -14,7 +14,7 @@ pub fn run(given: &[OsString]) -> Status {
     };
     let source = files.first().map_or(Source::Input, |name| Source::of(name));
     let sheet = source.held(source.to_string());
-    match acornsled::key(&sheet.bytes) {
+    match acornsled::tight_key(&sheet.bytes) {
         Ok(key) => output::answer(&key),
         Err(refusal) => {
             let printed = output::answer(lines(refusal).as_bytes());

@@ -35,6 +35,26 @@ fn a_key_without_rules_and_one_with_a_large_bound_are_printed() {
     );
 }
 
+/// The tightest key is printed, also where its bounds are past a script's.
+#[test]
+fn sheets_with_one_meaning_have_one_key() {
+    let key = |rules: &[&str]| {
+        let lines: String = rules.iter().map(|rule| format!("rule={rule}\n")).collect();
+        let text = format!("quantities=2\nhidden=\nrules={}\n{lines}", rules.len());
+        let Ran { status, output, told } = ran_on(&mut acornsled(["key"]), text.as_bytes());
+        assert_eq!((status, told.as_str()), (Some(0), ""));
+        output.lines().filter_map(|line| line.strip_prefix("rule=")).collect::<Vec<_>>().join(" ")
+    };
+    assert_eq!(key(&["+1:1", "+2:1"]), "+1:1 +2:1 +1+2:2");
+    assert_eq!(key(&["+1:1", "+2:1", "+1+2:7"]), "+1:1 +2:1 +1+2:2");
+    assert_eq!(key(&["+1+2:2", "+2+2:3", "+1+1:2"]), "+1:1 +2:1 +1+2:2");
+    assert_eq!(key(&["+1+2:1", "+1-2:0"]), "+1:0 +1+2:1 +1-2:0");
+    assert_eq!(
+        key(&["+1:1000000000", "-1+2:1000000000"]),
+        "+1:1000000000 +2:2000000000 +1+2:3000000000 -1+2:1000000000"
+    );
+}
+
 #[test]
 fn a_refusal_has_two_lines_and_status_1() {
     let due = [

@@ -27,10 +27,10 @@
 /*
  * The limits of a sheet. Its bounds are from -ACORNSLED_MOST_BOUND to ACORNSLED_MOST_BOUND, as they are written, a doubled term
  * too. A script's other limits are the same; for its bounds ACORNSLED_MOST_BOUND is doubled once for each quantity that is
- * hidden, in a text by its own hidden list. The bounds of acornsled_key's key are never past that: handed in as the script of its
- * sheet, it is equal. Those of acornsled_tight_key's may be; where none is, that is equal too. acornsled_read, acornsled_key,
- * acornsled_tight_key and acornsled_assignment hold what they are given to a sheet's limits, so that a key may be past them (3);
- * acornsled_write writes any bound.
+ * hidden, in a text by its own hidden list. The bounds of acornsled_key's key are never past that: handed in as the script of
+ * its sheet, it is equal. Those of acornsled_tight_key's may be; where none is, that is equal too. acornsled_read,
+ * acornsled_key, acornsled_tight_key and acornsled_assignment hold what they are given to a sheet's limits, so that a key may be
+ * past them (3); acornsled_write writes any bound.
  */
 #define ACORNSLED_MOST_QUANTITIES 32
 #define ACORNSLED_MOST_BOUND INT64_C(1000000000)
@@ -104,9 +104,9 @@ uint32_t acornsled_key(size_t n, uint32_t hidden, int64_t *table, size_t table_l
 /*
  * Makes the tightest key of a sheet: 0, or 1, 3, 5, 6, each as acornsled_key answers it, with the same workspace. With 0 the
  * table's first 2n^2 words have become that key: a term has a rule exactly when it is of visible quantities and some bound on
- * it is met by all integers that satisfy the sheet, and the rule has the least such bound. Two sheets with one n and one hidden
- * set get the same words exactly when they allow the same visible integers. It is what the program key prints; marking takes the
- * rule of a loose verdict from the key that acornsled_key makes.
+ * it is met by all integers that satisfy the sheet, and the rule has the least such bound. Two sheets with one n and one
+ * hidden set that are answered 0 get the same words exactly when they allow the same visible integers. The program key prints
+ * this key; marking takes the rule of a loose verdict from the one that acornsled_key makes.
  */
 uint32_t acornsled_tight_key(size_t n, uint32_t hidden, int64_t *table, size_t table_length, int64_t *workspace,
                              size_t workspace_length, size_t *value);
@@ -132,10 +132,10 @@ uint32_t acornsled_mark(const uint8_t *sheet, size_t sheet_length, const uint8_t
  * A refusal writes to `paper` which paper it is about, and to `value` the line with 2, 3 and 4 and the length needed with 6, 0
  * with 1 and 7; a verdict writes 0 to both. A verdict writes the sheet's n to `quantities`.
  *
- * Loose and tight write a rule to `rule`: for loose the first rule of acornsled_key's key, by place, that something which the script
- * allows breaks; for tight the first rule of the script's table that something which satisfies the sheet breaks. Its words are two
- * quantity numbers with their signs, +q as q and -q as -q, the lower quantity first, and the bound; a rule of one quantity has
- * 0 for the second. Where the sheet itself allows nothing a loose verdict has no rule, and all three words are 0.
+ * Loose and tight write a rule to `rule`: for loose the first rule of acornsled_key's key, by place, that something which the
+ * script allows breaks; for tight the first rule of the script's table that something which satisfies the sheet breaks. Its
+ * words are two quantity numbers with their signs, +q as q and -q as -q, the lower quantity first, and the bound; a rule of one
+ * quantity has 0 for the second. Where the sheet itself allows nothing a loose verdict has no rule, and all three words are 0.
  *
  * Loose and tight also write to the first n words of `values` integers from -2^62 to 2^62 that show the verdict and break the
  * rule: for loose the script allows the visible ones, no hidden values complete them, and the hidden words are 0; for tight all

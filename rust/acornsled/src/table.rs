@@ -45,10 +45,10 @@ impl Table {
         Ok(self)
     }
 
-    /// The tightest key: a term has a rule exactly where it is of visible quantities and some bound on it is met by all integers
-    /// that satisfy the table, and the rule has the least such bound. Two tables with one n and one hidden set have the same
-    /// tightest key exactly when they allow the same visible integers. Its bounds may be past
-    /// [`script_bound`](crate::limits::script_bound); where none is, it is accepted as a script, and equal.
+    /// The tightest key: a term has a rule exactly where it is of visible quantities and some bound on it is met by all
+    /// integers that satisfy the table, and the rule has the least such bound. Two tables with one n and one hidden set, both
+    /// satisfied by some integers, have the same tightest key exactly when they allow the same visible integers. Its bounds may
+    /// be past [`script_bound`](crate::limits::script_bound); where none is, it is accepted as a script, and equal.
     pub fn tight_key(mut self) -> Result<Table, Refusal> {
         let mut workspace = vec![0; TABLE_WORDS];
         done(calls::tight_key(self.quantities, self.hidden, &mut self.words, &mut workspace))?;

@@ -55,7 +55,7 @@ impl Closure {
         (found != FAR).then_some(found / share)
     }
 
-    /// The words of the tightest key with this hidden set, by its definition: a visible term that has a bound has its least one.
+    /// The words of the tightest key with this hidden set, by its definition: each visible term has its least bound, if any.
     pub fn tightest(&self, hidden: u32) -> Vec<i64> {
         let word = |term: Term| match term.names(hidden) {
             true => NO_RULE,

@@ -1,5 +1,5 @@
-//! A sheet's own keys as its script, in the writer's text. Whatever the bounds of the plain one are, it is accepted and equal; the
-//! tightest is where its bounds are a script's, and else refused with 3.
+//! A sheet's own keys as its script, in the writer's text. Whatever the bounds of the plain one are, it is accepted and
+//! equal; the tightest is where its bounds are a script's, and else refused with 3.
 
 use super::check;
 use super::counts::Counts;

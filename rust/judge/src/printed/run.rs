@@ -1,5 +1,5 @@
-//! A whole run over printed answers: random pairs for *mark* and random sheets for *key*, each as it is and damaged; sheets that
-//! perhaps mean the same, for *key*; and printed keys as scripts of their own sheets, for *mark*.
+//! A whole run over printed answers: random pairs for *mark* and random sheets for *key*, each as it is and damaged; sheets
+//! that perhaps mean the same, for *key*; and printed keys as scripts of their own sheets, for *mark*.
 
 use super::alike;
 use super::counts::Counts;

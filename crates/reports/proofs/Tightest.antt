@@ -90,7 +90,7 @@ past-spelled =
       ← up-to-enough 9 3000000000 (omega arith),
       ← up-to-enough 0 1 (omega arith),
       ← up-to-enough 0 2 (omega arith),
-      ← up-to-enough 0 4 (omega arith)
+      ← up-to-enough 0 4 (omega arith),
     )
 
 past-passes : KeyPasses pastScripts

@@ -112,23 +112,24 @@ module _ (hidden : ℕ → Bool) (n : ℕ) (t u : List ℤ) (x : TightKey hidden
 
 -- ---- one meaning, one table
 
--- sheets that the same assignments satisfy have the same tight keys: the rules of a table and those of a text
-pub tight-solutions : (hidden : ℕ → Bool) (n : ℕ) (sheet other : Solutions) (u : List ℤ) → ((σ : Assignment) → sheet σ ↔ other σ) → TightKey hidden n sheet u → TightKey hidden n other u
-tight-solutions hidden n sheet other u a x = record {
+-- a tight key of one sheet is one of another where the same bounds on visible terms are met by all of both
+met-alike : (hidden : ℕ → Bool) (n : ℕ) (sheet other : Solutions) (u : List ℤ)
+    → ((k : ℕ) (c : ℤ) → VisibleAt hidden k → MetByAll sheet k c → MetByAll other k c) → ((k : ℕ) (c : ℤ) → VisibleAt hidden k → MetByAll other k c → MetByAll sheet k c)
+    → TightKey hidden n sheet u → TightKey hidden n other u
+met-alike hidden n sheet other u there back x = record {
   rule = λ k h. (
-    λ p. let r = x .rule k h .0 p in (r .0, record { bound = r .1 .bound; met = there k (r .1 .bound) (r .1 .met) }),
-    λ r. x .rule k h .1 (r .0, record { bound = r .1 .bound; met = back k (r .1 .bound) (r .1 .met) }),
+    λ p. let r = x .rule k h .0 p in (r .0, record { bound = r .1 .bound; met = there k (r .1 .bound) (r .0) (r .1 .met) }),
+    λ r. x .rule k h .1 (r .0, record { bound = r .1 .bound; met = back k (r .1 .bound) (r .0) (r .1 .met) }),
   );
-  least = λ k p. record { met = there k (wordAt u k) (x .least k p .met); least = λ d m. x .least k p .least d (back k d m) };
+  least = λ k p. let i = x .rule k (p .inside) .0 p .0 in
+      record { met = there k (wordAt u k) i (x .least k p .met); least = λ d m. x .least k p .least d (back k d i m) };
   room = x .room;
   words = x .words;
 }
-  where
-    there : (k : ℕ) (c : ℤ) → MetByAll sheet k c → MetByAll other k c
-    there k c m σ s = m σ (a σ .1 s)
 
-    back : (k : ℕ) (c : ℤ) → MetByAll other k c → MetByAll sheet k c
-    back k c m σ s = m σ (a σ .0 s)
+-- so are those of sheets that the same assignments satisfy: the rules of a table and those of a text
+pub tight-solutions : (hidden : ℕ → Bool) (n : ℕ) (sheet other : Solutions) (u : List ℤ) → ((σ : Assignment) → sheet σ ↔ other σ) → TightKey hidden n sheet u → TightKey hidden n other u
+tight-solutions hidden n sheet other u a = met-alike hidden n sheet other u (λ k c i m σ s. m σ (a σ .1 s)) (λ k c i m σ s. m σ (a σ .0 s))
 
 -- a bound on a visible term that all of one sheet meet is met by all of another that allows no more
 alike-met : (hidden : ℕ → Bool) (n : ℕ) (t v : List ℤ) (k : ℕ) (c : ℤ) → VisibleAt hidden k
@@ -137,25 +138,11 @@ alike-met : (hidden : ℕ → Bool) (n : ℕ) (t v : List ℤ) (k : ℕ) (c : �
 alike-met hidden n t v k c i w m σ s =
     let a = w σ (allows-own n hidden v σ s) in visible-meets hidden k c σ (a .hiddens) i (m (joined hidden σ (a .hiddens)) (a .complete))
 
--- so a tight key of one sheet is one of each that allows the same
+-- so are those of sheets that allow the same
 pub alike-tight : (hidden : ℕ → Bool) (n : ℕ) (t v u : List ℤ) → AllowAlike hidden (Satisfies n t) (Satisfies n v) → TightKey hidden n (Satisfies n t) u
     → TightKey hidden n (Satisfies n v) u
-alike-tight hidden n t v u w x = record {
-  rule = λ k h. (
-    λ p. let r = x .rule k h .0 p in (r .0, record { bound = r .1 .bound; met = there k (r .0) (r .1 .bound) (r .1 .met) }),
-    λ r. x .rule k h .1 (r .0, record { bound = r .1 .bound; met = back k (r .0) (r .1 .bound) (r .1 .met) }),
-  );
-  least = λ k p. let i = x .rule k (p .inside) .0 p .0 in
-      record { met = there k i (wordAt u k) (x .least k p .met); least = λ d m. x .least k p .least d (back k i d m) };
-  room = x .room;
-  words = x .words;
-}
-  where
-    there : (k : ℕ) → VisibleAt hidden k → (c : ℤ) → MetByAll (Satisfies n t) k c → MetByAll (Satisfies n v) k c
-    there k i c = alike-met hidden n t v k c i (λ σ a. w σ .1 a)
-
-    back : (k : ℕ) → VisibleAt hidden k → (c : ℤ) → MetByAll (Satisfies n v) k c → MetByAll (Satisfies n t) k c
-    back k i c = alike-met hidden n v t k c i (λ σ a. w σ .0 a)
+alike-tight hidden n t v u w =
+    met-alike hidden n (Satisfies n t) (Satisfies n v) u (λ k c i. alike-met hidden n t v k c i (λ σ a. w σ .1 a)) (λ k c i. alike-met hidden n v t k c i (λ σ a. w σ .0 a))
 
 module _ (hidden : ℕ → Bool) (n : ℕ) (t u v w : List ℤ) (x : TightKey hidden n (Satisfies n t) u) (y : TightKey hidden n (Satisfies n v) w) where
   -- sheets that allow the same have one tight key,
@@ -175,5 +162,5 @@ module _ (hidden : ℕ → Bool) (n : ℕ) (t u v w : List ℤ) (x : TightKey hi
   tight-same f g s r = (
     tight-alike,
     λ e. let same = front-same n w u (y .room) e in
-    alike-same f g s r (λ σ. (same-satisfies n u w σ (same-back n w u same), same-satisfies n w u σ same)),
+        alike-same f g s r (λ σ. (same-satisfies n u w σ (same-back n w u same), same-satisfies n w u σ same)),
   )

@@ -95,8 +95,8 @@ uint32_t acornsled_write(size_t n, uint32_t hidden, const int64_t *table, size_t
                          size_t out_length, size_t *value);
 
 /*
- * Makes the key of a sheet: 0, or 1, 3, 5, 6. The workspace needs 2n^2 words. With 0 the table's first 2n^2 words have become the key,
- * and the workspace's are free. The call takes some 27 KiB of the stack.
+ * Makes the plain key of a sheet, by document 01's steps: 0, or 1, 3, 5, 6. The workspace needs 2n^2 words. With 0 the table's
+ * first 2n^2 words have become the key, and the workspace's are free. The call takes some 19 KiB of the stack.
  */
 uint32_t acornsled_key(size_t n, uint32_t hidden, int64_t *table, size_t table_length, int64_t *workspace,
                        size_t workspace_length, size_t *value);
@@ -105,15 +105,16 @@ uint32_t acornsled_key(size_t n, uint32_t hidden, int64_t *table, size_t table_l
  * Makes the tightest key of a sheet: 0, or 1, 3, 5, 6, each as acornsled_key answers it, with the same workspace. With 0 the
  * table's first 2n^2 words have become that key: a term has a rule exactly when it is of visible quantities and some bound on
  * it is met by all integers that satisfy the sheet, and the rule has the least such bound. Two sheets with one n and one
- * hidden set that are answered 0 get the same words exactly when they allow the same visible integers. The program key prints
- * this key; marking takes the rule of a loose verdict from the one that acornsled_key makes.
+ * hidden set that are answered 0 get the same words exactly when they allow the same visible integers. Given to the call again
+ * the key stays as it is, where its bounds are in a sheet's limits; else that is 3. The program key prints this key; marking
+ * takes the rule of a loose verdict from the one that acornsled_key makes.
  */
 uint32_t acornsled_tight_key(size_t n, uint32_t hidden, int64_t *table, size_t table_length, int64_t *workspace,
                              size_t workspace_length, size_t *value);
 
 /*
- * Finds an assignment of a sheet: 0, or 1, 3, 5, 6. The workspace needs 2n^2 words and `values` n. With 0 the first n words of `values`
- * are integers from -2^62 to 2^62 that satisfy the table, and the workspace's first 2n^2 words are free.
+ * Finds an assignment of a sheet: 0, or 1, 3, 5, 6. The workspace needs 2n^2 words and `values` n. With 0 the first n words of
+ * `values` are integers from -2^62 to 2^62 that satisfy the table, and the workspace's first 2n^2 words are free.
  */
 uint32_t acornsled_assignment(size_t n, const int64_t *table, size_t table_length, int64_t *workspace,
                               size_t workspace_length, int64_t *values, size_t values_length, size_t *value);

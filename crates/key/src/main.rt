@@ -1,4 +1,4 @@
-// The program *key*: the text of a sheet from standard input, and to standard output the text of its key, or the refusal.
+// The program *key*: the text of a sheet from standard input, and to standard output the text of its tightest key, or the refusal.
 use reports::key;
 use rules::sheet::Sheet;
 

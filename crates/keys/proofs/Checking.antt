@@ -28,7 +28,7 @@ use Rattle.tables.proofs.Sizes.{serves-sized, serves-tells, size-known}
 use Rattle.tables.proofs.Refusing.{Tied, tied-done, tied-more, Before, before-none, before-more}
 use Rattle.tables.specs.Replies.{check}
 use Rattle.elimination.specs.Hiding.{every}
-use Rattle.keys.specs.Keys.{refuted, boundsInLimit, lentChecks, keyReply, assignmentReply}
+use Rattle.keys.specs.Keys.{refuted, boundsInLimit, lentChecks, keyChecks, keyReply, assignmentReply}
 use Rattle.keys.specs.Inner.{Fits, KeyChecked, AssignmentChecked}
 use Rattle.keys.specs.Meaning.{NumbersWithin, keyNeeds, assignmentNeeds}
 use Rattle.keys.proofs.Several.{refuted-false}
@@ -117,12 +117,12 @@ lent-limit paper n set w m limit t r e d l i = bounds-test paper n set m limit t
 
 -- and where its words are in the limit, none is above the no-rule word
 pub lent-held : (n w m : ℕ) (limit : ℤ) (t : List ℤ) (r : Bool) → lentChecks n (length t) w Done ≡ Done → m ≡ tableSize n → InLimit m limit t r → r ≡ true → NoneAbove (blockStart n) t
-lent-held n w m limit t r e d i c = rw (size-known n m (lent-tells n (length t) w e .0 .most) d) at (i .held c)
+lent-held n w m limit t r e d i c = rw (size-known n m (lent-tells n (length t) w e .0 .most) d) at (i .words c)
 
 -- ---- the calls are refused by the first need that is not met
 
 pub key-tied : (n set : ℕ) (t : List ℤ) (w : ℕ) → Tied (keyNeeds n set t w) (keyReply n set t w)
-unfolding keyReply
+unfolding keyReply keyChecks
 key-tied n set t w =
     lent-tied n (length t) w _ _ (λ s.
     tied-more _ _ _ _ _ (numbers n set t) (λ m.
@@ -138,19 +138,33 @@ assignment-tied n t w v =
 
 -- ---- at each check of the key call
 
--- a refusal that is the call's reply
-key-stops : (n set : ℕ) (t : List ℤ) (w : ℕ) (f : Refusal) → Refused f ≡ keyReply n set t w → KeyChecked n set t w (Refused f)
-key-stops n set t w f e = record { stands = λ g d. e; passes = λ d. absurd (refused-done d); held = λ d. absurd (refused-done d) }
+-- a refusal
+key-stops : (n set : ℕ) (t : List ℤ) (w : ℕ) (f : Refusal) → Refused f ≡ keyChecks n set t w Done → KeyChecked n set t w (Refused f)
+key-stops n set t w f e = record { reply = e; passes = λ d. absurd (refused-done d); words = λ d. absurd (refused-done d) }
 
 module _ (n set : ℕ) (t : List ℤ) (w : ℕ) where
+  -- is the call's reply
+  pub key-stands : (r : Reply) (f : Refusal) → r ≡ keyChecks n set t w Done → r ≡ Refused f → r ≡ keyReply n set t w
+  unfolding keyReply keyChecks lentChecks
+  key-stands r f e d = d ∙ sym (before .stands f (sym e ∙ d) _)
+    where
+      numbers-checked : Reply → Reply
+      numbers-checked next = check (setWithin n set && boundsInLimit Sheet n set t) (OutOfLimit 0) next
+
+      before : Before (λ next. check (serves n (length t)) Size (check (leb (blockStart n) w) (TooShort (blockStart n)) (numbers-checked next)))
+      before =
+          before-more (serves n (length t)) Size (λ next. check (leb (blockStart n) w) (TooShort (blockStart n)) (numbers-checked next))
+          (before-more (leb (blockStart n) w) (TooShort (blockStart n)) numbers-checked
+          (before-more (setWithin n set && boundsInLimit Sheet n set t) (OutOfLimit 0) (λ next. next) before-none))
+
   pub key-lent : (r : Reply) (f : Refusal) → r ≡ lentChecks n (length t) w Done → r ≡ Refused f → KeyChecked n set t w r
-  unfolding keyReply
+  unfolding keyChecks
   key-lent r f e d = rw d (key-stops n set t w f (sym (lent-before n (length t) w .stands f (sym e ∙ d) _)))
 
   module _ (e : lentChecks n (length t) w Done ≡ Done) where
-    -- the reply past them
-    key-past : keyReply n set t w ≡ check (setWithin n set && boundsInLimit Sheet n set t) (OutOfLimit 0) (check (not (refuted n t)) NoAssignment Done)
-    unfolding keyReply
+    -- the checks past them
+    key-past : keyChecks n set t w Done ≡ check (setWithin n set && boundsInLimit Sheet n set t) (OutOfLimit 0) Done
+    unfolding keyChecks
     key-past = lent-before n (length t) w .goes-on e _
 
     pub key-set : setWithin n set ≡ false → KeyChecked n set t w (Refused (OutOfLimit 0))
@@ -161,9 +175,9 @@ module _ (n set : ℕ) (t : List ℤ) (w : ℕ) where
 
     pub key-passes : setWithin n set ≡ true → boundsInLimit Sheet n set t ≡ true → NoneAbove (blockStart n) t → KeyChecked n set t w Done
     key-passes f i a = record {
-      stands = λ g c. absurd (refused-done (sym c));
+      reply = sym (rw (key-past, f, i));
       passes = λ c. let l = lent-tells n (length t) w e in (l .0, (l .1, ((f, bounds Sheet n set t .0 i), tt)));
-      held = λ c. a;
+      words = λ c. a;
     }
 
 -- ---- and of the assignment call

@@ -25,7 +25,7 @@ use Rattle.tables.proofs.Refusing.{tied-decided}
 use Rattle.keys.specs.Meaning.{keyNeedsThen, assignmentNeedsThen}
 use Rattle.tables.specs.Replies.{replyNumber, check}
 use Rattle.elimination.specs.Hiding.{every}
-use Rattle.keys.specs.Keys.{keyOf, refuted, lentChecks, keyReply, assignmentReply, freesWorkspace}
+use Rattle.keys.specs.Keys.{keyOf, refuted, lentChecks, keyChecks, keyReply, assignmentReply, freesWorkspace}
 use Rattle.keys.specs.Inner.{Fits, RestFits, Decided, Reduced, Filled, KeyTried}
 use Rattle.keys.specs.Promises.{KeyMade, KeyedAs, Keyed, AssignmentFound, Assigned}
 use Rattle.keys.proofs.Several.{rest-key, key-exact, key-visible, refuted-false}
@@ -55,7 +55,7 @@ five-none n t r e d = (go (refuted n t) refl, λ u. rw (e, d .1 u))
 
 -- its reply past the checks before 5
 pub key-late : (n set : ℕ) (t : List ℤ) (w : ℕ) → AllMet (keyNeedsThen n set t w passed) → keyReply n set t w ≡ check (not (refuted n t)) NoAssignment Done
-unfolding keyReply lentChecks
+unfolding keyReply keyChecks lentChecks
 key-late n set t w (s, (l, (m, u))) = rw (serves-sized n (length t) .1 s, le-leb (blockStart n) w l, m .0, bounds Sheet n set t .1 (m .1))
 
 -- and then sums fit

@@ -15,7 +15,7 @@ use Rattle.tables.specs.Places.{ruleAt, findPlace}
 use Rattle.tables.specs.Tables.{tableSize, serves, putAt, putHalved, putRule, putAll, tableOf, cleared, inLimit, wordsInLimit}
 use Rattle.tables.specs.Replies.{replyNumber}
 use Rattle.elimination.specs.Hiding.{withSum, withHalf, bareBelow, pairWord, onOne, onTwo, liveAt, pairing, anyBare, paired, contradicts, eliminated}
-use Rattle.keys.specs.Keys.{hideUpTo, keyOf, refutedUpTo, refuted, lentChecks, keyReply}
+use Rattle.keys.specs.Keys.{hideUpTo, keyOf, refutedUpTo, refuted, lentChecks, keyChecks, keyReply}
 
 -- a sheet of n quantities with its hidden set, bit q - 1 for quantity q, and its rules as written
 pub record Case : Type 0 where
@@ -59,5 +59,5 @@ unfolding
     blockStart placeOfOne placeOfPair placeOfTwo findTwo blockUpTo blockOf offsetOf isOne higherAt lowerAt
     names ruleOf halvedOf ruleAt findPlace tableSize serves putAt putHalved putRule putAll cleared inLimit wordsInLimit
     withSum withHalf bareBelow pairWord onOne onTwo liveAt pairing anyBare paired contradicts eliminated
-    boundLimit hideUpTo keyOf refutedUpTo refuted lentChecks keyReply
+    boundLimit hideUpTo keyOf refutedUpTo refuted lentChecks keyChecks keyReply
 steps = tt

@@ -29,7 +29,7 @@ use Rattle.elimination.specs.Magnitude.{valueLimit, Unnamed}
 use Rattle.elimination.specs.Inner.{among, Listed, Ready}
 use Rattle.keys.specs.declared.live.Part.{Part}
 use Rattle.keys.specs.declared.live.Part.the-variants.{Inside, Outside}
-use Rattle.keys.specs.Keys.{hideUpTo, keyOf, refuted, keyReply, assignmentReply}
+use Rattle.keys.specs.Keys.{hideUpTo, keyOf, refuted, keyChecks, assignmentReply}
 use Rattle.keys.specs.Meaning.{keyNeedsThen, assignmentNeedsThen}
 
 -- ---- the quantities that are live
@@ -226,17 +226,18 @@ pub record SetHidden (n set : ℕ) (before : List ℤ) (r : Bool) (after : List 
   pub lent : Lent (blockStart n) true before after
 
 -- whether no integers satisfy the sheet; where some do, its table is a kind of key
-pub record KeyTried (steps : (ℕ → Bool) → ℕ → List ℤ → List ℤ) (n set : ℕ) (table workspace : List ℤ) (r : Bool) (table' workspace' : List ℤ) : Type 0 where
+pub record KeyTried (keyBy : (ℕ → Bool) → ℕ → List ℤ → List ℤ) (n set : ℕ) (table workspace : List ℤ) (r : Bool) (table' workspace' : List ℤ) : Type 0 where
   pub reply : r ≡ refuted n table
-  pub words : table' ≡ cond r table (steps (hiddenIn set) n table)
+  pub words : table' ≡ cond r table (keyBy (hiddenIn set) n table)
   pub lent : Lent (blockStart n) true workspace workspace'
 
 -- ---- the calls' checks before 5: a refusal is the call's reply, and where they are done the needs are met
 
 pub record KeyChecked (n set : ℕ) (t : List ℤ) (w : ℕ) (r : Reply) : Type 0 where
-  pub stands : (f : Refusal) → r ≡ Refused f → r ≡ keyReply n set t w
+  pub reply : r ≡ keyChecks n set t w Done
   pub passes : r ≡ Done → AllMet (keyNeedsThen n set t w passed)
-  pub held : r ≡ Done → NoneAbove (blockStart n) t
+  -- every word was looked at, and a word of 64 bits is not above the no-rule word
+  pub words : r ≡ Done → NoneAbove (blockStart n) t
 
 pub record AssignmentChecked (n : ℕ) (t : List ℤ) (w v : ℕ) (r : Reply) : Type 0 where
   pub stands : (f : Refusal) → r ≡ Refused f → r ≡ assignmentReply n t w v

@@ -46,12 +46,13 @@ boundsInLimit paper n set t = wordsInLimit (blockStart n) (pos (boundLimit paper
 unfoldable pub lentChecks : ℕ → ℕ → ℕ → Reply → Reply
 lentChecks n table workspace next = check (serves n table) Size (check (leb (blockStart n) workspace) (TooShort (blockStart n)) next)
 
--- the key call's reply: 1, 6, 3, 5
+-- the key call's checks: 1, 6, 3, and what follows
+unfoldable pub keyChecks : ℕ → ℕ → List ℤ → ℕ → Reply → Reply
+keyChecks n set t workspace next = lentChecks n (length t) workspace (check (setWithin n set && boundsInLimit Sheet n set t) (OutOfLimit 0) next)
+
+-- its reply: these, and 5
 unfoldable pub keyReply : ℕ → ℕ → List ℤ → ℕ → Reply
-keyReply n set t workspace =
-    lentChecks n (length t) workspace
-    (check (setWithin n set && boundsInLimit Sheet n set t) (OutOfLimit 0)
-    (check (not (refuted n t)) NoAssignment Done))
+keyReply n set t workspace = keyChecks n set t workspace (check (not (refuted n t)) NoAssignment Done)
 
 -- the assignment call's: 1, 6 for the workspace, 6 for the assignment, 3, 5. It is lent no hidden set
 unfoldable pub assignmentReply : ℕ → List ℤ → ℕ → ℕ → Reply

@@ -45,6 +45,12 @@ assignmentNeedsThen n t w v rest =
 abbrev pub assignmentNeeds : ℕ → List ℤ → ℕ → ℕ → Needs
 assignmentNeeds n t w v = assignmentNeedsThen n t w v (Satisfiable n t or NoAssignment then passed)
 
+-- a sheet's table that the calls which make a key accept, with a workspace long enough
+pub record SheetAccepted (n set : ℕ) (sheet : List ℤ) : Type 0 where
+  pub sized : TableSized n (length sheet)
+  pub within : NumbersWithin n set sheet
+  pub some : Satisfiable n sheet
+
 -- ---- several quantities hidden
 
 -- 'Several are hidden in increasing number': the tables in between, each the one before with the next quantity hidden by sums of rules, where it is to be; none of

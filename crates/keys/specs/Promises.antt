@@ -1,4 +1,4 @@
--- What the two calls promise: the reply and every lent word, for every input, and demand 2's meaning.
+-- What the two calls, and others that make a key, promise: the reply and every lent word, for every input, and demand 2's meaning.
 use mathlib.Core.Bool.{Bool, cond}
 use mathlib.Core.Path.{_≡_}
 use mathlib.Core.Logic.{_↔_}
@@ -29,17 +29,18 @@ pub record KeyMade (n set : ℕ) (sheet key : List ℤ) : Type 0 where
   pub steps : HiddenInTurn (hiddenIn set) n sheet key
   pub like : KeyLike n set key
 
--- a call on n quantities and a hidden set that makes a kind of key: refused by the first need that is not met, as it is returned, and else the table is that key
-pub record KeyedAs (steps : (ℕ → Bool) → ℕ → List ℤ → List ℤ) (Made : ℕ → ℕ → List ℤ → List ℤ → Type 0) (n set : ℕ) (table workspace : List ℤ) (r : Reply)
+-- a call on n quantities and a hidden set that makes a kind of key, given by its steps and by what it is: refused by the first need that is not met, as it is returned, and else the table is
+-- that key
+pub record KeyedAs (keyBy : (ℕ → Bool) → ℕ → List ℤ → List ℤ) (IsKey : ℕ → ℕ → List ℤ → List ℤ → Type 0) (n set : ℕ) (table workspace : List ℤ) (r : Reply)
     (table' workspace' : List ℤ) : Type 0 where
   pub reply : r ≡ keyReply n set table (length workspace)
   pub decided : DecidedBy (keyNeeds n set table (length workspace)) (λ f. replyReturned r ≡ refusedAs f) (replyNumber r ≡ 0)
   -- demand 2: past the checks before it, 5 exactly when no integers satisfy the sheet
   pub none : AllMet (keyNeedsThen n set table (length workspace) passed) → (replyNumber r ≡ 5) ↔ Unsatisfiable n table
-  pub words : table' ≡ cond (isDone r) (steps (hiddenIn set) n table) table
+  pub words : table' ≡ cond (isDone r) (keyBy (hiddenIn set) n table) table
   pub rest : drop (blockStart n) table' ≡ drop (blockStart n) table
   pub lent : Lent (blockStart n) (freesWorkspace r) workspace workspace'
-  pub made : replyNumber r ≡ 0 → Made n set table table'
+  pub made : replyNumber r ≡ 0 → IsKey n set table table'
 
 -- the key call makes document 01's
 abbrev pub Keyed : ℕ → ℕ → List ℤ → List ℤ → Reply → List ℤ → List ℤ → Type 0

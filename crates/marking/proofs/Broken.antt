@@ -43,6 +43,7 @@ use Rattle.keys.proofs.ReadBack.{read-length, read-rest, read-others, read-sati
 use Rattle.keys.proofs.Puts.{put-lowers, opposite-hasPlace}
 use Rattle.keys.proofs.Parts.{PartBack, front-word, back-word}
 use Rattle.tightening.specs.Promises.{Tightened}
+use Rattle.tightening.proofs.Least.{bound-least}
 use Rattle.tightening.specs.Below.{LivePlace, FirstBelow}
 use Rattle.marking.specs.Meaning.{workspaceSize}
 use Rattle.marking.specs.Inner.{FirstSeen, LeastBounds, FrontFound, ScriptBreakable, ScriptBroken, SheetBreakable, SheetShown}
@@ -232,8 +233,8 @@ module _ (n m : ℕ) (live : List ℕ) (t w u : List ℤ) (f : Fits n t) (a : Li
       kept = λ h. clash refl h;
     };
     least = λ q k h c j. (
-      λ x. same-breaks n u t (ruleAt k c) back (p .least q k h c j .0 x),
-      λ x. p .least q k h c j .1 (same-breaks n t u (ruleAt k c) copy-same x),
+      λ x. same-breaks n u t (ruleAt k c) back (bound-least n u k (wordAt w' k) c (p .bounds q k h) j .0 x),
+      λ x. bound-least n u k (wordAt w' k) c (p .bounds q k h) j .1 (same-breaks n t u (ruleAt k c) copy-same x),
     );
   }
     where

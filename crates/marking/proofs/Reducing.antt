@@ -29,6 +29,7 @@ use Rattle.keys.proofs.Fitting.{set-ample, hide-ample}
 use Rattle.keys.proofs.Deciding.{turns-some, decides-refuted}
 use Rattle.keys.proofs.Parts.{PartBack, front-word, back-word}
 use Rattle.tightening.specs.Promises.{Tightened}
+use Rattle.tightening.proofs.Least.{bound-least}
 use Rattle.marking.specs.Meaning.{workspaceSize}
 use Rattle.marking.specs.Inner.{VisibleListed, SheetReducible, SheetReduced}
 use Rattle.keys.proofs.Visible.{visible-unnamed}
@@ -131,8 +132,8 @@ module _ (n set m : ℕ) (visible : List ℕ) (sheet w u : List ℤ) (p : SheetR
         reply = decides-refuted n sheet r (p .fits) none some;
         front = λ f. same-front (hiddenIn set) n sheet x z (λ i h. front-word (blockStart n) y z (g .front) i h ∙ k .front i h) turns;
         least = λ f i h a j. (
-          λ l. same-breaks n part key (ruleAt i a) back (t .least f i h a j .0 (rw (← g .is) at l)),
-          λ l. rw (← g .is) (t .least f i h a j .1 (same-breaks n key part (ruleAt i a) same l)),
+          λ l. same-breaks n part key (ruleAt i a) back (bound-least n part i (wordAt part' i) a (t .bounds f i h) j .0 (rw (← g .is) at l)),
+          λ l. rw (← g .is) (bound-least n part i (wordAt part' i) a (t .bounds f i h) j .1 (same-breaks n key part (ruleAt i a) same l)),
         );
         lent = lent-again (workspaceSize n) true true w y z (lent-again (workspaceSize n) true true w x y reduced-lent (k .lent)) (part-lent n y part part' z g (t .lent));
       }

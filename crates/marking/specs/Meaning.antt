@@ -19,7 +19,7 @@ use Rattle.rules.specs.Meaning.{Assignment, Meets, hasTerm}
 use Rattle.tables.specs.Meaning.{TableSized, HoldsRule, ruleIn, Satisfies, Satisfiable, Unsatisfiable, Solutions, Completes, SheetAllows, ScriptAllows, ScriptForbids, Breaks, NamesVisible, SameVisible, assignmentOf, BoundsWithin}
 use Rattle.elimination.specs.Magnitude.{ValuesWithin}
 use Rattle.keys.specs.Keys.{keyOf}
-use Rattle.keys.specs.Meaning.{NumbersWithin}
+use Rattle.keys.specs.Meaning.{NumbersWithin, SheetAccepted}
 use Rattle.keys.specs.Promises.{KeyMade}
 use Rattle.tightening.specs.Meaning.{TightKey}
 use Rattle.marking.specs.declared.verdict.Verdict.the-variants.{Loose, Tight}
@@ -139,16 +139,15 @@ markNeeds n set sheet script w v =
 
 -- ---- a sheet's own key
 
--- a table is a key of a sheet with which a script may be answered: the plain one always, and the tight one where its bounds are in a script's limit (document 02, [2]). The key call replaces the
--- table that it is lent, so it is lent a copy: the plain key's first words are those that it leaves there
-pub data AnswersAs (n set : ℕ) (sheet key : List ℤ) : Type 0 where
-  plain : (copy : List ℤ) → take (blockStart n) copy ≡ take (blockStart n) sheet → take (blockStart n) key ≡ take (blockStart n) (keyOf (hiddenIn set) n copy) → AnswersAs n set sheet key
-  tight : TightKey (hiddenIn set) n (Satisfies n sheet) key → BoundsWithin Script n set key → AnswersAs n set sheet key
+-- a table is a key of a sheet that is a script of it: the plain one always, and the tight one where its bounds are in a script's limit (document 02, [2])
+pub data KeyOfSheet (n set : ℕ) (sheet key : List ℤ) : Type 0 where
+  plain : take (blockStart n) key ≡ take (blockStart n) (keyOf (hiddenIn set) n sheet) → KeyOfSheet n set sheet key
+  tight : TightKey (hiddenIn set) n (Satisfies n sheet) key → BoundsWithin Script n set key → KeyOfSheet n set sheet key
 
--- the script is such a key of its sheet, one that the key call accepts
+-- the script is such a key of its sheet. The calls replace the table that they are lent, so they are lent a copy of the sheet's first words, of which the script is the key
 pub record OwnKey (n set : ℕ) (sheet script : List ℤ) : Type 0 where
-  pub sized : TableSized n (length sheet)
+  pub accepted : SheetAccepted n set sheet
   pub room : blockStart n ≤ length script
-  pub within : NumbersWithin n set sheet
-  pub some : Satisfiable n sheet
-  pub key : AnswersAs n set sheet script
+  pub copy : List ℤ
+  pub copied : take (blockStart n) copy ≡ take (blockStart n) sheet
+  pub key : KeyOfSheet n set copy script

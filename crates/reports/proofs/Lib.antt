@@ -4,6 +4,7 @@ pub mod RefusalLengths
 pub mod PrintedReplies
 pub mod KeyTexts
 pub mod TightTexts
+pub mod TightShort
 pub mod Reports
 pub mod TableReports
 pub mod SheetTables

@@ -32,6 +32,7 @@ use Rattle.scripts.proofs.Sheets.{FineSheet, fine-table, sheet-refuted, sheet-u
 use Rattle.reports.proofs.RefusalLengths.{refusal-width}
 use Rattle.reports.proofs.PrintedReplies.{refusal-same, fails-number, text-unlike}
 use Rattle.reports.proofs.TightTexts.{tightIn, tight-short, tight-text, tight-own, texts-same}
+use Rattle.reports.proofs.TightShort.{printed-short, printed-past}
 
 -- ---- of a table
 
@@ -138,11 +139,13 @@ printed {s} {out} {text} {end} {out'} e w =
       bytes = bytes;
       room = room;
       front = sym (length-take-le end out' room);
-      refused = refused-exactly s;
-      five = five-exactly s;
+      refused = λ f d. rw text (refused-exactly s f d);
+      five = rw text (five-exactly s);
       some = λ c p σ m. rw text (report-some s c p σ m);
       accepted = (λ h. rw text (report-key-text s (λ f d. h f (text ∙ d))), key-text-other s (take end out'));
       same = λ k s₂ text₂ k₂. texts-same s (take end out') s₂ text₂ k k₂;
+      short = printed-short s (take end out');
+      past = printed-past s (take end out');
       own-key = tight-own s (take end out');
       own-script = λ k w lent enough. own-reply s (take end out') lent (tight-own s (take end out') k w) enough;
     }

@@ -8,6 +8,7 @@ use Prim.Native.Nat.{ℕ, _≤_, _<_, _^_}
 use native.Mathlib.Omega.{arith}
 use lib.IntN.{ℤ, pos}
 use lib.ListN.{length, take}
+use lib.Seq.{take-all}
 use Rattle.integers.specs.Bound.{Within}
 use Rattle.integers.proofs.Parts.{positivePart, negativePart, word-of, ltZ-true}
 use Rattle.integers.proofs.Within.{within-to}
@@ -32,6 +33,7 @@ use Rattle.tightening.specs.Promises.{TightKeyMade}
 use Rattle.tightening.proofs.Tight.{tight-visible, tight-solutions, tight-alike}
 use Rattle.tightening.proofs.Tight.{alike-same as tables-alike}
 use Rattle.tightening.proofs.TightSteps.{tight-length, tightened-within}
+use Rattle.tightening.proofs.Again.{tight-stays}
 use Rattle.tightening.proofs.TightMaking.{tight-made}
 use Rattle.reading.specs.Texts.{Contents, sheetText}
 use Rattle.reading.specs.Meaning.{Reads, rulesOf}
@@ -63,7 +65,7 @@ module _ (c : Contents) (s : FineSheet c) where
   none-above : NoneAbove (blockStart (c .count)) (tableIn c)
   none-above k h = rw (s .held .smallest k h) (smallest-most k (writtenRules (c .written)))
 
-  within : WordsWithin (blockStart (c .count)) (pos (2 ^ 63)) (tightIn c)
+  pub within : WordsWithin (blockStart (c .count)) (pos (2 ^ 63)) (tightIn c)
   unfolding tightKeyOf
   within =
       let key = keyOf (hiddenIn (setIn c)) (c .count) (tableIn c) in
@@ -87,7 +89,7 @@ module _ (c : Contents) (s : FineSheet c) where
     some : Satisfiable (c .count) (tableIn c)
     some = record { assignment = σ₀; satisfies = s .held .meaning σ₀ .1 m }
 
-    made : TightKeyMade (c .count) (setIn c) (tableIn c) (tightIn c)
+    pub made : TightKeyMade (c .count) (setIn c) (tableIn c) (tightIn c)
     made = tight-made (c .count) (setIn c) (tableIn c) (s .most) (omega (arith, s .size)) (s .bounds) none-above some
 
     pub tight-text : KeyText c (writtenText (c .count) (setIn c) (tightIn c))
@@ -99,6 +101,7 @@ module _ (c : Contents) (s : FineSheet c) where
       visible = λ q h. table-spares (c .count) (hiddenIn (setIn c)) (tightIn c)
           (tight-visible (hiddenIn (setIn c)) (c .count) (Satisfies (c .count) (tableIn c)) (tightIn c) (made .tight)) q (s .members q ∙ h);
       meaning = key-rules c s (tightIn c) tight-room (made .meaning);
+      stays = tight-stays (hiddenIn (setIn c)) (c .count) (Satisfies (c .count) (tableIn c)) (tightIn c) (made .tight);
     }
 
 -- ---- as a script
@@ -115,7 +118,9 @@ tight-own s text k w =
       satisfied = k .satisfied;
       key = k .is .key;
       room = k .is .tight .room;
-      answers = tight
+      table = tableIn c;
+      held = take-all (blockStart (c .count)) (tableIn c) (omega (arith, f .size));
+      is = tight
           (tight-solutions (hiddenIn (setIn c)) (c .count) (rulesOf c) (Satisfies (c .count) (tableIn c)) (k .is .key) (alike-back (f .held .meaning)) (k .is .tight)) w;
       text = k .is .written;
     }

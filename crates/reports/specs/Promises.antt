@@ -5,11 +5,12 @@ use mathlib.Core.List.{List, [], _++_}
 use Prim.Native.Nat.{ℕ, _≤_}
 use lib.IntN.{ℤ}
 use lib.ListN.{length, take, drop}
+use Rattle.rules.specs.declared.paper.Paper.{Paper}
 use Rattle.rules.specs.declared.paper.Paper.the-variants.{Sheet, Script}
 use Rattle.rules.specs.declared.refusal.Refusal.{Refusal}
 use Rattle.rules.specs.declared.refusal.Refusal.the-variants.{NoAssignment}
 use Rattle.rules.specs.Hidden.{hiddenIn}
-use Rattle.rules.specs.Limits.{maxQuantities}
+use Rattle.rules.specs.Limits.{maxQuantities, maxText}
 use Rattle.rules.specs.Meaning.{Assignment}
 use Rattle.rules.specs.Refusal.{refusalNumber}
 use Rattle.tables.specs.Meaning.{BoundsWithin}
@@ -18,6 +19,7 @@ use Rattle.marking.specs.declared.verdict.Verdict.{Verdict}
 use Rattle.marking.specs.declared.verdict.Verdict.the-variants.{Equal}
 use Rattle.reading.specs.Texts.{Contents}
 use Rattle.reading.specs.Meaning.{Reads, rulesOf, FailsFor}
+use Rattle.writing.specs.Promises.{PastLimit, RefusedPast}
 use Rattle.scripts.specs.declared.room.Lengths.{Lengths}
 use Rattle.scripts.specs.declared.reply.Subject.{Subject}
 use Rattle.scripts.specs.declared.reply.TextMarking.{TextMarking}
@@ -38,15 +40,19 @@ pub record KeyPrinted (s : List ℕ) (out : List ℕ) (end : ℕ) (out' : List �
   -- so many bytes are there; both follow from the above, and are stated so that the proof that Rattle makes of `&out[..end]` finds them
   pub room : end ≤ length out'
   pub front : end ≡ length (take end out')
-  pub refused : (f : Refusal) → (f ≡ NoAssignment → ⊥) → (keyReport s ≡ refusalText f) ↔ FailsFor Sheet s f
-  pub five : (keyReport s ≡ refusalText NoAssignment) ↔ Unmet s
+  pub refused : (f : Refusal) → (f ≡ NoAssignment → ⊥) → (take end out' ≡ refusalText f) ↔ FailsFor Sheet s f
+  pub five : (take end out' ≡ refusalText NoAssignment) ↔ Unmet s
   pub some : (c : Contents) → Reads Sheet s c → (σ : Assignment) → rulesOf c σ → KeyText c (take end out')
   -- what is no refusal's text is that of the sheet's tightest key
   pub accepted : ((f : Refusal) → take end out' ≡ refusalText f → ⊥) ↔ PrintedKey s (take end out')
   -- one meaning, one text: two sheets that some integers satisfy, of equal n and hidden set, allow the same visible integers exactly when their key texts are the same bytes
   pub same : (k : PrintedKey s (take end out')) (s₂ text₂ : List ℕ) (k₂ : PrintedKey s₂ text₂) → k .contents .count ≡ k₂ .contents .count → setIn (k .contents) ≡ setIn (k₂ .contents)
       → AllowAlike (hiddenIn (setIn (k .contents))) (rulesOf (k .contents)) (rulesOf (k₂ .contents)) ↔ (take end out' ≡ text₂)
-  -- where all its bounds lie in a script's range it is one of the sheet's own keys, which are accepted as scripts and found equal; so it is, with the lent words there
+  -- it is never too long for the reader; so where a bound of it is outside the limit of a sheet or a script, it is refused as such with 3, at the line of the first
+  pub short : PrintedKey s (take end out') → length (take end out') ≤ maxText
+  pub past : (k : PrintedKey s (take end out')) (paper : Paper) (i : ℕ) → PastLimit paper (k .contents .count) (setIn (k .contents)) (k .is .key) i
+      → RefusedPast paper (k .contents .count) (setIn (k .contents)) (k .is .key) (take end out')
+  -- where all its bounds lie in a script's range it is one of the sheet's own keys, and marking it against its sheet, with words enough lent, replies equal
   pub own-key : (k : PrintedKey s (take end out')) → BoundsWithin Script (k .contents .count) (setIn (k .contents)) (k .is .key) → OwnKeyText s (take end out')
   pub own-script : (k : PrintedKey s (take end out')) → BoundsWithin Script (k .contents .count) (setIn (k .contents)) (k .is .key)
       → (lent : Lengths) → Room (k .contents .count) lent → textsReply s (take end out') lent ≡ Marked (k .contents .count) Equal

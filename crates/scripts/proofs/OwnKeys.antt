@@ -1,6 +1,6 @@
 -- The text of a sheet's own key, plain or tight, read as its script, is accepted and found equal: every line of it is fine in a script's limit, it is not too long, it names no hidden quantity,
 -- and by demand 2 its rules allow what the sheet allows. Assumes nothing.
-use mathlib.Core.Path.{_≡_, refl, _∙_}
+use mathlib.Core.Path.{_≡_, refl, sym, _∙_}
 use mathlib.Core.Bool.{Bool, true, false, cond}
 use mathlib.Core.List.{List, [], _∷_}
 use Prim.Native.Nat.{ℕ, suc, _+_, _≤_, _<_}
@@ -8,6 +8,7 @@ use native.Mathlib.Nat.{add-zero, zero-add, add-suc, suc-add}
 use native.Mathlib.Omega.{arith}
 use lib.IntN.{ℤ}
 use lib.ListN.{length, take}
+use lib.Seq.{take-all}
 use Rattle.words.specs.Change.{wordAt}
 use Rattle.places.specs.Numbering.{blockStart}
 use Rattle.places.proofs.Numbering.{blockStart-mono}
@@ -18,7 +19,7 @@ use Rattle.rules.specs.Meaning.{Assignment, names}
 use Rattle.tables.specs.declared.reply.Reply.the-variants.{Done}
 use Rattle.tables.specs.Places.{ruleAt}
 use Rattle.tables.specs.Tables.{hasRule}
-use Rattle.tables.specs.Meaning.{HoldsRule, ruleIn, Satisfies, Satisfiable, NamesVisible, NoneNames, KeyLike}
+use Rattle.tables.specs.Meaning.{HoldsRule, ruleIn, Satisfies, NamesVisible, NoneNames, KeyLike}
 use Rattle.tables.proofs.Tests.{clash}
 use Rattle.lines.specs.Spelling.{writtenRules}
 use Rattle.reading.specs.Texts.{Contents}
@@ -29,12 +30,13 @@ use Rattle.writing.proofs.Meanings.{written-rule, table-meaning}
 use Rattle.writing.proofs.Meanings.{front-word as written-word}
 use Rattle.writing.proofs.Back.{key-reads as written-key}
 use Rattle.marking.specs.declared.verdict.Verdict.the-variants.{Equal}
-use Rattle.marking.specs.Meaning.{AllowSame}
+use Rattle.keys.specs.Meaning.{SheetAccepted}
+use Rattle.marking.specs.Meaning.{AllowSame, KeyOfSheet}
 use Rattle.marking.specs.Marking.{verdictOf}
 use Rattle.marking.specs.Inner.{TablesAccepted}
 use Rattle.marking.proofs.Checking.{met-accepted}
 use Rattle.marking.proofs.Demand.{verdict-demand}
-use Rattle.marking.proofs.OwnKeys.{is-equal, answer-like, answer-allows}
+use Rattle.marking.proofs.OwnKeys.{is-equal, answer-like, answer-allows, key-of-copy}
 use Rattle.scripts.specs.declared.room.Lengths.{Lengths}
 use Rattle.scripts.specs.declared.reply.TextMarking.the-variants.{Marked}
 use Rattle.scripts.specs.Meaning.{setIn, tableIn, ownLengths, Matches, Room, OwnKeyText}
@@ -111,11 +113,20 @@ module _ (sheet script : List ℕ) (lent : Lengths) (k : OwnKeyText sheet script
   fine : FineSheet c
   fine = fine-table Sheet c (k .reads .spelled .fine)
 
-  some : Satisfiable (c .count) (tableIn c)
-  some = record { assignment = k .integers; satisfies = fine .held .meaning (k .integers) .1 (k .satisfied) }
+  accepted : SheetAccepted (c .count) (setIn c) (tableIn c)
+  accepted = record {
+    sized = table-sized Sheet c fine;
+    within = (fine .range, fine .bounds);
+    some = record { assignment = k .integers; satisfies = fine .held .meaning (k .integers) .1 (k .satisfied) };
+  }
+
+  own : KeyOfSheet (c .count) (setIn c) (tableIn c) (k .key)
+  own =
+      key-of-copy (c .count) (setIn c) (tableIn c) (k .table) (k .key) (accepted .sized .room)
+      (k .held ∙ sym (take-all (blockStart (c .count)) (tableIn c) (omega (arith, fine .size)))) (k .is)
 
   like : KeyLike (c .count) (setIn c) (k .key)
-  like = answer-like (c .count) (setIn c) (tableIn c) (k .key) (table-sized Sheet c fine) (k .room) (fine .range, fine .bounds) some (k .answers)
+  like = answer-like (c .count) (setIn c) (tableIn c) (k .key) accepted (k .room) own
 
   script-reads : Reads Script script d
   script-reads = rw (k .text) (key-reads c fine (k .key) (k .room) like)
@@ -138,7 +149,7 @@ module _ (sheet script : List ℕ) (lent : Lengths) (k : OwnKeyText sheet script
   own-allows : AllowSame (hiddenIn (setIn c)) (Satisfies (c .count) (tableIn c)) (Satisfies (c .count) (tableIn d))
   own-allows =
       alike-same (hiddenIn (setIn c)) (alike-back (fine .held .meaning)) (alike-back (written .held .meaning)) (key-rules c fine (k .key) (k .room)
-      (answer-allows (c .count) (setIn c) (tableIn c) (k .key) (table-sized Sheet c fine) (k .room) (fine .range, fine .bounds) some (k .answers)))
+      (answer-allows (c .count) (setIn c) (tableIn c) (k .key) accepted (k .room) own))
 
   own-verdict : verdictOf (hiddenIn (setIn c)) (c .count) (tableIn c) (tableIn d) ≡ Equal
   own-verdict = is-equal _ (verdict-demand (c .count) (setIn c) (tableIn c) (tableIn d) (lent .workspace) (lent .values) own-tables .equal .1 own-allows)

@@ -4,7 +4,7 @@ use mathlib.Core.Bool.{true}
 use mathlib.Core.List.{List}
 use Prim.Native.Nat.{ℕ, _≤_}
 use lib.IntN.{ℤ}
-use lib.ListN.{length}
+use lib.ListN.{length, take}
 use Rattle.places.specs.Numbering.{blockStart}
 use Rattle.rules.specs.declared.paper.Paper.the-variants.{Sheet, Script}
 use Rattle.rules.specs.declared.refusal.Refusal.{Refusal}
@@ -19,7 +19,7 @@ use Rattle.lines.specs.Spelling.{writtenRules}
 use Rattle.reading.specs.Texts.{Contents}
 use Rattle.reading.specs.Meaning.{Reads, Readable, rulesOf, FailsFor}
 use Rattle.writing.specs.Writing.{writtenText}
-use Rattle.marking.specs.Meaning.{workspaceSize, AnswersAs}
+use Rattle.marking.specs.Meaning.{workspaceSize, KeyOfSheet}
 use Rattle.scripts.specs.declared.room.Lengths.{Lengths}
 use Rattle.scripts.specs.declared.reply.Subject.{Subject}
 use Rattle.scripts.specs.declared.reply.Subject.the-variants.{Both}
@@ -98,13 +98,16 @@ pub record Room (n : ℕ) (lent : Lengths) : Type 0 where
   pub workspace-room : workspaceSize n ≤ lent .workspace
   pub values-room : n ≤ lent .values
 
--- the script is the writer's text of a key of its sheet, plain or tight, as a table may answer it; the sheet is a fine text whose rules some integers satisfy
+-- the script is the writer's text of a key of its sheet, plain or tight with bounds in a script's limit. The sheet is a fine text whose rules some integers satisfy, and the key is made of a table
+-- that holds these rules in its first words, as reading leaves it
 pub record OwnKeyText (sheet script : List ℕ) : Type 0 where
   pub contents : Contents
   pub reads : Reads Sheet sheet contents
   pub integers : Assignment
   pub satisfied : rulesOf contents integers
+  pub table : List ℤ
+  pub held : take (blockStart (contents .count)) table ≡ tableIn contents
   pub key : List ℤ
   pub room : blockStart (contents .count) ≤ length key
-  pub answers : AnswersAs (contents .count) (setIn contents) (tableIn contents) key
+  pub is : KeyOfSheet (contents .count) (setIn contents) table key
   pub text : script ≡ writtenText (contents .count) (setIn contents) key

@@ -67,8 +67,8 @@ pub record Cleared (n q : ℕ) (before : List ℤ) (r : Reply) (after : List ℤ
 pub record InLimit (m : ℕ) (B : ℤ) (t : List ℤ) (r : Bool) : Type 0 where
   pub reply : r ≡ wordsInLimit m B t
   pub meaning : (r ≡ true) ↔ WordsWithin m B t
-  -- where it is yes, every word was looked at
-  pub held : r ≡ true → NoneAbove m t
+  -- every word was looked at, and a word of 64 bits is not above the no-rule word
+  pub words : r ≡ true → NoneAbove m t
 
 -- the answer whether a rule of a table names a hidden quantity
 pub record HiddenNamed (n : ℕ) (hidden : ℕ → Bool) (t : List ℤ) (r : Bool) : Type 0 where

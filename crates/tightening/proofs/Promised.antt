@@ -19,7 +19,7 @@ use Rattle.tightening.specs.Inner.{AllPaired, Adding}
 use Rattle.tightening.proofs.Pairing.{pair-unnamed}
 use Rattle.tightening.proofs.Growing.{pair-ample}
 use Rattle.tightening.proofs.Keeping.{strengthen-length, strengthen-rest}
-use Rattle.tightening.proofs.Least.{clash-refuted, bound-least, tightened-least}
+use Rattle.tightening.proofs.Least.{clash-refuted, tightened-least}
 
 -- the words of a table paired without a contradiction add
 pub clear-adding : (n : ℕ) (t u : List ℤ) → Fits n t → AllPaired n t false u → Adding n u
@@ -43,7 +43,6 @@ tightened-none n t u f p = record {
   table = λ e. clash refl e;
   lent = p .lent;
   bounds = λ e. clash refl e;
-  least = λ e. clash refl e;
 }
   where
     same : true ≡ refuted n t
@@ -62,7 +61,6 @@ tightened-some n t u v f p e = record {
     kept = λ h. clash refl h;
   };
   bounds = λ d. bounds;
-  least = λ d k h c. bound-least n t k (wordAt v k) c (bounds k h);
 }
   where
     same : false ≡ refuted n t

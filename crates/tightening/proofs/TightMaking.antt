@@ -32,7 +32,7 @@ use Rattle.keys.proofs.Making.{key-placed, tried-none, tried-some, made-rest, m
 use Rattle.keys.proofs.Promised.{key-done}
 use Rattle.tightening.specs.Tightening.{tightened, tightKeyOf}
 use Rattle.tightening.specs.Meaning.{TightKey}
-use Rattle.tightening.specs.Promises.{Tightened, SheetAccepted, TightKeyMade, TightKeyed}
+use Rattle.tightening.specs.Promises.{Tightened, TightKeyMade, TightKeyed}
 use Rattle.tightening.proofs.Holding.{key-words, tightened-words}
 use Rattle.tightening.proofs.Tight.{tight-only, tight-meaning, tight-same}
 use Rattle.tightening.proofs.TightSteps.{tight-length, tight-rest, same-tightened, tight-key}
@@ -81,8 +81,6 @@ pub tight-made : (n set : ℕ) (t : List ℤ) → n ≤ maxQuantities → blockS
 unfolding tightKeyOf
 tight-made n set t most room within held s = record {
   tight = tight;
-  some = s;
-  only = λ other x. tight-only hidden n (Satisfies n t) key other tight x;
   meaning = tight-meaning hidden n t key tight fits s;
   same = λ v w a x. tight-same hidden n t key v w tight x fits (sheet-fits n set v (a .sized .most) (a .sized .room) (a .within .1)) s (a .some);
 }
@@ -101,7 +99,11 @@ tight-made n set t most room within held s = record {
 
 -- with what holds of every tight table beside it
 pub tight-keyed : {n set : ℕ} {t w : List ℤ} {r : Reply} {t' w' : List ℤ} → KeyedAs tightKeyOf TightKeyMade n set t w r t' w' → TightKeyed n set t w r t' w'
-tight-keyed {n} {set} k = record { keyed = k; again = λ sheet tight x. tight-stays (hiddenIn set) n (Satisfies n sheet) tight x }
+tight-keyed {n} {set} k = record {
+  keyed = k;
+  only = λ sheet tight other x y. tight-only (hiddenIn set) n (Satisfies n sheet) tight other x y;
+  again = λ sheet tight x. tight-stays (hiddenIn set) n (Satisfies n sheet) tight x;
+}
 
 -- made, where the checks are passed
 pub tight-finished : (n set : ℕ) (t w t' w' : List ℤ) → AllMet (keyNeedsThen n set t (length w) passed) → NoneAbove (blockStart n) t → KeyTried tightKeyOf n set t w false t' w'

@@ -17,12 +17,12 @@ use Rattle.tables.specs.Meaning.{HoldsRule, Solutions, SheetAllows, NoneAbove}
 abbrev pub MetByAll : Solutions → ℕ → ℤ → Type 0
 MetByAll sheet k c = (σ : Assignment) → sheet σ → Meets σ (ruleAt k c)
 
--- some bound is, of all integers
+-- some integer, of whatever size, is such a bound
 pub record Bounded (sheet : Solutions) (k : ℕ) : Type 0 where
   pub bound : ℤ
   pub met : MetByAll sheet k bound
 
--- the least bound that is
+-- the least of them
 pub record LeastMet (sheet : Solutions) (k : ℕ) (c : ℤ) : Type 0 where
   pub met : MetByAll sheet k c
   pub least : (d : ℤ) → MetByAll sheet k d → c ≤ℤ d

@@ -8,6 +8,7 @@ pub mod ListTexts
 pub mod Texts
 pub mod Counts
 pub mod KeyLengths
+pub mod TightLengths
 pub mod Past
 pub mod Numbers
 pub mod Promised

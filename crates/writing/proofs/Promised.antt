@@ -3,12 +3,18 @@ use mathlib.Core.Path.{_≡_, refl, sym, _∙_, ap}
 use mathlib.Core.Bool.{Bool, true, cond}
 use mathlib.Core.Logic.{_↔_, Iff·rfl}
 use mathlib.Core.List.{List, _++_}
-use Prim.Native.Nat.{ℕ, _≤_, _<_}
+use Prim.Native.Nat.{ℕ, _≤_, _<_, _^_}
+use native.Mathlib.Omega.{arith}
 use lib.Dec.{leb}
-use lib.IntN.{ℤ}
+use lib.IntN.{ℤ, pos}
 use lib.ListN.{length, take, drop}
 use lib.Seq.{take-append-seam}
+use lib.Signed.{mag}
 use borrow.Author.Tests.{leb-true, le-leb, lt-leb}
+use Rattle.integers.specs.Bound.{Within}
+use Rattle.integers.proofs.Parts.{positivePart, negativePart, word-to}
+use Rattle.integers.proofs.Within.{within-of}
+use Rattle.words.specs.Change.{wordAt}
 use Rattle.places.specs.Numbering.{blockStart}
 use Rattle.numerals.specs.Writing.{Spliced}
 use Rattle.numerals.proofs.Splices.{splice-start}
@@ -35,6 +41,7 @@ use Rattle.writing.specs.Promises.{writeNeeds, TextMade, TextWritten}
 use Rattle.writing.proofs.Meanings.{AreWords, words-clean, table-meaning}
 use Rattle.writing.proofs.Lengths.{longest-any}
 use Rattle.writing.proofs.KeyLengths.{key-short}
+use Rattle.writing.proofs.TightLengths.{satisfied-short}
 use Rattle.writing.proofs.Back.{spells-words, written-back, sheet-short, written-as}
 use Rattle.writing.proofs.Past.{written-past, past-read}
 use Rattle.writing.proofs.Numbers.{text-number, text-returned}
@@ -125,6 +132,11 @@ text-tells n set t out m e = (size, front)
 
 -- ---- the text
 
+-- a word of 64 bits is at most 2 ^ 63 in magnitude
+word-within : (w : ℤ) → mag w < 2 ^ 63 → Within (pos (2 ^ 63)) w
+unfolding positivePart negativePart
+word-within w h = let p = word-to {z = w} (record { sfits = h }) in within-of (omega (arith, p .0)) (omega (arith, p .1))
+
 -- what holds of it, the table's words being of 64 bits
 text-made : (n set : ℕ) (t : List ℤ) → TableSized n (length t) → setWithin n set ≡ true → AreWords (blockStart n) t
     → TextMade n set t (Text (length (writtenText n set t))) (writtenText n set t)
@@ -135,6 +147,7 @@ text-made n set t s w words = record {
   longest = longest-any n set t (s .most) words;
   sheet-short = sheet-short n set t (s .some) (s .most);
   key-short = short;
+  met-short = λ a. satisfied-short n t (a .assignment) (s .most) (s .room) (record { each = λ k h l e. word-within (wordAt t k) (words k h) }) (a .satisfies) set;
   back = λ b. written-back n set t (s .some) (s .most) w b (s .room) (words-clean (blockStart n) t words);
   read-as = λ paper b l. written-as n set t (s .some) (s .most) w paper b l (s .room) (words-clean (blockStart n) t words);
   past = written-past n set t (s .some) (s .most) w;

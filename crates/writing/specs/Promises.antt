@@ -19,7 +19,7 @@ use Rattle.rules.specs.Hidden.{setWithin, setOf}
 use Rattle.rules.specs.Limits.{boundLimit, maxRules, maxText}
 use Rattle.rules.specs.Meaning.{Assignment}
 use Rattle.tables.specs.Tables.{tableOf}
-use Rattle.tables.specs.Meaning.{TableSized, HoldsRule, Satisfies, MeetsAll, WordsWithin, KeyLike, BoundsWithin}
+use Rattle.tables.specs.Meaning.{TableSized, HoldsRule, Satisfies, Satisfiable, MeetsAll, WordsWithin, KeyLike, BoundsWithin}
 use Rattle.lines.specs.Spelling.{writtenRules}
 use Rattle.reading.specs.declared.read.Reading.the-variants.{Accepted}
 use Rattle.reading.specs.Meaning.{Spells, Reads, FailsFor}
@@ -99,9 +99,10 @@ pub record TextMade (n set : ℕ) (table : List ℤ) (r : Writing) (s : List ℕ
   -- of rules that mean what the table does
   pub meaning : (σ : Assignment) → Satisfies n table σ ↔ MeetsAll σ (writtenRules (tableRules n table))
   pub longest : length s ≤ maxWritten
-  -- the text of a sheet or a key is never too long for the reader
+  -- the text of a sheet or a key is never too long for the reader, nor is that of any table that some integers satisfy
   pub sheet-short : BoundsWithin Sheet n set table → length s ≤ maxText
   pub key-short : KeyLike n set table → length s ≤ maxText
+  pub met-short : Satisfiable n table → length s ≤ maxText
   -- read into any table that is long enough, the text gives the table back, where its words are in the sheet's limit
   pub back : BoundsWithin Sheet n set table → (t : List ℤ) → blockStart n ≤ length t → ReadBack n set table s t
   -- as a sheet or a script whose limit the words are in, it is accepted and gives the table back, where it is not too long

@@ -1,4 +1,5 @@
 -- `key::key` meets its contract: the checks, then the key made where some integers satisfy the sheet. Assumes nothing.
+use Rattle.keys.proofs.Checking.{key-stands}
 use Rattle.keys.proofs.Promised.{untouched, key-refused, key-five, plain-done}
 use borrow.Author.Needs.{needs}
 use Rattle.keys.proofs.key.key.Statement.{statement}
@@ -18,7 +19,7 @@ same-length c = search needs
 
 returns : tie.Need-returns
 returns c =
-    key-refused _ _ _ _ _ _ _ _ _ (c .before .before .check .ensures .stands _ (c .enum-told2 .given .1)) (c .enum-told2 .given .1) (untouched _ _ _)
+    key-refused _ _ _ _ _ _ _ _ _ (key-stands _ _ _ _ _ _ (c .before .before .check .ensures .reply) (c .enum-told2 .given .1)) (c .enum-told2 .given .1) (untouched _ _ _)
 
 try-key-requires : tie.Need-try-key-requires
 try-key-requires c κs = let a = c .before .before in a .before .before .check .ensures .passes (a .enum-told .given .1)

@@ -33,7 +33,7 @@ abbrev μ-loop : tie.MeasureT-loop
 μ-loop table m limit i₀ i = m - i
 
 answered : (m : ℕ) (B : ℤ) (t : List ℤ) (r : Bool) → r ≡ wordsInLimit m B t → (r ≡ true → NoneAbove m t) → InLimit m B t r
-answered m B t r e h = record { reply = e; meaning = rw e (wordsInLimit-within m B t); held = h }
+answered m B t r e h = record { reply = e; meaning = rw e (wordsInLimit-within m B t); words = h }
 
 -- a word of 64 bits is not above the largest
 at-most : (z : ℤ) → mag z < 2 ^ 63 → z ≤ℤ noRule

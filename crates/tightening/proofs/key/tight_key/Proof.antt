@@ -1,5 +1,6 @@
 -- `key::tight_key` meets its contract: the key call's checks, then the tight key made where some integers satisfy the sheet. Assumes nothing.
 use borrow.Author.Needs.{needs}
+use Rattle.keys.proofs.Checking.{key-stands}
 use Rattle.keys.proofs.Promised.{untouched, key-refused, key-five}
 use Rattle.tightening.proofs.TightMaking.{tight-keyed, tight-finished}
 use Rattle.tightening.proofs.key.tight_key.Statement.{statement}
@@ -19,7 +20,7 @@ same-length c = search needs
 
 returns : tie.Need-returns
 returns c =
-    tight-keyed (key-refused _ _ _ _ _ _ _ _ _ (c .before .before .check .ensures .stands _ (c .enum-told2 .given .1)) (c .enum-told2 .given .1) (untouched _ _ _))
+    tight-keyed (key-refused _ _ _ _ _ _ _ _ _ (key-stands _ _ _ _ _ _ (c .before .before .check .ensures .reply) (c .enum-told2 .given .1)) (c .enum-told2 .given .1) (untouched _ _ _))
 
 try-tight-requires : tie.Need-try-tight-requires
 try-tight-requires c κs = let a = c .before .before in a .before .before .check .ensures .passes (a .enum-told .given .1)
@@ -47,7 +48,7 @@ returns-3 c =
     let y = c .before .before .before in
     let a = y .before .before .before in
     let k = a .before .before .check .ensures in
-    tight-finished _ _ _ _ _ _ (k .passes (a .enum-told .given .1)) (k .held (a .enum-told .given .1)) (rw (c .if1 .left) at (y .try-tight .ensures))
+    tight-finished _ _ _ _ _ _ (k .passes (a .enum-told .given .1)) (k .words (a .enum-told .given .1)) (rw (c .if1 .left) at (y .try-tight .ensures))
 
 pub tight-key-spec : {M : Type 1} → statement M
 tight-key-spec =

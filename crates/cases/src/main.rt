@@ -1,5 +1,5 @@
 // Document 01's limit cases, the refusals of texts, and what keys are written as, through what *key* prints: the name of a case, then what is printed
-// for its text. The stored output is written by hand from document 01.
+// for its text. The stored output is written by hand from document 01, and its keys from document 02's [2].
 use reports::key;
 
 const OUT: i32 = 1;
@@ -149,7 +149,7 @@ fn lines() {
     );
 }
 
-// Tables as they are written: one bound for each place, in place order.
+// Tables as they are written: one bound for each place, the least that follows, in place order.
 fn tables() {
     show(
         b"two rules of one place",

@@ -21,11 +21,11 @@ use Rattle.reports.specs.Meaning.{PrintedKey}
 use Rattle.reports.proofs.TightTexts.{tightIn, tight-room, within, made, tight-text, texts-same}
 
 -- what satisfies a sheet satisfies its tightest key
-pub tight-satisfied : (c : Contents) → FineSheet c → (σ₀ : Assignment) → rulesOf c σ₀ → Satisfies (c .count) (tightIn c) σ₀
+tight-satisfied : (c : Contents) → FineSheet c → (σ₀ : Assignment) → rulesOf c σ₀ → Satisfies (c .count) (tightIn c) σ₀
 tight-satisfied c s σ₀ m = record { each = λ k p. made c s σ₀ m .tight .least k p .met σ₀ (s .held .meaning σ₀ .1 m) }
 
 -- so its text may be read
-pub tight-read : (c : Contents) → FineSheet c → (σ₀ : Assignment) → rulesOf c σ₀ → length (writtenText (c .count) (setIn c) (tightIn c)) ≤ maxText
+tight-read : (c : Contents) → FineSheet c → (σ₀ : Assignment) → rulesOf c σ₀ → length (writtenText (c .count) (setIn c) (tightIn c)) ≤ maxText
 tight-read c s σ₀ m = satisfied-short (c .count) (tightIn c) σ₀ (s .most) (tight-room c s) (within c s) (tight-satisfied c s σ₀ m) (setIn c)
 
 -- whatever table it is the text of: there is one

@@ -89,11 +89,11 @@ module _ (c : Contents) (s : FineSheet c) (u : List ℤ) (room : blockStart (c .
   key-reads = rw (s .back) at (written-key (c .count) (setIn c) u (s .some) (s .most) (s .range) room like)
 
   -- no rule of it names a hidden quantity,
-  pub key-spares : (q : ℕ) → hiddenIn (setIn c) q ≡ true → NoneNames q (writtenRules (tableRules (c .count) u))
+  key-spares : (q : ℕ) → hiddenIn (setIn c) q ≡ true → NoneNames q (writtenRules (tableRules (c .count) u))
   key-spares = table-spares (c .count) (hiddenIn (setIn c)) u (like .visible)
 
   -- so it fits its sheet
-  pub key-matches : Matches c (keyContents c u)
+  key-matches : Matches c (keyContents c u)
   key-matches = record { count = refl; hiddens = refl; visible = λ q e. key-spares q (s .members q ∙ e) }
 
 -- the rules that it writes allow what the table does

@@ -1,9 +1,8 @@
--- The sheet that a fine text writes: its table meets the key call's needs, 'no assignment' is decided by its rules as written, and its key means what
--- demand 2 says. Assumes nothing.
-use mathlib.Core.Path.{_≡_, refl, _∙_}
+-- The sheet that a fine text writes: its table meets the key call's needs, 'no assignment' is decided by its rules as written, and its plain key is
+-- like a key. Assumes nothing.
+use mathlib.Core.Path.{_≡_, refl}
 use mathlib.Core.Bool.{Bool, true, false}
 use mathlib.Core.List.{List}
-use mathlib.Core.Logic.{_↔_}
 use Prim.Native.Nat.{ℕ, _≤_}
 use native.Mathlib.Omega.{arith}
 use lib.IntN.{ℤ}
@@ -12,14 +11,14 @@ use Rattle.places.specs.Numbering.{blockStart}
 use Rattle.rules.specs.declared.paper.Paper.{Paper}
 use Rattle.rules.specs.declared.paper.Paper.the-variants.{Sheet}
 use Rattle.rules.specs.Hidden.{hiddenIn, setWithin, isListed}
-use Rattle.rules.specs.Limits.{maxQuantities, boundLimit, maxText}
+use Rattle.rules.specs.Limits.{maxQuantities, boundLimit}
 use Rattle.rules.specs.Meaning.{Assignment}
-use Rattle.tables.specs.Meaning.{TableSized, Satisfies, Satisfiable, SheetAllows, joined, KeyLike, BoundsWithin}
+use Rattle.tables.specs.Meaning.{TableSized, Satisfiable, KeyLike, BoundsWithin}
 use Rattle.tables.proofs.Lists.{tableOf-length}
 use Rattle.elimination.specs.Hiding.{every}
 use Rattle.keys.specs.Keys.{keyOf, refuted}
 use Rattle.keys.specs.Inner.{Fits}
-use Rattle.keys.proofs.Several.{hideUpTo-length, key-exact, key-visible, refuted-false}
+use Rattle.keys.proofs.Several.{key-visible, refuted-false}
 use Rattle.keys.proofs.Fitting.{sheet-fits, hide-ample, key-within, script-limit}
 use Rattle.keys.proofs.Deciding.{refuted-exactly}
 use Rattle.lines.specs.Spelling.{lineWithin, writtenRules}
@@ -29,8 +28,7 @@ use Rattle.reading.proofs.Limits.{contents-limit}
 use Rattle.reading.specs.Texts.{Contents}
 use Rattle.reading.specs.Meaning.{FineLines, contentsLimit, rulesOf}
 use Rattle.reading.specs.Promises.{TableHolds}
-use Rattle.writing.specs.Writing.{hiddenList, writtenText}
-use Rattle.writing.proofs.KeyLengths.{key-short}
+use Rattle.writing.specs.Writing.{hiddenList}
 use Rattle.scripts.specs.Meaning.{setIn, tableIn}
 use Rattle.scripts.proofs.Rules.{rules-held, read-within}
 use Rattle.scripts.proofs.Hiddens.{set-range, list-back}
@@ -105,25 +103,6 @@ sheet-met c s σ m = go (refuted (c .count) (tableIn c)) refl
 abbrev pub keyIn : Contents → List ℤ
 keyIn c = keyOf (hiddenIn (setIn c)) (c .count) (tableIn c)
 
--- it has as many words as the table
-pub key-length : (c : Contents) → FineSheet c → length (keyIn c) ≡ blockStart (c .count)
-unfolding keyOf
-key-length c s = hideUpTo-length (hiddenIn (setIn c)) (c .count) (c .count) (tableIn c) ∙ s .size
-
--- demand 2, of the rules as written
-pub key-meaning : (c : Contents) → FineSheet c → (σ₀ : Assignment) → rulesOf c σ₀
-    → (σ : Assignment) → Satisfies (c .count) (keyIn c) σ ↔ SheetAllows (hiddenIn (setIn c)) (rulesOf c) σ
-key-meaning c s σ₀ m σ = (
-  λ k. let a = exact .0 k in record { hiddens = a .hiddens; complete = s .held .meaning (joined hidden σ (a .hiddens)) .0 (a .complete) },
-  λ a. exact .1 (record { hiddens = a .hiddens; complete = s .held .meaning (joined hidden σ (a .hiddens)) .1 (a .complete) }),
-)
-  where
-    hidden : ℕ → Bool
-    hidden = hiddenIn (setIn c)
-
-    exact : Satisfies (c .count) (keyIn c) σ ↔ SheetAllows hidden (Satisfies (c .count) (tableIn c)) σ
-    exact = key-exact hidden (c .count) (tableIn c) σ₀ (hide-ample hidden (c .count) (tableIn c) (sheet-ample c s)) (s .held .meaning σ₀ .1 m) σ
-
 -- it is like a key: it names visible quantities alone, and its bounds are in a script's limit
 pub key-like : (c : Contents) → FineSheet c → KeyLike (c .count) (setIn c) (keyIn c)
 key-like c s = record {
@@ -131,7 +110,3 @@ key-like c s = record {
   within = rw (script-limit (c .count) (setIn c))
       at (key-within (hiddenIn (setIn c)) (c .count) (boundLimit Sheet (c .count) (setIn c)) (tableIn c) (omega (arith, s .size)) (s .bounds));
 }
-
--- its text is never too long for the reader
-pub key-text-short : (c : Contents) → FineSheet c → length (writtenText (c .count) (setIn c) (keyIn c)) ≤ maxText
-key-text-short c s = key-short (c .count) (setIn c) (keyIn c) (s .most) (omega (arith, key-length c s)) (key-like c s)

@@ -39,7 +39,7 @@ key-kept : (hidden : ℕ → Bool) (n : ℕ) (sheet : Solutions) (u : List ℤ) 
 key-kept hidden n sheet u t σ s = record { each = λ k p. t .least k p .met σ s }
 
 -- so what all that satisfies the key meets, all of the sheet meets: the key is its own tight key
-pub definition-again : (hidden : ℕ → Bool) (n : ℕ) (sheet : Solutions) (u : List ℤ) → TightKey hidden n sheet u → TightKey hidden n (Satisfies n u) u
+definition-again : (hidden : ℕ → Bool) (n : ℕ) (sheet : Solutions) (u : List ℤ) → TightKey hidden n sheet u → TightKey hidden n (Satisfies n u) u
 definition-again hidden n sheet u t = record {
   rule = λ k h. (
     λ p. (t .rule k h .0 p .0, record { bound = wordAt u k; met = λ σ s. s .each k p }),
@@ -85,7 +85,7 @@ module _ (n : ℕ) (t : List ℤ) (l : blockStart n ≤ length t) (words : NoneA
       go false e = refl
 
   -- and is its own key
-  pub key-again : (hidden : ℕ → Bool) → NamesVisible n hidden t → keyOf hidden n t ≡ t
+  key-again : (hidden : ℕ → Bool) → NamesVisible n hidden t → keyOf hidden n t ≡ t
   unfolding keyOf
   key-again hidden v = hidden-again hidden v n (omega arith)
 
@@ -137,7 +137,7 @@ module _ (hidden : ℕ → Bool) (n : ℕ) (u : List ℤ) (t : TightKey hidden n
 -- ---- the steps
 
 -- on a tight key they change nothing: it is its own key, and its own tightest table
-pub steps-again : (hidden : ℕ → Bool) (n : ℕ) (sheet : Solutions) (u : List ℤ) → TightKey hidden n sheet u → tightKeyOf hidden n u ≡ u
+steps-again : (hidden : ℕ → Bool) (n : ℕ) (sheet : Solutions) (u : List ℤ) → TightKey hidden n sheet u → tightKeyOf hidden n u ≡ u
 unfolding tightKeyOf
 steps-again hidden n sheet u t =
     rw (key-again n u (t .room) (t .words) hidden (tight-visible hidden n sheet u t)) (own-tightened hidden n u (definition-again hidden n sheet u t))

@@ -38,12 +38,12 @@ pairing-lowered live plus minus p m k w = go (liveAt live k) (isOne k)
     go false b = ≤ℤ-refl w
 
 -- so a step lowers words alone,
-pub paired-lowered : (live : ℕ → Bool) (n j : ℕ) (t : List ℤ) → blockStart n ≤ length t → (k : ℕ) → k < blockStart n
+paired-lowered : (live : ℕ → Bool) (n j : ℕ) (t : List ℤ) → blockStart n ≤ length t → (k : ℕ) → k < blockStart n
     → wordAt (paired live n j t) k ≤ℤ wordAt t k
 paired-lowered live n j t l k h = rw (paired-at live n j t l k h) (pairing-lowered live _ _ _ _ k (wordAt t k))
 
 -- and so do several
-pub pair-lowered-all : (n m : ℕ) (t : List ℤ) → m ≤ n → blockStart n ≤ length t → (k : ℕ) → k < blockStart n
+pair-lowered-all : (n m : ℕ) (t : List ℤ) → m ≤ n → blockStart n ≤ length t → (k : ℕ) → k < blockStart n
     → wordAt (pairUpTo n m t) k ≤ℤ wordAt t k
 unfolding pairUpTo
 pair-lowered-all n zero t g l k h = ≤ℤ-refl (wordAt t k)
@@ -70,7 +70,7 @@ strengthened-elim P n t k l h w sum = rw (strengthened-at n t k l h) (go (isOne 
     go false e = withSum-elim P (loneWord t (lowerAt k)) (loneWord t (higherAt k)) (wordAt t k) w (sum e)
 
 -- and is at most what it was
-pub strengthened-lowered : (n : ℕ) (t : List ℤ) → blockStart n ≤ length t → (k : ℕ) → k < blockStart n → wordAt (strengthened n t) k ≤ℤ wordAt t k
+strengthened-lowered : (n : ℕ) (t : List ℤ) → blockStart n ≤ length t → (k : ℕ) → k < blockStart n → wordAt (strengthened n t) k ≤ℤ wordAt t k
 unfolding strengthening
 strengthened-lowered n t l k h = rw (strengthened-at n t k l h) (go (isOne k))
   where

@@ -87,7 +87,7 @@ unfolding tightened
 tightened-kept n t σ l s = strengthened-kept n (pairUpTo n n t) σ (pair-room n n t l) (pair-kept n n t σ (omega arith) l s)
 
 -- and a quantity that no rule names stays so,
-pub tightened-unnamed : (n i : ℕ) (t : List ℤ) → blockStart n ≤ length t → Unnamed n i t → Unnamed n i (tightened n t)
+tightened-unnamed : (n i : ℕ) (t : List ℤ) → blockStart n ≤ length t → Unnamed n i t → Unnamed n i (tightened n t)
 unfolding tightened
 tightened-unnamed n i t l u = strengthened-unnamed n i (pairUpTo n n t) (pair-room n n t l) (pair-unnamed n n i t (omega arith) l u)
 

@@ -32,7 +32,7 @@ le-same : {a b : ℤ} → a ≤ℤ b → b ≤ℤ a → a ≡ b
 le-same l g = omega linear
 
 -- a larger bound is met too
-pub bound-mono : (σ : Assignment) (k : ℕ) (c d : ℤ) → c ≤ℤ d → Meets σ (ruleAt k c) → Meets σ (ruleAt k d)
+bound-mono : (σ : Assignment) (k : ℕ) (c d : ℤ) → c ≤ℤ d → Meets σ (ruleAt k c) → Meets σ (ruleAt k d)
 bound-mono σ k c d l m = at-meets σ k d (let h = meets-at σ k c m in omega linear)
 
 -- a term of visible quantities is worth the same whatever the hidden integers
@@ -54,7 +54,7 @@ module _ (hidden : ℕ → Bool) (n : ℕ) (sheet : Solutions) (a b : List ℤ) 
   equal : (p : HoldsRule n a k) (q : HoldsRule n b k) → wordAt a k ≡ wordAt b k
   equal p q = le-same (x .least k p .least (wordAt b k) (y .least k q .met)) (y .least k q .least (wordAt a k) (x .least k p .met))
 
-  pub one-word : wordAt a k ≡ wordAt b k
+  one-word : wordAt a k ≡ wordAt b k
   one-word = go (hasRule (wordAt a k)) refl (hasRule (wordAt b k)) refl
     where
       go : (c : Bool) → hasRule (wordAt a k) ≡ c → (d : Bool) → hasRule (wordAt b k) ≡ d → wordAt a k ≡ wordAt b k
@@ -65,7 +65,7 @@ module _ (hidden : ℕ → Bool) (n : ℕ) (sheet : Solutions) (a b : List ℤ) 
           let r : wordAt b k ≡ noRule = le-same (y .words k h) (omega (linear, ltZ-false (wordAt b k) noRule f)) in
           s ∙ sym r
 
-pub tight-table : (hidden : ℕ → Bool) (n : ℕ) (sheet : Solutions) (a b : List ℤ) → TightKey hidden n sheet a → TightKey hidden n sheet b → SameTable n a b
+tight-table : (hidden : ℕ → Bool) (n : ℕ) (sheet : Solutions) (a b : List ℤ) → TightKey hidden n sheet a → TightKey hidden n sheet b → SameTable n a b
 tight-table hidden n sheet a b x y = record { mine = x .room; theirs = y .room; words = λ k h. one-word hidden n sheet b a y x k h }
 
 pub tight-only : (hidden : ℕ → Bool) (n : ℕ) (sheet : Solutions) (a b : List ℤ) → TightKey hidden n sheet a → TightKey hidden n sheet b

@@ -28,7 +28,7 @@ use Rattle.keys.specs.Inner.{Fits}
 use Rattle.keys.proofs.Visible.{key-rest}
 use Rattle.keys.proofs.Deciding.{rest-fits}
 use Rattle.tightening.specs.Tightening.{tightKeyOf}
-use Rattle.tightening.specs.Meaning.{TightKey, AllowAlike}
+use Rattle.tightening.specs.Meaning.{TightKey, SheetsAllowSame}
 use Rattle.tightening.specs.Promises.{TightKeyMade}
 use Rattle.tightening.proofs.Tight.{tight-visible, tight-solutions, tight-alike}
 use Rattle.tightening.proofs.Tight.{alike-same as tables-alike}
@@ -151,7 +151,7 @@ module _ (n set : ℕ) (A B : Solutions) (t u v w : List ℤ) (a : (σ : Assignm
   theirs : TightKey (hiddenIn set) n (Satisfies n v) w
   theirs = tight-solutions (hiddenIn set) n B (Satisfies n v) w (alike-back b) y
 
-  tables-same : Fits n t → Fits n v → Satisfiable n t → Satisfiable n v → AllowAlike (hiddenIn set) A B ↔ (writtenText n set u ≡ writtenText n set w)
+  tables-same : Fits n t → Fits n v → Satisfiable n t → Satisfiable n v → SheetsAllowSame (hiddenIn set) A B ↔ (writtenText n set u ≡ writtenText n set w)
   tables-same f g p q = (
     λ h. same-text n set u w (tight-alike (hiddenIn set) n t u v w mine theirs (λ σ. (
       λ d. allows (hiddenIn set) (alike-back b) σ (h σ .0 (allows (hiddenIn set) a σ d)),
@@ -189,7 +189,7 @@ sheet-at n set s text k e f =
 
 -- two sheets of equal n and hidden set allow the same visible integers exactly when the texts of their tightest keys are the same
 pub texts-same : (s text s₂ text₂ : List ℕ) (k : PrintedKey s text) (k₂ : PrintedKey s₂ text₂) → k .contents .count ≡ k₂ .contents .count → setIn (k .contents) ≡ setIn (k₂ .contents)
-    → AllowAlike (hiddenIn (setIn (k .contents))) (rulesOf (k .contents)) (rulesOf (k₂ .contents)) ↔ (text ≡ text₂)
+    → SheetsAllowSame (hiddenIn (setIn (k .contents))) (rulesOf (k .contents)) (rulesOf (k₂ .contents)) ↔ (text ≡ text₂)
 texts-same s text s₂ text₂ k k₂ e f =
     let c = k .contents in
     let a = sheet-at (c .count) (setIn c) s text k refl refl in

@@ -14,7 +14,7 @@ use Rattle.rules.specs.Limits.{maxQuantities, maxText}
 use Rattle.rules.specs.Meaning.{Assignment}
 use Rattle.rules.specs.Refusal.{refusalNumber}
 use Rattle.tables.specs.Meaning.{BoundsWithin}
-use Rattle.tightening.specs.Meaning.{AllowAlike}
+use Rattle.tightening.specs.Meaning.{SheetsAllowSame}
 use Rattle.marking.specs.declared.verdict.Verdict.{Verdict}
 use Rattle.marking.specs.declared.verdict.Verdict.the-variants.{Equal}
 use Rattle.reading.specs.Texts.{Contents}
@@ -47,7 +47,7 @@ pub record KeyPrinted (s : List ℕ) (out : List ℕ) (end : ℕ) (out' : List �
   pub accepted : ((f : Refusal) → take end out' ≡ refusalText f → ⊥) ↔ PrintedKey s (take end out')
   -- one meaning, one text: two sheets that some integers satisfy, of equal n and hidden set, allow the same visible integers exactly when their key texts are the same bytes
   pub same : (k : PrintedKey s (take end out')) (s₂ text₂ : List ℕ) (k₂ : PrintedKey s₂ text₂) → k .contents .count ≡ k₂ .contents .count → setIn (k .contents) ≡ setIn (k₂ .contents)
-      → AllowAlike (hiddenIn (setIn (k .contents))) (rulesOf (k .contents)) (rulesOf (k₂ .contents)) ↔ (take end out' ≡ text₂)
+      → SheetsAllowSame (hiddenIn (setIn (k .contents))) (rulesOf (k .contents)) (rulesOf (k₂ .contents)) ↔ (take end out' ≡ text₂)
   -- it is never too long for the reader; so where a bound of it is outside the limit of a sheet or a script, it is refused as such with 3, at the line of the first
   pub short : PrintedKey s (take end out') → length (take end out') ≤ maxText
   pub past : (k : PrintedKey s (take end out')) (paper : Paper) (i : ℕ) → PastLimit paper (k .contents .count) (setIn (k .contents)) (k .is .key) i

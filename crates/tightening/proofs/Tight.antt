@@ -25,7 +25,7 @@ use Rattle.keys.specs.Inner.{Fits}
 use Rattle.keys.proofs.Several.{allows-own, key-exact, key-visible}
 use Rattle.keys.proofs.Fitting.{hide-ample}
 use Rattle.keys.proofs.Copying.{SameTable, same-front, front-same, same-back, same-satisfies}
-use Rattle.tightening.specs.Meaning.{MetByAll, Bounded, LeastMet, VisibleAt, TightKey, AllowAlike}
+use Rattle.tightening.specs.Meaning.{MetByAll, Bounded, LeastMet, VisibleAt, TightKey, SheetsAllowSame}
 
 -- two integers that are at most each other are the same
 le-same : {a b : ℤ} → a ≤ℤ b → b ≤ℤ a → a ≡ b
@@ -139,26 +139,26 @@ alike-met hidden n t v k c i w m σ s =
     let a = w σ (allows-own n hidden v σ s) in visible-meets hidden k c σ (a .hiddens) i (m (joined hidden σ (a .hiddens)) (a .complete))
 
 -- so are those of sheets that allow the same
-pub alike-tight : (hidden : ℕ → Bool) (n : ℕ) (t v u : List ℤ) → AllowAlike hidden (Satisfies n t) (Satisfies n v) → TightKey hidden n (Satisfies n t) u
+pub alike-tight : (hidden : ℕ → Bool) (n : ℕ) (t v u : List ℤ) → SheetsAllowSame hidden (Satisfies n t) (Satisfies n v) → TightKey hidden n (Satisfies n t) u
     → TightKey hidden n (Satisfies n v) u
 alike-tight hidden n t v u w =
     met-alike hidden n (Satisfies n t) (Satisfies n v) u (λ k c i. alike-met hidden n t v k c i (λ σ a. w σ .1 a)) (λ k c i. alike-met hidden n v t k c i (λ σ a. w σ .0 a))
 
 module _ (hidden : ℕ → Bool) (n : ℕ) (t u v w : List ℤ) (x : TightKey hidden n (Satisfies n t) u) (y : TightKey hidden n (Satisfies n v) w) where
   -- sheets that allow the same have one tight key,
-  pub tight-alike : AllowAlike hidden (Satisfies n t) (Satisfies n v) → take (blockStart n) u ≡ take (blockStart n) w
+  pub tight-alike : SheetsAllowSame hidden (Satisfies n t) (Satisfies n v) → take (blockStart n) u ≡ take (blockStart n) w
   tight-alike a = sym (tight-only hidden n (Satisfies n v) u w (alike-tight hidden n t v u a x) y)
 
   -- and sheets with one allow the same
   pub alike-same : Fits n t → Fits n v → Satisfiable n t → Satisfiable n v
-      → ((σ : Assignment) → Satisfies n u σ ↔ Satisfies n w σ) → AllowAlike hidden (Satisfies n t) (Satisfies n v)
+      → ((σ : Assignment) → Satisfies n u σ ↔ Satisfies n w σ) → SheetsAllowSame hidden (Satisfies n t) (Satisfies n v)
   alike-same f g s r e σ =
       let p = tight-meaning hidden n t u x f s σ in
       let q = tight-meaning hidden n v w y g r σ in
       (λ a. q .0 (e σ .0 (p .1 a)), λ a. p .0 (e σ .1 (q .1 a)))
 
   pub tight-same : Fits n t → Fits n v → Satisfiable n t → Satisfiable n v
-      → AllowAlike hidden (Satisfies n t) (Satisfies n v) ↔ (take (blockStart n) u ≡ take (blockStart n) w)
+      → SheetsAllowSame hidden (Satisfies n t) (Satisfies n v) ↔ (take (blockStart n) u ≡ take (blockStart n) w)
   tight-same f g s r = (
     tight-alike,
     λ e. let same = front-same n w u (y .room) e in

@@ -41,5 +41,5 @@ pub record TightKey (hidden : ℕ → Bool) (n : ℕ) (sheet : Solutions) (key :
   pub words : NoneAbove (blockStart n) key
 
 -- two sheets allow the same visible integers
-abbrev pub AllowAlike : (ℕ → Bool) → Solutions → Solutions → Type 0
-AllowAlike hidden sheet other = (σ : Assignment) → SheetAllows hidden sheet σ ↔ SheetAllows hidden other σ
+abbrev pub SheetsAllowSame : (ℕ → Bool) → Solutions → Solutions → Type 0
+SheetsAllowSame hidden sheet other = (σ : Assignment) → SheetAllows hidden sheet σ ↔ SheetAllows hidden other σ

@@ -20,7 +20,7 @@ use Rattle.keys.specs.Keys.{refuted}
 use Rattle.keys.specs.Meaning.{SheetAccepted}
 use Rattle.keys.specs.Promises.{KeyedAs}
 use Rattle.tightening.specs.Tightening.{tightened, tightKeyOf}
-use Rattle.tightening.specs.Meaning.{MetByAll, TightKey, AllowAlike}
+use Rattle.tightening.specs.Meaning.{MetByAll, TightKey, SheetsAllowSame}
 
 -- ---- tightening
 
@@ -48,7 +48,7 @@ pub record TightKeyMade (n set : ℕ) (sheet key : List ℤ) : Type 0 where
   pub meaning : (σ : Assignment) → Satisfies n key σ ↔ SheetAllows (hiddenIn set) (Satisfies n sheet) σ
   -- one meaning, one table: two sheets allow the same visible integers exactly when the first 2n² words of their tight keys are the same
   pub same : (sheet₂ key₂ : List ℤ) → SheetAccepted n set sheet₂ → TightKey (hiddenIn set) n (Satisfies n sheet₂) key₂
-      → AllowAlike (hiddenIn set) (Satisfies n sheet) (Satisfies n sheet₂) ↔ (take (blockStart n) key ≡ take (blockStart n) key₂)
+      → SheetsAllowSame (hiddenIn set) (Satisfies n sheet) (Satisfies n sheet₂) ↔ (take (blockStart n) key ≡ take (blockStart n) key₂)
 
 -- the definition applied to a tight table, whatever its bounds, changes nothing, and neither do the steps
 pub record TightStays (hidden : ℕ → Bool) (n : ℕ) (tight : List ℤ) : Type 0 where

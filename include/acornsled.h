@@ -106,8 +106,8 @@ uint32_t acornsled_key(size_t n, uint32_t hidden, int64_t *table, size_t table_l
  * table's first 2n^2 words have become that key: a term has a rule exactly when it is of visible quantities and some bound on
  * it is met by all integers that satisfy the sheet, and the rule has the least such bound. Two sheets with one n and one
  * hidden set that are answered 0 get the same words exactly when they allow the same visible integers. Given to the call again
- * the key stays as it is, where its bounds are in a sheet's limits; else that is 3. The program key prints this key; marking
- * takes the rule of a loose verdict from the one that acornsled_key makes.
+ * with the same n and hidden set, the key stays as it is where its bounds are in a sheet's limits; where one is not, that is 3.
+ * The program key prints this key; marking takes the rule of a loose verdict from the one that acornsled_key makes.
  */
 uint32_t acornsled_tight_key(size_t n, uint32_t hidden, int64_t *table, size_t table_length, int64_t *workspace,
                              size_t workspace_length, size_t *value);

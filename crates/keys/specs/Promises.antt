@@ -21,7 +21,7 @@ use Rattle.keys.specs.Meaning.{keyNeedsThen, keyNeeds, assignmentNeedsTh
 
 -- ---- the key call
 
--- what a key is. Demand 2: it allows integers for the visible quantities exactly when some integers for the hidden ones satisfy the whole sheet with them. It is made
+-- what a plain key is. Demand 2: it allows integers for the visible quantities exactly when some integers for the hidden ones satisfy the whole sheet with them. It is made
 -- by document 01's steps, names visible quantities alone, and its bounds double at most with each hidden one (`KeyLike`)
 pub record KeyMade (n set : ℕ) (sheet key : List ℤ) : Type 0 where
   pub meaning : (σ : Assignment) → Satisfies n key σ ↔ SheetAllows (hiddenIn set) (Satisfies n sheet) σ

@@ -43,7 +43,7 @@ reply-equal (Refused f) m e = clash {b = false} m refl
 
 -- ---- a key of a sheet that some integers satisfy
 
-module _ (n set : ℕ) (sheet key : List ℤ) (a : SheetAccepted n set sheet) (room : blockStart n ≤ length key) where
+module _ (n set : ℕ) (sheet key : List ℤ) (a : SheetAccepted n set sheet) where
   fits : Fits n sheet
   fits = sheet-fits n set sheet (a .sized .most) (a .sized .room) (a .within .1)
 
@@ -53,7 +53,12 @@ module _ (n set : ℕ) (sheet key : List ℤ) (a : SheetAccepted n set sheet) (r
   same-plain : take (blockStart n) key ≡ take (blockStart n) (keyOf (hiddenIn set) n sheet) → SameTable n (keyOf (hiddenIn set) n sheet) key
   same-plain = front-same n (keyOf (hiddenIn set) n sheet) key (omega (arith, key-length (hiddenIn set) n sheet, a .sized .room))
 
-  -- its bounds are in a script's limit, and it names visible quantities alone
+  -- it has the words of a table,
+  pub answer-room : KeyOfSheet n set sheet key → blockStart n ≤ length key
+  answer-room (plain e) = same-plain e .theirs
+  answer-room (tight x b) = x .room
+
+  -- its bounds are in a script's limit, and it names visible quantities alone,
   pub answer-like : KeyOfSheet n set sheet key → KeyLike n set key
   answer-like (plain e) = record {
     visible = record { each = λ k p q d. made .like .visible .each k (holds-same n (keyOf (hiddenIn set) n sheet) key k (same-plain e) p) q (rw (same-plain e .words k (p .inside)) at d) };
@@ -85,12 +90,12 @@ module _ (n set : ℕ) (sheet script : List ℤ) (o : OwnKey n set sheet script)
   own = key-of-copy n set sheet (o .copy) script (o .accepted .sized .room) (o .copied) (o .key)
 
   like : KeyLike n set script
-  like = answer-like n set sheet script (o .accepted) (o .room) own
+  like = answer-like n set sheet script (o .accepted) own
 
   pub own-met : (w v : ℕ) → workspaceSize n ≤ w → n ≤ v → AllMet (markNeeds n set sheet script w v)
   own-met w v l h =
       let s = o .accepted .sized in
-      ((s, record { some = s .some; most = s .most; room = o .room }), (l, (h, ((o .accepted .within, like .within), (like .visible, tt)))))
+      ((s, record { some = s .some; most = s .most; room = answer-room n set sheet script (o .accepted) own }), (l, (h, ((o .accepted .within, like .within), (like .visible, tt)))))
 
   pub own-equal : (w v : List ℤ) (r : Marking) (v' : List ℤ)
       → DecidedBy (markNeeds n set sheet script (length w) (length v)) (λ f. markingReturned r ≡ refusedAs f) (isMarked r ≡ true)
@@ -98,4 +103,4 @@ module _ (n set : ℕ) (sheet script : List ℤ) (o : OwnKey n set sheet script)
       → workspaceSize n ≤ length w → n ≤ length v → markingReturned r ≡ verdictReturned Equal
   own-equal w v r v' d m l h =
       let marked = d .accepted .1 (own-met (length w) (length v) l h) in
-      reply-equal r marked (m marked .demand .equal .1 (answer-allows n set sheet script (o .accepted) (o .room) own))
+      reply-equal r marked (m marked .demand .equal .1 (answer-allows n set sheet script (o .accepted) own))

@@ -147,7 +147,6 @@ pub data KeyOfSheet (n set : ℕ) (sheet key : List ℤ) : Type 0 where
 -- the script is such a key of its sheet. The calls replace the table that they are lent, so they are lent a copy of the sheet's first words, of which the script is the key
 pub record OwnKey (n set : ℕ) (sheet script : List ℤ) : Type 0 where
   pub accepted : SheetAccepted n set sheet
-  pub room : blockStart n ≤ length script
   pub copy : List ℤ
   pub copied : take (blockStart n) copy ≡ take (blockStart n) sheet
   pub key : KeyOfSheet n set copy script

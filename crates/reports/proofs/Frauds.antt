@@ -18,7 +18,7 @@ use Rattle.rules.specs.declared.paper.Paper.the-variants.{Sheet, Script}
 use Rattle.rules.specs.Hidden.{hiddenIn, setOf, isListed}
 use Rattle.rules.specs.Meaning.{names}
 use Rattle.rules.specs.Steps.{ruleOf}
-use Rattle.tables.specs.Meaning.{SheetAllows, NoneNames, assignmentOf}
+use Rattle.tables.specs.Meaning.{SheetAllows, NoneNames, joined, assignmentOf}
 use Rattle.tables.proofs.Tests.{clash}
 use Rattle.lines.specs.Spelling.{writtenRule, writtenRules}
 use Rattle.reading.specs.Meaning.{rulesOf}
@@ -30,10 +30,11 @@ use Rattle.scripts.specs.Replies.{textsReturned, isTextMarked, textCounts}
 use Rattle.scripts.proofs.Judging.{accepted-reads}
 use Rattle.reports.specs.Reports.{keyReport}
 use Rattle.reports.specs.Marks.{wordText, integersText, valuesText, verdictText, markText}
-use Rattle.reports.specs.Meaning.{KeyText}
-use Rattle.reports.specs.Promises.{KeyPrinted, MarkPrinted}
+use Rattle.reports.specs.Meaning.{KeyText, PrintedKey}
+use Rattle.reports.specs.Promises.{KeyTextMade, KeyPrinted, MarkPrinted}
 use Rattle.reports.proofs.PrintedReplies.{verdict-same}
 use Rattle.reports.proofs.KeyTexts.{key-told}
+use Rattle.reports.proofs.Reports.{key-made}
 use Rattle.reports.proofs.MarkTexts.{later-more-length, integers-length, values-length}
 use Rattle.reports.proofs.Cases.{KeyCase, KeyPasses, shownLine, sheetA, wide, narrow, halvedBelow, oneHalf, seenLate, unpaired}
 use Rattle.reports.proofs.Starred.{starred-pass}
@@ -95,28 +96,44 @@ module _ (out : List ℕ) (end : ℕ) (out' : List ℕ) where
 
 -- ---- texts that are no key of sheet A
 
+-- what follows of a text that is
+made-of : (text : List ℕ) (k : KeyText contentsA text) → KeyTextMade contentsA (k .key) text
+unfolding setOf
+made-of text k =
+    let p : PrintedKey (bytes (sheetA .sheet)) text = record {
+      contents = contentsA;
+      reads = accepted-reads Sheet sheet-writes;
+      integers = joined (hiddenIn 2) (assignmentOf three-one-zero) (assignmentOf three-one-zero);
+      satisfied = narrow-shown .complete;
+      is = k;
+    } in
+    key-made (bytes (sheetA .sheet)) text p
+
 -- +1:3 alone: it allows 0 and 6, which nothing completes
 pub too-wide : KeyText contentsA (bytes (wide .script)) → ⊥
 unfolding setOf
 too-wide k =
-    let e = key-told k (contentsWide .written) (accepted-reads Script wide-writes .spelled .text) in
-    wide-shown .incomplete (k .meaning (assignmentOf zero-zero-six) .0 (rw e (wide-shown .allowed)))
+    let t = made-of (bytes (wide .script)) k in
+    let e = key-told t (contentsWide .written) (accepted-reads Script wide-writes .spelled .text) in
+    wide-shown .incomplete (t .meaning (assignmentOf zero-zero-six) .0 (rw e (wide-shown .allowed)))
 
 -- +1:2, +1+3:5: it forbids 3 and 0, which 1 completes
 pub too-narrow : KeyText contentsA (bytes (narrow .script)) → ⊥
 unfolding setOf
 too-narrow k =
-    let e = key-told k (contentsNarrow .written) (accepted-reads Script narrow-writes .spelled .text) in
+    let t = made-of (bytes (narrow .script)) k in
+    let e = key-told t (contentsNarrow .written) (accepted-reads Script narrow-writes .spelled .text) in
     let σ = assignmentOf three-one-zero in
     let allowed : SheetAllows (hiddenIn 2) (rulesOf contentsA) σ = record { hiddens = σ; complete = narrow-shown .complete } in
-    narrow-shown .forbidden (rw e at (k .meaning σ .1 allowed))
+    narrow-shown .forbidden (rw e at (t .meaning σ .1 allowed))
 
 -- the sheet's own rules: they name quantity 2, which is hidden
 pub hidden-named : KeyText contentsA (bytes (sheetA .sheet)) → ⊥
 unfolding isListed writtenRule ruleOf names
 hidden-named k =
-    let e = key-told k (contentsA .written) (accepted-reads Sheet sheet-writes .spelled .text) in
-    let none : NoneNames 2 (writtenRules (contentsA .written)) = rw e at (k .visible 2 refl) in
+    let t = made-of (bytes (sheetA .sheet)) k in
+    let e = key-told t (contentsA .written) (accepted-reads Sheet sheet-writes .spelled .text) in
+    let none : NoneNames 2 (writtenRules (contentsA .written)) = rw e at (t .visible 2 refl) in
     clash refl (none .0)
 
 -- ---- *mark*, for sheet A and the script +1:3

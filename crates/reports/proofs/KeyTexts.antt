@@ -3,6 +3,7 @@ use mathlib.Core.Path.{_≡_, refl, sym, _∙_, ap, ap₂}
 use mathlib.Core.List.{List, [], _∷_}
 use Prim.Native.Nat.{ℕ}
 use native.Mathlib.Omega.{arith}
+use lib.IntN.{ℤ}
 use lib.ListN.{length}
 use Rattle.lines.specs.Spelling.{Written, quantities, rulesKey, lineText}
 use Rattle.lines.specs.Spelling.{hidden as hidden-line}
@@ -11,7 +12,7 @@ use Rattle.lines.proofs.Spellings.{rules-complete, rule-complete}
 use Rattle.reading.specs.Texts.{Contents, ruleLines, linesText, sheetText}
 use Rattle.reading.proofs.Ending.{sheet-lines}
 use Rattle.writing.specs.Writing.{tableRules}
-use Rattle.reports.specs.Meaning.{KeyText}
+use Rattle.reports.specs.Promises.{KeyTextMade}
 use Rattle.reports.proofs.PrintedReplies.{parsed-same, rest-same}
 
 -- ---- the text tells its rules
@@ -39,6 +40,6 @@ written-same n qs rs ws e =
     rules-same rs ws (d .0) (d .1)
 
 -- the rules of a key's text are those that it spells
-pub key-told : {c : Contents} {s : List ℕ} (k : KeyText c s) (ws : List Written) → s ≡ sheetText (record { count = c .count; hiddens = c .hiddens; written = ws })
-    → tableRules (c .count) (k .key) ≡ ws
-key-told {c} k ws e = written-same (c .count) (c .hiddens) (tableRules (c .count) (k .key)) ws (sym (k .spelled .text) ∙ e)
+pub key-told : {c : Contents} {key : List ℤ} {s : List ℕ} (k : KeyTextMade c key s) (ws : List Written)
+    → s ≡ sheetText (record { count = c .count; hiddens = c .hiddens; written = ws }) → tableRules (c .count) key ≡ ws
+key-told {c} {key} k ws e = written-same (c .count) (c .hiddens) (tableRules (c .count) key) ws (sym (k .spelled .text) ∙ e)

@@ -4,7 +4,7 @@ pub mod RefusalLengths
 pub mod PrintedReplies
 pub mod KeyTexts
 pub mod TightTexts
-pub mod TightShort
+pub mod KeyTextsMade
 pub mod Reports
 pub mod TableReports
 pub mod SheetTables

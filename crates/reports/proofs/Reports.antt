@@ -12,6 +12,7 @@ use Rattle.rules.specs.declared.paper.Paper.the-variants.{Sheet}
 use Rattle.rules.specs.declared.refusal.Refusal.{Refusal}
 use Rattle.rules.specs.declared.refusal.Refusal.the-variants.{NoAssignment}
 use Rattle.rules.specs.Meaning.{Assignment}
+use Rattle.tables.specs.Meaning.{BoundsWithin}
 use Rattle.keys.specs.Keys.{refuted}
 use Rattle.numerals.specs.Writing.{Spliced}
 use Rattle.numerals.proofs.Splices.{splice-start}
@@ -24,7 +25,7 @@ use Rattle.writing.specs.Promises.{maxWritten}
 use Rattle.reports.specs.Refusals.{refusalText}
 use Rattle.reports.specs.Reports.{tableReport, reportOf, keyReport}
 use Rattle.reports.specs.Meaning.{KeyText, PrintedKey, Unmet}
-use Rattle.reports.specs.Promises.{KeyPrinted}
+use Rattle.reports.specs.Promises.{KeyTextMade, KeyPrinted}
 use Rattle.reading.proofs.Means.{Means, text-means, reads-check}
 use Rattle.scripts.specs.Meaning.{setIn, tableIn}
 use Rattle.scripts.proofs.OwnKeys.{own-reply}
@@ -32,7 +33,7 @@ use Rattle.scripts.proofs.Sheets.{FineSheet, fine-table, sheet-refuted, sheet-u
 use Rattle.reports.proofs.RefusalLengths.{refusal-width}
 use Rattle.reports.proofs.PrintedReplies.{refusal-same, fails-number, text-unlike}
 use Rattle.reports.proofs.TightTexts.{tightIn, tight-short, tight-text, tight-own, texts-same}
-use Rattle.reports.proofs.TightShort.{printed-short, printed-past}
+use Rattle.reports.proofs.KeyTextsMade.{own-sheet, text-made}
 
 -- ---- of a table
 
@@ -77,6 +78,23 @@ report-none s c p none = report-accepted s c p ∙ report-five c (sheet-refuted 
 -- some do: the text of its tightest key
 pub report-some : (s : List ℕ) (c : Contents) → Reads Sheet s c → (σ : Assignment) → rulesOf c σ → KeyText c (keyReport s)
 report-some s c p σ m = let t = fine-table Sheet c (p .spelled .fine) in rw (report-accepted s c p ∙ report-key c (sheet-met c t σ m)) (tight-text c t σ m)
+
+-- the text of a tightest key, as a sheet, has itself printed: one meaning has one text
+key-again : (s text : List ℕ) (k : PrintedKey s text) → BoundsWithin Sheet (k .contents .count) (setIn (k .contents)) (k .is .key) → keyReport text ≡ text
+key-again s text k b =
+    let o = own-sheet (k .contents) (fine-table Sheet (k .contents) (k .reads .spelled .fine)) (k .integers) (k .satisfied) text (k .is) b in
+    let p : PrintedKey text (keyReport text) = record {
+      contents = o .contents;
+      reads = o .reads;
+      integers = o .integers;
+      satisfied = o .satisfied;
+      is = report-some text (o .contents) (o .reads) (o .integers) (o .satisfied);
+    } in
+    sym (texts-same text text text (keyReport text) o p refl refl .0 (λ σ. (λ a. a, λ a. a)))
+
+-- so all that follows of such a text
+pub key-made : (s text : List ℕ) (k : PrintedKey s text) → KeyTextMade (k .contents) (k .is .key) text
+key-made s text k = text-made (k .contents) (fine-table Sheet (k .contents) (k .reads .spelled .fine)) (k .integers) (k .satisfied) text (k .is) (key-again s text k)
 
 -- what is printed is a refusal's text: it is the text's own, or 5 and no integers meet its rules
 report-tells : (s : List ℕ) (f : Refusal) → keyReport s ≡ refusalText f → FailsFor Sheet s f ⊎ ((f ≡ NoAssignment) × Unmet s)
@@ -142,10 +160,9 @@ printed {s} {out} {text} {end} {out'} e w =
       refused = λ f d. rw text (refused-exactly s f d);
       five = rw text (five-exactly s);
       some = λ c p σ m. rw text (report-some s c p σ m);
+      made = key-made s (take end out');
       accepted = (λ h. rw text (report-key-text s (λ f d. h f (text ∙ d))), key-text-other s (take end out'));
       same = λ k s₂ text₂ k₂. texts-same s (take end out') s₂ text₂ k k₂;
-      short = printed-short s (take end out');
-      past = printed-past s (take end out');
       own-key = tight-own s (take end out');
       own-script = λ k w lent enough. own-reply s (take end out') lent (tight-own s (take end out') k w) enough;
     }

@@ -30,23 +30,20 @@ use Rattle.keys.proofs.Deciding.{rest-fits}
 use Rattle.tightening.specs.Tightening.{tightKeyOf}
 use Rattle.tightening.specs.Meaning.{TightKey, SheetsAllowSame}
 use Rattle.tightening.specs.Promises.{TightKeyMade}
-use Rattle.tightening.proofs.Tight.{tight-visible, tight-solutions, tight-alike}
+use Rattle.tightening.proofs.Tight.{tight-solutions, tight-alike}
 use Rattle.tightening.proofs.Tight.{alike-same as tables-alike}
 use Rattle.tightening.proofs.TightSteps.{tight-length, tightened-within}
-use Rattle.tightening.proofs.Again.{tight-stays}
 use Rattle.tightening.proofs.TightMaking.{tight-made}
 use Rattle.reading.specs.Texts.{Contents, sheetText}
 use Rattle.reading.specs.Meaning.{Reads, rulesOf}
 use Rattle.writing.specs.Writing.{rulesAt, tableRules, hiddenList, writtenText}
 use Rattle.writing.specs.Promises.{maxWritten}
-use Rattle.writing.proofs.Back.{spells-within}
 use Rattle.writing.proofs.Lengths.{longest}
 use Rattle.writing.proofs.Lines.{wordWidth, word-short}
 use Rattle.writing.proofs.Meanings.{table-meaning}
 use Rattle.marking.specs.Meaning.{tight}
 use Rattle.scripts.specs.Meaning.{setIn, tableIn, OwnKeyText}
 use Rattle.scripts.proofs.Alike.{allows, alike-back}
-use Rattle.scripts.proofs.OwnKeys.{table-spares, key-rules}
 use Rattle.scripts.proofs.Sheets.{FineSheet, fine-table, sheet-ample}
 use Rattle.reports.specs.Meaning.{KeyText, PrintedKey}
 use Rattle.reports.proofs.KeyTexts.{written-same}
@@ -97,11 +94,6 @@ module _ (c : Contents) (s : FineSheet c) where
       key = tightIn c;
       tight = tight-solutions (hiddenIn (setIn c)) (c .count) (Satisfies (c .count) (tableIn c)) (rulesOf c) (tightIn c) (s .held .meaning) (made .tight);
       written = refl;
-      spelled = rw (s .back) at (spells-within (c .count) (setIn c) (tightIn c) (s .some) (s .most) (2 ^ 63) within);
-      visible = λ q h. table-spares (c .count) (hiddenIn (setIn c)) (tightIn c)
-          (tight-visible (hiddenIn (setIn c)) (c .count) (Satisfies (c .count) (tableIn c)) (tightIn c) (made .tight)) q (s .members q ∙ h);
-      meaning = key-rules c s (tightIn c) tight-room (made .meaning);
-      stays = tight-stays (hiddenIn (setIn c)) (c .count) (Satisfies (c .count) (tableIn c)) (tightIn c) (made .tight);
     }
 
 -- ---- as a script
@@ -117,7 +109,6 @@ tight-own s text k w =
       integers = k .integers;
       satisfied = k .satisfied;
       key = k .is .key;
-      room = k .is .tight .room;
       table = tableIn c;
       held = take-all (blockStart (c .count)) (tableIn c) (omega (arith, f .size));
       is = tight

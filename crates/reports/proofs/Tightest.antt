@@ -8,10 +8,15 @@ use lib.IntN.{pos}
 use Rattle.numerals.specs.Bytes.{bytes}
 use Rattle.numerals.specs.Decimal.{decimal}
 use Rattle.numerals.proofs.Decimals.{up-to-enough}
+use Rattle.rules.specs.Hidden.{hiddenIn}
+use Rattle.keys.specs.Keys.{keyOf}
 use Rattle.lines.specs.Spelling.{one, two}
 use Rattle.reading.specs.Texts.{Contents, sheetText}
+use Rattle.reading.proofs.Frauds.{contentsA}
+use Rattle.writing.specs.Writing.{writtenText}
+use Rattle.scripts.specs.Meaning.{tableIn}
 use Rattle.reports.specs.Reports.{keyReport}
-use Rattle.reports.proofs.Cases.{KeyCase, KeyPasses, MarkCase, Case, key, mark, AllPass, reckoning, spelling}
+use Rattle.reports.proofs.Cases.{sheetA, KeyCase, KeyPasses, MarkCase, Case, key, mark, AllPass, reckoning, spelling}
 
 -- the sum of two bounds alone
 abbrev pub summed : KeyCase
@@ -104,3 +109,10 @@ tightest = key summed ∷ key summedLoosely ∷ key alone ∷ key halvedThenSumm
 pub tightest-pass : AllPass tightest
 unfolding reckoning spelling decimal
 tightest-pass = (refl, (refl, (refl, (refl, (refl, (past-passes, (λ v. refl, tt)))))))
+
+-- ---- the plain key's text
+
+-- of sheet A it is the same as the tightest key's
+pub plain-same : writtenText 3 2 (keyOf (hiddenIn 2) 3 (tableIn contentsA)) ≡ bytes (sheetA .printed)
+unfolding reckoning spelling decimal
+plain-same = refl

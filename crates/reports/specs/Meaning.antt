@@ -1,21 +1,16 @@
 -- What is meant by what the programs print: the text of a sheet's tightest key, that no integers satisfy a sheet, the text of a verdict. No step of a program is in it but how a table, a rule and integers are written.
 use mathlib.Core.Path.{_≡_}
-use mathlib.Core.Bool.{true}
-use mathlib.Core.Logic.{_↔_}
 use mathlib.Core.List.{List}
-use Prim.Native.Nat.{ℕ, _^_}
+use Prim.Native.Nat.{ℕ}
 use lib.IntN.{ℤ}
 use lib.ListN.{length}
-use Rattle.rules.specs.Hidden.{hiddenIn, isListed}
+use Rattle.rules.specs.Hidden.{hiddenIn}
 use Rattle.rules.specs.declared.paper.Paper.the-variants.{Sheet}
 use Rattle.rules.specs.Meaning.{Assignment}
-use Rattle.tables.specs.Meaning.{MeetsAll, NoneNames, SheetAllows}
 use Rattle.tightening.specs.Meaning.{TightKey}
-use Rattle.tightening.specs.Promises.{TightStays}
-use Rattle.lines.specs.Spelling.{writtenRules}
 use Rattle.reading.specs.Texts.{Contents}
-use Rattle.reading.specs.Meaning.{Spells, Reads, rulesOf}
-use Rattle.writing.specs.Writing.{tableRules, writtenText}
+use Rattle.reading.specs.Meaning.{Reads, rulesOf}
+use Rattle.writing.specs.Writing.{writtenText}
 use Rattle.marking.specs.declared.verdict.Verdict.{Verdict}
 use Rattle.marking.specs.Verdicts.{verdictReturned}
 use Rattle.scripts.specs.declared.room.Lengths.{Lengths}
@@ -32,13 +27,6 @@ pub record KeyText (c : Contents) (text : List ℕ) : Type 0 where
   pub tight : TightKey (hiddenIn (setIn c)) (c .count) (rulesOf c) key
   -- it is the writer's text of that table: n and the hidden list are the sheet's, and its rules stand in place order
   pub written : text ≡ writtenText (c .count) (setIn c) key
-  pub spelled : Spells (2 ^ 63) text (record { count = c .count; hiddens = c .hiddens; written = tableRules (c .count) key })
-  -- no rule names a hidden quantity
-  pub visible : (q : ℕ) → isListed q (c .hiddens) ≡ true → NoneNames q (writtenRules (tableRules (c .count) key))
-  -- its rules allow integers for the visible quantities exactly when some integers for the hidden ones satisfy the whole sheet with them (demand 2)
-  pub meaning : (σ : Assignment) → MeetsAll σ (writtenRules (tableRules (c .count) key)) ↔ SheetAllows (hiddenIn (setIn c)) (rulesOf c) σ
-  -- "the definition applied to a tight table, whatever its bounds, changes nothing", and neither do the steps
-  pub stays : TightStays (hiddenIn (setIn c)) (c .count) key
 
 -- a sheet's text is fine, some integers satisfy its rules, and this is the text of its tightest key
 pub record PrintedKey (s text : List ℕ) : Type 0 where

@@ -36,7 +36,7 @@ use Rattle.marking.specs.Marking.{verdictOf}
 use Rattle.marking.specs.Inner.{TablesAccepted}
 use Rattle.marking.proofs.Checking.{met-accepted}
 use Rattle.marking.proofs.Demand.{verdict-demand}
-use Rattle.marking.proofs.OwnKeys.{is-equal, answer-like, answer-allows, key-of-copy}
+use Rattle.marking.proofs.OwnKeys.{is-equal, answer-room, answer-like, answer-allows, key-of-copy}
 use Rattle.scripts.specs.declared.room.Lengths.{Lengths}
 use Rattle.scripts.specs.declared.reply.TextMarking.the-variants.{Marked}
 use Rattle.scripts.specs.Meaning.{setIn, tableIn, ownLengths, Matches, Room, OwnKeyText}
@@ -125,11 +125,14 @@ module _ (sheet script : List ℕ) (lent : Lengths) (k : OwnKeyText sheet script
       key-of-copy (c .count) (setIn c) (tableIn c) (k .table) (k .key) (accepted .sized .room)
       (k .held ∙ sym (take-all (blockStart (c .count)) (tableIn c) (omega (arith, fine .size)))) (k .is)
 
+  there : blockStart (c .count) ≤ length (k .key)
+  there = answer-room (c .count) (setIn c) (tableIn c) (k .key) accepted own
+
   like : KeyLike (c .count) (setIn c) (k .key)
-  like = answer-like (c .count) (setIn c) (tableIn c) (k .key) accepted (k .room) own
+  like = answer-like (c .count) (setIn c) (tableIn c) (k .key) accepted own
 
   script-reads : Reads Script script d
-  script-reads = rw (k .text) (key-reads c fine (k .key) (k .room) like)
+  script-reads = rw (k .text) (key-reads c fine (k .key) there like)
 
   written : FineTable Script d
   written = fine-table Script d (script-reads .spelled .fine)
@@ -143,13 +146,13 @@ module _ (sheet script : List ℕ) (lent : Lengths) (k : OwnKeyText sheet script
       )
     where
       visible : NamesVisible (c .count) (hiddenIn (setIn c)) (tableIn d)
-      visible = matches-visible c d (k .reads .spelled .fine) (script-reads .spelled .fine) (key-matches c fine (k .key) (k .room) like)
+      visible = matches-visible c d (k .reads .spelled .fine) (script-reads .spelled .fine) (key-matches c fine (k .key) there like)
 
   -- and allows what the sheet allows
   own-allows : AllowSame (hiddenIn (setIn c)) (Satisfies (c .count) (tableIn c)) (Satisfies (c .count) (tableIn d))
   own-allows =
-      alike-same (hiddenIn (setIn c)) (alike-back (fine .held .meaning)) (alike-back (written .held .meaning)) (key-rules c fine (k .key) (k .room)
-      (answer-allows (c .count) (setIn c) (tableIn c) (k .key) accepted (k .room) own))
+      alike-same (hiddenIn (setIn c)) (alike-back (fine .held .meaning)) (alike-back (written .held .meaning)) (key-rules c fine (k .key) there
+      (answer-allows (c .count) (setIn c) (tableIn c) (k .key) accepted own))
 
   own-verdict : verdictOf (hiddenIn (setIn c)) (c .count) (tableIn c) (tableIn d) ≡ Equal
   own-verdict = is-equal _ (verdict-demand (c .count) (setIn c) (tableIn c) (tableIn d) (lent .workspace) (lent .values) own-tables .equal .1 own-allows)
@@ -157,7 +160,7 @@ module _ (sheet script : List ℕ) (lent : Lengths) (k : OwnKeyText sheet script
   own-checks : pairChecks c d lent ≡ Done
   own-checks =
       pair-tied c d (k .reads .spelled .fine) (script-reads .spelled .fine) lent .accepted
-      .1 (room .sheet-room, (room .script-room, (room .workspace-room, (room .values-room, (key-matches c fine (k .key) (k .room) like, tt)))))
+      .1 (room .sheet-room, (room .script-room, (room .workspace-room, (room .values-room, (key-matches c fine (k .key) there like, tt)))))
 
   pub own-reply : textsReply sheet script lent ≡ Marked (k .contents .count) Equal
   unfolding textsReply pairReply

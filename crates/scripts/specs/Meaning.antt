@@ -108,6 +108,5 @@ pub record OwnKeyText (sheet script : List ℕ) : Type 0 where
   pub table : List ℤ
   pub held : take (blockStart (contents .count)) table ≡ tableIn contents
   pub key : List ℤ
-  pub room : blockStart (contents .count) ≤ length key
   pub is : KeyOfSheet (contents .count) (setIn contents) table key
   pub text : script ≡ writtenText (contents .count) (setIn contents) key

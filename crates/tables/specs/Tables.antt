@@ -33,7 +33,7 @@ serves n words = ltb 0 (tableSize n) && leb (tableSize n) words
 
 -- does a word hold a rule? Any word but the no-rule word does, which is the largest of 64 bits. It stands among the bounds: inside `withSum`, `paired`, `keyOf`,
 -- `refuted`, `tightened` and `tightKeyOf` a sum of 2⁶³ - 1 or more would silently be no rule. Where sums fit (`Fits`) none is so large. Where bounds are arbitrary these steps are
--- never what anything means: a meaning is over unbounded integers
+-- never what anything means: a meaning is over unbounded integers (of a tight table, whatever its bounds, `tightKeyOf` changes nothing all the same)
 abbrev pub hasRule : ℤ → Bool
 hasRule w = ltZ w noRule
 

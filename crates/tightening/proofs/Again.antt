@@ -39,7 +39,7 @@ key-kept : (hidden : ℕ → Bool) (n : ℕ) (sheet : Solutions) (u : List ℤ) 
 key-kept hidden n sheet u t σ s = record { each = λ k p. t .least k p .met σ s }
 
 -- so what all that satisfies the key meets, all of the sheet meets: the key is its own tight key
-definition-again : (hidden : ℕ → Bool) (n : ℕ) (sheet : Solutions) (u : List ℤ) → TightKey hidden n sheet u → TightKey hidden n (Satisfies n u) u
+pub definition-again : (hidden : ℕ → Bool) (n : ℕ) (sheet : Solutions) (u : List ℤ) → TightKey hidden n sheet u → TightKey hidden n (Satisfies n u) u
 definition-again hidden n sheet u t = record {
   rule = λ k h. (
     λ p. (t .rule k h .0 p .0, record { bound = wordAt u k; met = λ σ s. s .each k p }),

@@ -65,7 +65,7 @@ module _ (hidden : ℕ → Bool) (n : ℕ) (sheet : Solutions) (a b : List ℤ) 
           let r : wordAt b k ≡ noRule = le-same (y .words k h) (omega (linear, ltZ-false (wordAt b k) noRule f)) in
           s ∙ sym r
 
-tight-table : (hidden : ℕ → Bool) (n : ℕ) (sheet : Solutions) (a b : List ℤ) → TightKey hidden n sheet a → TightKey hidden n sheet b → SameTable n a b
+pub tight-table : (hidden : ℕ → Bool) (n : ℕ) (sheet : Solutions) (a b : List ℤ) → TightKey hidden n sheet a → TightKey hidden n sheet b → SameTable n a b
 tight-table hidden n sheet a b x y = record { mine = x .room; theirs = y .room; words = λ k h. one-word hidden n sheet b a y x k h }
 
 pub tight-only : (hidden : ℕ → Bool) (n : ℕ) (sheet : Solutions) (a b : List ℤ) → TightKey hidden n sheet a → TightKey hidden n sheet b

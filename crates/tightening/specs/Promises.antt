@@ -24,7 +24,7 @@ use Rattle.tightening.specs.Meaning.{MetByAll, TightKey, SheetsAllowSame
 
 -- ---- tightening
 
--- w is the least bound of the term of place k in a table over n quantities, over unbounded integers. Where w is a rule, all that satisfies the table meets it, and
+-- w is the least bound of the term of place k in a table over n quantities, over unbounded integers, with an assignment that shows it. Where w is a rule, all that satisfies the table meets it, and
 -- every smaller integer is broken. Where it is no rule, the term has no bound at all: every integer is broken, however large
 pub record LeastBound (n : ℕ) (t : List ℤ) (k : ℕ) (w : ℤ) : Type 0 where
   pub met : hasRule w ≡ true → MetByAll (Satisfies n t) k w

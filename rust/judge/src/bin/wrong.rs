@@ -1,5 +1,6 @@
 //! `wrong EDITS COPY CRATE ..` tries the wrong programs EDITS/CRATE/*.edit on COPY, which is a copy of the repository's crates
-//! that it changes and changes back. Exit status 1 says that a wrong program is not refused, or that an edit is none.
+//! that it changes and changes back; `CRATE:1` and `CRATE:2` are the two halves of a crate's edits. Exit status 1 says that a
+//! wrong program is not refused, or that an edit is none.
 //!
 //! `wrong EDITS COPY` tries none, and holds those of all crates against the files that they change, which takes no proof: a
 //! change of the sources may have left an edit behind.
@@ -56,13 +57,31 @@ type Step<'a> = dyn FnMut(&mut Trial, Vec<Edit>) -> io::Result<()> + 'a;
 fn each(edits: &Path, copy: &Path, crates: &[String], step: &mut Step) -> io::Result<Tally> {
     let mut out = io::stdout();
     let mut tally = Tally::default();
-    for name in crates {
-        let edits = parsed(name, &edits.join(name), &mut out, &mut tally)?;
+    for given in crates {
+        let (name, half) = given.split_once(':').unwrap_or((given, ""));
+        let mut edits = parsed(name, &edits.join(name), &mut out, &mut tally)?;
+        keep(&mut edits, half)?;
         let folder = copy.join("crates").join(name);
         let check = || checked(copy, name);
         step(&mut Trial { name, folder: &folder, check: &check, out: &mut out, tally: &mut tally }, edits)?;
     }
     Ok(tally)
+}
+
+/// Leaves a half of the edits, every other one, where one is named.
+fn keep(edits: &mut Vec<Edit>, half: &str) -> io::Result<()> {
+    let left = match half {
+        "" => return Ok(()),
+        "1" => 0,
+        "2" => 1,
+        _ => return Err(io::Error::new(io::ErrorKind::InvalidInput, format!("there is no half {half}: 1 or 2"))),
+    };
+    let mut at = 0;
+    edits.retain(|_| {
+        at += 1;
+        (at - 1) % 2 == left
+    });
+    Ok(())
 }
 
 /// What `rt dev` prints of a crate of the copy.

@@ -13,7 +13,8 @@ use Rattle.numerals.proofs.Values.{capped-most, capped-least, capped-exact}
 use Rattle.rules.specs.Hidden.{bitOf}
 use Rattle.rules.specs.Limits.{maxQuantities}
 use Rattle.rules.proofs.Sets.{bit-twice}
-use Rattle.lines.specs.Spelling.{quantityWithin}
+use Rattle.rules.specs.Literal.{quantityWithin}
+use Rattle.rules.proofs.Quantities.{within-range}
 use Rattle.lines.specs.Inner.{memberBit}
 
 -- ---- the bit of a number
@@ -29,10 +30,6 @@ within-above n q h l = rw (le-leb 1 q h, lt-leb q n l)
 -- the others are
 pub within-inside : (n q : ℕ) → 1 ≤ q → q ≤ n → quantityWithin n q ≡ true
 within-inside n q h l = rw (le-leb 1 q h, le-leb q n l)
-
--- which numbers 1 to n these are
-pub within-range : (n q : ℕ) → quantityWithin n q ≡ true → (1 ≤ q) × (q ≤ n)
-within-range n q e = let p = both-true (leb 1 q) (leb q n) e in (leb-true 1 q (p .0), leb-true q n (p .1))
 
 -- a quantity has its bit
 pub bit-inside : (n q : ℕ) → quantityWithin n q ≡ true → memberBit n q ≡ bitOf q

@@ -22,9 +22,10 @@ use Rattle.numerals.proofs.Order.{smaller-numeral}
 use Rattle.rules.specs.declared.refusal.Refusal.the-variants.{Malformed, OutOfLimit}
 use Rattle.rules.specs.Limits.{maxQuantities}
 use Rattle.rules.specs.Hidden.{setOf}
+use Rattle.rules.specs.Literal.{quantityWithin}
 use Rattle.lines.specs.declared.answer.Answer.{Answer}
 use Rattle.lines.specs.declared.answer.Answer.the-variants.{Hidden, Refused}
-use Rattle.lines.specs.Spelling.{hiddenKey, quantityWithin, allWithin}
+use Rattle.lines.specs.Spelling.{hiddenKey, allWithin}
 use Rattle.lines.specs.Lines.{withFirst, membersAfter, membersFrom, listOf, hiddenLine, judged, accepted, refused, never, hiddenJudged}
 use Rattle.lines.specs.Answers.{answerOf, hiddenAnswer}
 use Rattle.lines.specs.Inner.{memberBit, endAnswer, Ending, listAnswer}

@@ -17,40 +17,16 @@ use Rattle.numerals.proofs.Values.{capped-most, capped-least}
 use Rattle.rules.specs.declared.refusal.Refusal.the-variants.{OutOfLimit, Cancelling}
 use Rattle.rules.specs.Limits.{maxQuantities}
 use Rattle.rules.specs.Steps.{isNone, ruleOf}
+use Rattle.rules.specs.Literal.{quantityWithin}
+use Rattle.rules.proofs.Quantities.{within-range, none-zero, none-other}
 use Rattle.lines.specs.declared.answer.Answer.the-variants.{Rule, Refused}
-use Rattle.lines.specs.Spelling.{Term, Written, one, two, quantityWithin, ruleWithin, cancelling, signedQuantity, writtenRule}
+use Rattle.lines.specs.Spelling.{Term, Written, one, two, ruleWithin, cancelling, signedQuantity, writtenRule}
 use Rattle.lines.specs.Lines.{accepted, refused, judged}
 use Rattle.lines.specs.Answers.{ruleAnswer}
 use Rattle.lines.specs.Inner.{cappedInteger, spelledAnswer, formAnswer}
-use Rattle.lines.proofs.Bits.{within-range}
 use Rattle.lines.proofs.CappedIntegers.{natAbs-capped, natAbs-signed, capped-integer-exact}
 
 -- ---- limits
-
--- a number below 1 is not of 1 to n
-pub within-low : (n q : ℕ) → q < 1 → quantityWithin n q ≡ false
-within-low n q h = rw (lt-leb 1 q h)
-
--- any other is where it is not above n
-pub within-high : (n q : ℕ) → 1 ≤ q → quantityWithin n q ≡ leb q n
-within-high n q h = rw (le-leb 1 q h)
-
--- an integer of such a magnitude fits the word of a signed quantity number
-pub within-narrow : (n : ℕ) (z : ℤ) → n ≤ maxQuantities → quantityWithin n (natAbs z) ≡ true → SFits w32 z
-within-narrow n (pos q) h e = record { sfits = omega (arith, within-range n q e) }
-within-narrow n (negsuc q) h e = record { sfits = omega (arith, within-range n (suc q) e) }
-
--- the sum of two such fits a word
-pub within-sum : (n : ℕ) (x y : ℤ) → n ≤ maxQuantities → quantityWithin n (natAbs x) ≡ true → quantityWithin n (natAbs y) ≡ true
-    → SFits w64 (x +ℤ y)
-unfolding positivePart negativePart
-within-sum n x y h e f = word-of
-    (omega (arith, parts-add x y, within-parts x, within-parts y, within-range n (natAbs x) e, within-range n (natAbs y) f))
-    (omega (arith, parts-add x y, within-parts x, within-parts y, within-range n (natAbs x) e, within-range n (natAbs y) f))
-  where
-    within-parts : (z : ℤ) → positivePart z + negativePart z ≡ natAbs z
-    within-parts (pos v) = omega arith
-    within-parts (negsuc v) = omega arith
 
 -- a quantity number, capped, is one of 1 to n where it is one
 term-within : (n : ℕ) (x : Term) → n ≤ maxQuantities → quantityWithin n (natAbs (cappedInteger (signedQuantity x))) ≡ quantityWithin n (x .quantity)
@@ -71,16 +47,6 @@ bound-exact : (limit : ℕ) (c : ℤ) → limit < cap → leb (natAbs c) limit �
 bound-exact limit c h e = capped-integer-exact c (omega (arith, leb-true (natAbs (cappedInteger c)) limit (bound-within limit c h ∙ e)))
 
 -- ---- cancelling
-
--- 0 is none
-pub none-zero : (z : ℤ) → z ≡ pos 0 → isNone z ≡ true
-none-zero z e = ap isNone e
-
--- nothing else is
-pub none-other : (z : ℤ) → (z ≡ pos 0 → ⊥) → isNone z ≡ false
-none-other (pos zero) h = absurd (h refl)
-none-other (pos (suc n)) h = refl
-none-other (negsuc n) h = refl
 
 -- two numbers with opposite signs have the sum 0 where they are equal
 opposite-none : (a b : ℕ) (z : ℤ) → (a ≡ b → z ≡ pos 0) → (z ≡ pos 0 → a ≡ b) → isNone z ≡ _&&_ (eqb a b) true

@@ -9,8 +9,9 @@ use lib.ListN.{length}
 use borrow.Author.Tests.{eqb-true, eqb-false, ne-eqb}
 use Rattle.numerals.proofs.Cases.{both-true}
 use Rattle.rules.specs.Hidden.{hiddenIn, setOf, isListed, memberCount}
-use Rattle.lines.specs.Spelling.{IncreasingFrom, quantityWithin, allWithin}
-use Rattle.lines.proofs.Bits.{within-range}
+use Rattle.rules.specs.Literal.{quantityWithin}
+use Rattle.rules.proofs.Quantities.{within-range}
+use Rattle.lines.specs.Spelling.{IncreasingFrom, allWithin}
 use Rattle.lines.proofs.SetMembers.{member-none, list-members}
 
 -- two sets with the same members up to m have as many there

@@ -10,7 +10,8 @@ use lib.Pow.{pow-lt, pow-add, shl-shr, shr-shr, high}
 use borrow.Author.Tests.{leb-true, ltb-true, ltb-false, eqb-true, eqb-false, eq-eqb, ne-eqb}
 use Rattle.numerals.proofs.Cases.{both-true}
 use Rattle.rules.specs.Hidden.{hiddenIn, setOf, isListed}
-use Rattle.lines.specs.Spelling.{IncreasingFrom, quantityWithin, allWithin}
+use Rattle.rules.specs.Literal.{quantityWithin}
+use Rattle.lines.specs.Spelling.{IncreasingFrom, allWithin}
 
 -- what increases from a number increases from a smaller one
 pub increasing-less : (a b : ℕ) (qs : List ℕ) → a ≤ b → IncreasingFrom b qs → IncreasingFrom a qs

@@ -14,13 +14,14 @@ use Rattle.numerals.specs.Parsing.{Parsed, parsed, malformed, andThen, expect, 
 use Rattle.rules.specs.declared.refusal.Refusal.the-variants.{Malformed, OutOfLimit, Cancelling}
 use Rattle.rules.specs.Hidden.{bitOf}
 use Rattle.rules.specs.Steps.{isNone, ruleOf}
+use Rattle.rules.specs.Literal.{quantityWithin}
 use Rattle.lines.specs.declared.answer.Answer.{Answer}
 use Rattle.lines.specs.declared.answer.Answer.the-variants.{Hidden, Rule, Refused}
 use Rattle.lines.specs.declared.signed.Signed.{Signed}
 use Rattle.lines.specs.declared.signed.Signed.the-variants.{Read, Malformed}
 use Rattle.lines.specs.declared.spelled.Spelled.{Spelled}
 use Rattle.lines.specs.declared.spelled.Spelled.the-variants.{One, Two, Malformed}
-use Rattle.lines.specs.Spelling.{Term, Written, one, two, quantityWithin, allWithin, signedQuantity}
+use Rattle.lines.specs.Spelling.{Term, Written, one, two, allWithin, signedQuantity}
 use Rattle.lines.specs.Lines.{termOf, below, boundLine, judged, never, membersFrom}
 use Rattle.lines.specs.Answers.{hiddenAnswer}
 

@@ -9,6 +9,7 @@ use Rattle.numerals.specs.Decimal.{decimal, signedDecimal}
 use Rattle.rules.specs.declared.rule.Rule.{Rule}
 use Rattle.rules.specs.Limits.{maxQuantities, maxRules}
 use Rattle.rules.specs.Steps.{ruleOf}
+use Rattle.rules.specs.Literal.{quantityWithin}
 
 -- the keys
 abbrev pub quantitiesKey : List ℕ
@@ -89,10 +90,6 @@ WellFormed (rules m) = Unit {0}
 WellFormed (rule r) = Unit {0}
 
 -- ---- limits
-
--- a quantity number is one of 1 to n
-abbrev pub quantityWithin : ℕ → ℕ → Bool
-quantityWithin n q = leb 1 q && leb q n
 
 abbrev pub allWithin : ℕ → List ℕ → Bool
 allWithin n [] = true

@@ -12,7 +12,7 @@ ghost use mathlib.Core.Bool.{_&&_};
 ghost use Prim.Native.Nat.{_+_, _*_, _^_, _<_, _≤_};
 ghost use lib.ListN.{drop};
 ghost use Rattle.rules.specs.Limits.{maxQuantities};
-ghost use Rattle.lines.specs.Spelling.{quantityWithin};
+ghost use Rattle.rules.specs.Literal.{quantityWithin};
 ghost use Rattle.lines.specs.Lines.{hiddenJudged};
 ghost use Rattle.lines.specs.Answers.{hiddenAnswer, LineAnswered};
 ghost use Rattle.lines.specs.Inner.{memberBit, Ending, listAnswer};

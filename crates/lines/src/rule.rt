@@ -3,37 +3,25 @@ use crate::answer;
 use crate::answer::Answer;
 use crate::spelled;
 use crate::spelled::Spelled;
+use rules::literal;
 use rules::refusal::Refusal;
 use rules::rule::Rule;
 ghost use mathlib.Core.Path.{_≡_};
 ghost use Prim.Native.Nat.{_<_, _≤_};
-ghost use lib.IntN.{natAbs};
 ghost use lib.ListN.{drop};
 ghost use Rattle.numerals.specs.Decimal.{cap};
 ghost use Rattle.rules.specs.Limits.{maxQuantities};
 ghost use Rattle.lines.specs.declared.spelled.Spelled.the-variants.{One, Two};
-ghost use Rattle.lines.specs.Spelling.{quantityWithin};
 ghost use Rattle.lines.specs.Lines.{ruleJudged};
 ghost use Rattle.lines.specs.Answers.{ruleAnswer, LineAnswered};
 ghost use Rattle.lines.specs.Inner.{formAnswer};
-
-// Whether a signed quantity number is of one of 1 to `n`.
-fn is_quantity(term: i64, n: usize) -> bool
-    ensures { λ r. ⌜ r ≡ quantityWithin n (natAbs term) ⌝ }
-{
-    let q = integers::magnitude(term) as usize;
-    if q < 1 {
-        return false;
-    }
-    q <= n
-}
 
 // A rule of one term: 3 where a number is outside its limit.
 fn one(term: i64, bound: i64, n: usize, limit: u64, line: usize, next: usize) -> Answer
     requires { ⌜ n ≤ maxQuantities ⌝ }
     ensures { λ r. ⌜ r ≡ formAnswer n limit line (One bound next term) ⌝ }
 {
-    if !is_quantity(term, n) {
+    if !literal::is_quantity(term, n) {
         return answer::out_of_limit(line);
     }
     if limit < integers::magnitude(bound) {
@@ -58,10 +46,10 @@ fn two(
     requires { ⌜ n ≤ maxQuantities ⌝ }
     ensures { λ r. ⌜ r ≡ formAnswer n limit line (Two bound next first second) ⌝ }
 {
-    if !is_quantity(first, n) {
+    if !literal::is_quantity(first, n) {
         return answer::out_of_limit(line);
     }
-    if !is_quantity(second, n) {
+    if !literal::is_quantity(second, n) {
         return answer::out_of_limit(line);
     }
     if limit < integers::magnitude(bound) {

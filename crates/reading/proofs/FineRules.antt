@@ -14,14 +14,14 @@ use Rattle.numerals.specs.Decimal.{cap}
 use Rattle.rules.specs.declared.paper.Paper.{Paper}
 use Rattle.rules.specs.declared.rule.Rule.the-variants.{One, Two}
 use Rattle.rules.specs.Limits.{noRule}
-use Rattle.rules.specs.Literal.{negated, literalOf}
+use Rattle.rules.specs.Literal.{negated, literalOf, quantityWithin}
 use Rattle.rules.specs.Steps.{isNone, ruleOf, halvedOf}
 use Rattle.tables.specs.declared.reply.Reply.the-variants.{Done}
 use Rattle.tables.specs.Tables.{hasRule, ruleReply}
 use Rattle.tables.proofs.Lists.{AllAccepted}
 use Rattle.tables.proofs.Tests.{clash, both-true}
 use Rattle.tables.proofs.Replies.{one-inside, two-inside}
-use Rattle.lines.specs.Spelling.{Term, Written, one, two, rule, quantityWithin, lineWithin, cancelling, signedQuantity, writtenRule, writtenRules}
+use Rattle.lines.specs.Spelling.{Term, Written, one, two, rule, lineWithin, cancelling, signedQuantity, writtenRule, writtenRules}
 use Rattle.reading.specs.Texts.{Contents, ruleLines}
 use Rattle.reading.specs.Meaning.{Fine, AllFine, contentsLimit, FineLines}
 use Rattle.reading.proofs.Limits.{contents-told}

@@ -2,8 +2,12 @@
 -- code 2(q - 1) with + and 2(q - 1) + 1 with -.
 use Prim.Native.Nat.{ℕ, zero, suc, _+_, _-_, _*_, _/_, _%_}
 use lib.IntN.{ℤ, pos, negsuc, negℤ}
-use mathlib.Core.Bool.{cond}
-use lib.Dec.{eqb}
+use mathlib.Core.Bool.{Bool, cond, _&&_}
+use lib.Dec.{eqb, leb}
+
+-- a quantity number is one of 1 to n
+abbrev pub quantityWithin : ℕ → ℕ → Bool
+quantityWithin n q = leb 1 q && leb q n
 
 -- the quantity that a literal names, counted from 1
 abbrev pub quantityOf : ℕ → ℕ

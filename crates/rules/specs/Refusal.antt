@@ -1,10 +1,10 @@
--- What is returned to a caller, and document 01's number and values for each refusal (document 01, 'Returned to the caller'). A new refusal is one clause each of
--- `refusalNumber` and `refusalBeside`.
+-- What is returned to a caller, and the number and values for each refusal: 1 to 7 are document 01's ('Returned to the caller'), later ones document 02's. A new refusal is one clause
+-- each of `refusalNumber` and `refusalBeside`.
 use Prim.Native.Nat.{ℕ}
 use mathlib.Core.List.{List, [], _∷_}
 use lib.IntN.{ℤ, pos}
 use Rattle.rules.specs.declared.refusal.Refusal.{Refusal}
-use Rattle.rules.specs.declared.refusal.Refusal.the-variants.{Size, Malformed, OutOfLimit, Cancelling, NoAssignment, TooShort, Mismatch}
+use Rattle.rules.specs.declared.refusal.Refusal.the-variants.{Size, Malformed, OutOfLimit, Cancelling, NoAssignment, TooShort, Mismatch, ListSize}
 
 -- the number returned
 abbrev pub refusalNumber : Refusal → ℕ
@@ -15,6 +15,7 @@ refusalNumber (Cancelling line) = 4
 refusalNumber NoAssignment = 5
 refusalNumber (TooShort needed) = 6
 refusalNumber Mismatch = 7
+refusalNumber ListSize = 8
 
 -- what is returned beside a refusal's number: nothing, the line it is about (0 outside texts), or the length needed
 pub data Beside : Type 0 where
@@ -30,6 +31,7 @@ refusalBeside (Cancelling l) = line-beside l
 refusalBeside NoAssignment = nothing-beside
 refusalBeside (TooShort m) = length-beside m
 refusalBeside Mismatch = nothing-beside
+refusalBeside ListSize = nothing-beside
 
 -- the same as values
 abbrev pub besideValues : Beside → List ℤ

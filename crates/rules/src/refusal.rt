@@ -1,4 +1,4 @@
-// Document 01's refusals. Their numbers, and what is returned beside them, are in specs/Refusal.antt.
+// The refusals of documents 01 and 02. Their numbers, and what is returned beside them, are in specs/Refusal.antt.
 ghost use mathlib.Core.Path.{_≡_};
 ghost use Rattle.rules.specs.Refusal.{refusalNumber, refusalValue, refusalLine};
 
@@ -17,9 +17,11 @@ pub enum Refusal {
     TooShort { needed: usize },
     // 7: the script does not fit the sheet
     Mismatch,
+    // 8: a list of questions that is empty, or longer than 64
+    ListSize,
 }
 
-// Document 01's number of a refusal.
+// The number of a refusal.
 pub fn number(r: Refusal) -> u32
     ensures { λ k. ⌜ k ≡ refusalNumber r ⌝ }
 {
@@ -31,6 +33,7 @@ pub fn number(r: Refusal) -> u32
         Refusal::NoAssignment => 5,
         Refusal::TooShort { needed: _ } => 6,
         Refusal::Mismatch => 7,
+        Refusal::ListSize => 8,
     }
 }
 
@@ -46,6 +49,7 @@ pub fn value(r: Refusal) -> usize
         Refusal::NoAssignment => 0,
         Refusal::TooShort { needed } => needed,
         Refusal::Mismatch => 0,
+        Refusal::ListSize => 0,
     }
 }
 
@@ -61,5 +65,6 @@ pub fn line(r: Refusal) -> usize
         Refusal::NoAssignment => 0,
         Refusal::TooShort { needed: _ } => 0,
         Refusal::Mismatch => 0,
+        Refusal::ListSize => 0,
     }
 }

@@ -9,9 +9,10 @@ use lib.Dec.{eqb}
 use lib.Pow.{pow-mono}
 use borrow.Author.Tests.{eqb-true, eqb-false, eq-eqb, ne-eqb, lt-ltb}
 use Rattle.rules.specs.Hidden.{hiddenIn, setWithin, setOf}
+use Rattle.rules.specs.Literal.{quantityWithin}
+use Rattle.rules.proofs.Quantities.{within-range}
 use Rattle.tables.proofs.Tests.{both-true}
-use Rattle.lines.specs.Spelling.{IncreasingFrom, quantityWithin, allWithin}
-use Rattle.lines.proofs.Bits.{within-range}
+use Rattle.lines.specs.Spelling.{IncreasingFrom, allWithin}
 use Rattle.writing.specs.Writing.{hiddenFrom, hiddenList}
 
 -- numbers of 1 to n that increase, the first being above p

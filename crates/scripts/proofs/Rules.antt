@@ -16,11 +16,12 @@ use Rattle.rules.specs.declared.paper.Paper.{Paper}
 use Rattle.rules.specs.Limits.{noRule}
 use Rattle.rules.specs.Meaning.{boundOf}
 use Rattle.rules.proofs.Meanings.{ruleOf-bound}
+use Rattle.rules.specs.Literal.{quantityWithin}
 use Rattle.tables.specs.Tables.{hasRule, emptyTable, putRule, putAll, tableOf}
 use Rattle.tables.specs.Meaning.{WordsWithin}
 use Rattle.tables.proofs.Tests.{both-true, clash}
 use Rattle.tables.proofs.Lists.{tableOf-meaning, tableOf-smallest}
-use Rattle.lines.specs.Spelling.{Written, one, two, rule, quantityWithin, lineWithin, signedQuantity, writtenRule, writtenRules}
+use Rattle.lines.specs.Spelling.{Written, one, two, rule, lineWithin, signedQuantity, writtenRule, writtenRules}
 use Rattle.reading.specs.Texts.{Contents, ruleLines}
 use Rattle.reading.specs.Meaning.{Fine, AllFine, FineLines, contentsLimit}
 use Rattle.reading.specs.Promises.{TableHolds}

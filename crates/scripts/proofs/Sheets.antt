@@ -13,6 +13,7 @@ use Rattle.rules.specs.declared.paper.Paper.the-variants.{Sheet}
 use Rattle.rules.specs.Hidden.{hiddenIn, setWithin, isListed}
 use Rattle.rules.specs.Limits.{maxQuantities, boundLimit}
 use Rattle.rules.specs.Meaning.{Assignment}
+use Rattle.rules.proofs.Quantities.{within-range}
 use Rattle.tables.specs.Meaning.{TableSized, Satisfiable, KeyLike, BoundsWithin}
 use Rattle.tables.proofs.Lists.{tableOf-length}
 use Rattle.elimination.specs.Hiding.{every}
@@ -22,7 +23,6 @@ use Rattle.keys.proofs.Several.{key-visible, refuted-false}
 use Rattle.keys.proofs.Fitting.{sheet-fits, hide-ample, key-within, script-limit}
 use Rattle.keys.proofs.Deciding.{refuted-exactly}
 use Rattle.lines.specs.Spelling.{lineWithin, writtenRules}
-use Rattle.lines.proofs.Bits.{within-range}
 use Rattle.lines.proofs.SetMembers.{list-members}
 use Rattle.reading.proofs.Limits.{contents-limit}
 use Rattle.reading.specs.Texts.{Contents}

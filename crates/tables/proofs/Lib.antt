@@ -6,6 +6,7 @@ pub mod Places
 pub mod Values
 pub mod Meanings
 pub mod Limits
+pub mod Giving
 pub mod Naming
 pub mod Replies
 pub mod Putting

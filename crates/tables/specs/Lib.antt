@@ -4,4 +4,5 @@ pub mod Places
 pub mod Tables
 pub mod Replies
 pub mod Meaning
+pub mod Given
 pub mod Promises

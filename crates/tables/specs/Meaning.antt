@@ -112,6 +112,10 @@ ScriptAllows script visibles = script visibles
 abbrev pub ScriptForbids : Solutions → Assignment → Type 0
 ScriptForbids script visibles = ScriptAllows script visibles → ⊥
 
+-- every assignment of a paper meets a rule
+abbrev pub MetByAll : Solutions → Rule → Type 0
+MetByAll solutions r = (σ : Assignment) → solutions σ → Meets σ r
+
 -- some assignment of a paper breaks a rule, that is, does not meet it
 pub record Breaks (solutions : Solutions) (r : Rule) : Type 0 where
   pub assignment : Assignment

@@ -1,4 +1,5 @@
 // Tables of rules: one word for each term over n quantities (document 01, 'The table').
+pub mod given;
 pub mod limit;
 pub mod names;
 pub mod place;

@@ -16,7 +16,7 @@ use Rattle.rules.specs.Limits.{noRule}
 use Rattle.rules.specs.Meaning.{Assignment, Meets, names}
 use Rattle.tables.specs.Places.{ruleAt}
 use Rattle.tables.specs.Tables.{hasRule}
-use Rattle.tables.specs.Meaning.{HoldsRule, ruleIn, Satisfies, Satisfiable, Solutions, SheetAllows, NamesVisible, joined}
+use Rattle.tables.specs.Meaning.{HoldsRule, ruleIn, Satisfies, Satisfiable, Solutions, SheetAllows, NamesVisible, joined, MetByAll}
 use Rattle.tables.proofs.Places.{names-bound}
 use Rattle.tables.proofs.Tests.{clash}
 use Rattle.tables.proofs.Values.{meets-at, at-meets, meets-named}
@@ -25,7 +25,7 @@ use Rattle.keys.specs.Inner.{Fits}
 use Rattle.keys.proofs.Several.{allows-own, key-exact, key-visible}
 use Rattle.keys.proofs.Fitting.{hide-ample}
 use Rattle.keys.proofs.Copying.{SameTable, same-front, front-same, same-back, same-satisfies}
-use Rattle.tightening.specs.Meaning.{MetByAll, Bounded, LeastMet, VisibleAt, TightKey, SheetsAllowSame}
+use Rattle.tightening.specs.Meaning.{Bounded, LeastMet, VisibleAt, TightKey, SheetsAllowSame}
 
 -- two integers that are at most each other are the same
 le-same : {a b : ℤ} → a ≤ℤ b → b ≤ℤ a → a ≡ b
@@ -96,7 +96,7 @@ module _ (hidden : ℕ → Bool) (n : ℕ) (t u : List ℤ) (x : TightKey hidden
       exact : (τ : Assignment) → Satisfies n key τ ↔ SheetAllows hidden (Satisfies n t) τ
       exact τ = key-exact hidden n t σ₀ (hide-ample hidden n t f) s τ
 
-      implied : (k : ℕ) → HoldsRule n key k → MetByAll (Satisfies n t) k (wordAt key k)
+      implied : (k : ℕ) → HoldsRule n key k → MetByAll (Satisfies n t) (ruleAt k (wordAt key k))
       implied k p τ z = exact τ .1 (allows-own n hidden t τ z) .each k p
 
       seen : (k : ℕ) → HoldsRule n key k → VisibleAt hidden k
@@ -114,7 +114,7 @@ module _ (hidden : ℕ → Bool) (n : ℕ) (t u : List ℤ) (x : TightKey hidden
 
 -- a tight key of one sheet is one of another where the same bounds on visible terms are met by all of both
 met-alike : (hidden : ℕ → Bool) (n : ℕ) (sheet other : Solutions) (u : List ℤ)
-    → ((k : ℕ) (c : ℤ) → VisibleAt hidden k → MetByAll sheet k c → MetByAll other k c) → ((k : ℕ) (c : ℤ) → VisibleAt hidden k → MetByAll other k c → MetByAll sheet k c)
+    → ((k : ℕ) (c : ℤ) → VisibleAt hidden k → MetByAll sheet (ruleAt k c) → MetByAll other (ruleAt k c)) → ((k : ℕ) (c : ℤ) → VisibleAt hidden k → MetByAll other (ruleAt k c) → MetByAll sheet (ruleAt k c))
     → TightKey hidden n sheet u → TightKey hidden n other u
 met-alike hidden n sheet other u there back x = record {
   rule = λ k h. (
@@ -134,7 +134,7 @@ tight-solutions hidden n sheet other u a = met-alike hidden n sheet other u (λ 
 -- a bound on a visible term that all of one sheet meet is met by all of another that allows no more
 alike-met : (hidden : ℕ → Bool) (n : ℕ) (t v : List ℤ) (k : ℕ) (c : ℤ) → VisibleAt hidden k
     → ((σ : Assignment) → SheetAllows hidden (Satisfies n v) σ → SheetAllows hidden (Satisfies n t) σ)
-    → MetByAll (Satisfies n t) k c → MetByAll (Satisfies n v) k c
+    → MetByAll (Satisfies n t) (ruleAt k c) → MetByAll (Satisfies n v) (ruleAt k c)
 alike-met hidden n t v k c i w m σ s =
     let a = w σ (allows-own n hidden v σ s) in visible-meets hidden k c σ (a .hiddens) i (m (joined hidden σ (a .hiddens)) (a .complete))
 

@@ -15,11 +15,12 @@ use Rattle.rules.specs.Limits.{noRule}
 use Rattle.rules.specs.Meaning.{literalValue}
 use Rattle.rules.specs.Steps.{ruleOf, halvedOf}
 use Rattle.tables.specs.Tables.{tableOf, ruleReply, hasRule}
-use Rattle.tables.specs.Meaning.{HoldsRule, Satisfies, Solutions, assignmentOf}
+use Rattle.tables.specs.Places.{ruleAt}
+use Rattle.tables.specs.Meaning.{HoldsRule, Satisfies, Solutions, assignmentOf, MetByAll}
 use Rattle.tables.proofs.Lists.{AllAccepted, tableOf-meaning}
 use Rattle.tables.proofs.Tests.{clash}
 use Rattle.keys.proofs.Sheets.{steps}
-use Rattle.tightening.specs.Meaning.{MetByAll, Bounded, TightKey}
+use Rattle.tightening.specs.Meaning.{Bounded, TightKey}
 
 -- ---- the sheet
 
@@ -55,7 +56,7 @@ unfolding positivePart negativePart
 two-ones a b h g = omega (linear, parts-add a b)
 
 -- so +1+2:2 is met by all
-sum-met : MetByAll sheet 4 (pos 2)
+sum-met : MetByAll sheet (ruleAt 4 (pos 2))
 unfolding steps rules literalValue
 sum-met σ s = let m = tableOf-meaning 2 rules σ accepted .0 s in record { met = two-ones (σ 1) (σ 2) (m .0 .met) (m .1 .0 .met) }
 

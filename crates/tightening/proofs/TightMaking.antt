@@ -16,7 +16,7 @@ use Rattle.rules.specs.Refusing.{passed, AllMet}
 use Rattle.tables.specs.declared.reply.Reply.{Reply}
 use Rattle.tables.specs.declared.reply.Reply.the-variants.{Done}
 use Rattle.tables.specs.Tables.{tableSize}
-use Rattle.tables.specs.Meaning.{Satisfies, Satisfiable, BoundsWithin, NoneAbove}
+use Rattle.tables.specs.Meaning.{TableSized, Satisfies, Satisfiable, BoundsWithin, NoneAbove}
 use Rattle.tables.proofs.Tests.{clash}
 use Rattle.elimination.specs.Hiding.{every}
 use Rattle.keys.specs.declared.live.Part.the-variants.{Outside}
@@ -26,12 +26,13 @@ use Rattle.keys.specs.Inner.{Fits, RestFits, LiveListed, LiveAlone, SetHidden, 
 use Rattle.keys.specs.Promises.{KeyedAs}
 use Rattle.keys.proofs.Several.{refuted-false, key-length}
 use Rattle.keys.proofs.Fitting.{hide-ample, sheet-fits}
-use Rattle.keys.proofs.Copying.{SameTable}
+use Rattle.keys.proofs.Copying.{SameTable, same-front, front-same}
 use Rattle.keys.proofs.Deciding.{copy-whole, rest-fits}
-use Rattle.keys.proofs.Making.{key-placed, tried-none, tried-some, made-rest, made-same, made-none}
+use Rattle.keys.proofs.Making.{key-placed, tried-none, tried-some, tried-early, made-rest, made-same, made-none}
 use Rattle.keys.proofs.Promised.{key-done}
 use Rattle.tightening.specs.Tightening.{tightened, tightKeyOf}
 use Rattle.tightening.specs.Meaning.{TightKey}
+use Rattle.tightening.specs.Inner.{TightTried}
 use Rattle.tightening.specs.Promises.{Tightened, TightKeyMade, TightKeyed}
 use Rattle.tightening.proofs.Holding.{key-words, tightened-words}
 use Rattle.tightening.proofs.Tight.{tight-only, tight-meaning, tight-same}
@@ -56,22 +57,53 @@ module _ (n set m : ℕ) (t w u : List ℤ) (p : AllMet (keyNeedsThen n set t (l
     lent l = record { size = l .size ∙ h .lent .size; rest = l .rest ∙ h .lent .rest; kept = λ z. clash refl z }
 
     -- a contradiction at a visible quantity
-    pub tight-none : Tightened n v true x → KeyTried tightKeyOf n set t w true t x
-    tight-none q = tried-none n set m t w u p d e tightKeyOf x (lent (q .lent)) (made-none n set m t w u p d e v r h c (q .none .0 refl))
+    tight-none : Tightened n v true x → TightTried n set t w true x
+    tight-none q =
+        let k = tried-none n set m t w u p d e tightKeyOf x (lent (q .lent)) (made-none n set m t w u p d e v r h c (q .none .0 refl)) in
+        record { reply = k .reply; tight = λ z. clash refl z; lent = k .lent }
 
-    -- and none: the table becomes the tight key
-    pub tight-done : (t' : List ℤ) → Tightened n v false x → t' ≡ change m (copying x) t → KeyTried tightKeyOf n set t w false t' x
+    -- and none
+    tight-done : Tightened n v false x → TightTried n set t w false x
     unfolding tightKeyOf
-    tight-done t' q o =
-        tried-some n set m t w u p d e tightKeyOf x (lent (q .lent)) t' (h .some c left)
-        (copy-whole n m x t t' (p .0 .most) d o
-        ∙ key-placed (tightKeyOf (hiddenIn set) n t) n t x (p .0 .room) (tight-length (hiddenIn set) n t) (tight-rest (hiddenIn set) n t) same)
+    tight-done q =
+        let k = tried-some n set m t w u p d e tightKeyOf x (lent (q .lent)) (tightKeyOf (hiddenIn set) n t) (h .some c left) refl in
+        record { reply = k .reply; tight = λ z. same-front n (tightKeyOf (hiddenIn set) n t) x same; lent = k .lent }
       where
         left : Satisfiable n v
         left = let f = rest-fits n set v rest in refuted-false n v (f .sums .room) (hide-ample every n v f) (sym (q .reply))
 
         same : SameTable n (tightened n (keyOf (hiddenIn set) n t)) x
         same = rw (q .table refl) (same-tightened n (keyOf (hiddenIn set) n t) v (made-same n set m t w u p d e v r h c))
+
+    pub tight-tried : (b : Bool) → Tightened n v b x → TightTried n set t w b x
+    tight-tried true q = tight-none q
+    tight-tried false q = tight-done q
+
+-- a contradiction while hidden quantities are hidden
+pub tight-early : (n set m : ℕ) (t w u : List ℤ) → AllMet (keyNeedsThen n set t (length w) passed) → m ≡ tableSize n → u ≡ change m (copying t) w
+    → (v : List ℤ) (r : Bool) → SetHidden n set u r v → r ≡ true → TightTried n set t w true v
+tight-early n set m t w u p d e v r h c =
+    let k = tried-early n set m t w u p d e v r h tightKeyOf c in
+    record { reply = k .reply; tight = λ z. clash refl z; lent = k .lent }
+
+-- ---- the table
+
+module _ (n set : ℕ) (t w x : List ℤ) where
+  -- it stays where no integers satisfy the sheet
+  pub tight-stops : TightTried n set t w true x → KeyTried tightKeyOf n set t w true t x
+  tight-stops d = record { reply = d .reply; words = refl; lent = d .lent }
+
+  -- or becomes the tight key
+  pub tight-copied : (m : ℕ) (t' : List ℤ) → TableSized n (length t) → m ≡ tableSize n → t' ≡ change m (copying x) t → TightTried n set t w false x
+      → KeyTried tightKeyOf n set t w false t' x
+  tight-copied m t' s d o k = record {
+    reply = k .reply;
+    words =
+        copy-whole n m x t t' (s .most) d o
+        ∙ key-placed (tightKeyOf (hiddenIn set) n t) n t x (s .room) (tight-length (hiddenIn set) n t) (tight-rest (hiddenIn set) n t)
+        (front-same n (tightKeyOf (hiddenIn set) n t) x (omega (arith, s .room, tight-length (hiddenIn set) n t)) (k .tight refl));
+    lent = k .lent;
+  }
 
 -- ---- the contract
 

@@ -20,7 +20,8 @@ use Rattle.rules.specs.Hidden.{hiddenIn}
 use Rattle.rules.specs.Limits.{maxQuantities}
 use Rattle.rules.specs.Meaning.{Assignment}
 use Rattle.tables.specs.Tables.{hasRule}
-use Rattle.tables.specs.Meaning.{HoldsRule, Satisfies, Satisfiable, SheetAllows, WordsWithin, BoundsWithin, NoneAbove, joined}
+use Rattle.tables.specs.Places.{ruleAt}
+use Rattle.tables.specs.Meaning.{HoldsRule, Satisfies, Satisfiable, SheetAllows, WordsWithin, BoundsWithin, NoneAbove, joined, MetByAll}
 use Rattle.tables.proofs.Places.{names-bound}
 use Rattle.elimination.specs.Hiding.{every, withSum, loneWord}
 use Rattle.elimination.specs.Magnitude.{addLimit}
@@ -32,7 +33,7 @@ use Rattle.keys.proofs.Visible.{key-rest}
 use Rattle.keys.proofs.Copying.{SameTable, same-paired, same-lone}
 use Rattle.keys.proofs.Deciding.{rest-fits, refuted-exactly}
 use Rattle.tightening.specs.Tightening.{pairUpTo, clashUpTo, strengthening, strengthened, tightened, tightKeyOf}
-use Rattle.tightening.specs.Meaning.{MetByAll, Bounded, LeastMet, VisibleAt, TightKey}
+use Rattle.tightening.specs.Meaning.{Bounded, LeastMet, VisibleAt, TightKey}
 use Rattle.tightening.specs.Promises.{LeastBound}
 use Rattle.tightening.proofs.Least.{clash-refuted, tightened-least}
 use Rattle.tightening.proofs.Growing.{pair-ample}
@@ -138,10 +139,10 @@ module _ (n set : ℕ) (t : List ℤ) (most : n ≤ maxQuantities) (room : block
   key-room = omega (arith, key-length (hiddenIn set) n t)
 
   -- a bound on a visible term is met by all of the sheet exactly when it is met by all of the key
-  of-key : (k : ℕ) (c : ℤ) → MetByAll (Satisfies n key) k c → MetByAll (Satisfies n t) k c
+  of-key : (k : ℕ) (c : ℤ) → MetByAll (Satisfies n key) (ruleAt k c) → MetByAll (Satisfies n t) (ruleAt k c)
   of-key k c m σ s = m σ (keeps σ s)
 
-  of-sheet : (k : ℕ) (c : ℤ) → VisibleAt (hiddenIn set) k → MetByAll (Satisfies n t) k c → MetByAll (Satisfies n key) k c
+  of-sheet : (k : ℕ) (c : ℤ) → VisibleAt (hiddenIn set) k → MetByAll (Satisfies n t) (ruleAt k c) → MetByAll (Satisfies n key) (ruleAt k c)
   of-sheet k c v m σ s = let a = exact σ .0 s in visible-meets (hiddenIn set) k c σ (a .hiddens) v (m (joined (hiddenIn set) σ (a .hiddens)) (a .complete))
 
   pub tight-key : NoneAbove (blockStart n) (tightKeyOf (hiddenIn set) n t) → TightKey (hiddenIn set) n (Satisfies n t) (tightKeyOf (hiddenIn set) n t)
@@ -168,7 +169,7 @@ module _ (n set : ℕ) (t : List ℤ) (most : n ≤ maxQuantities) (room : block
           let b = bound k h .none e (r .1 .bound) in
           absurd (b .broken (of-sheet k (r .1 .bound) (r .0) (r .1 .met) (b .assignment) (b .satisfies)))
 
-      below : (k : ℕ) → HoldsRule n u k → (d : ℤ) → MetByAll (Satisfies n t) k d → (b : Bool) → ltZ d (wordAt u k) ≡ b → wordAt u k ≤ℤ d
+      below : (k : ℕ) → HoldsRule n u k → (d : ℤ) → MetByAll (Satisfies n t) (ruleAt k d) → (b : Bool) → ltZ d (wordAt u k) ≡ b → wordAt u k ≤ℤ d
       below k p d m true e =
           let b = bound k (p .inside) .smaller (p .rule) d (omega (linear, ltZ-true d (wordAt u k) e)) in
           absurd (b .broken (of-sheet k d (seen k p) m (b .assignment) (b .satisfies)))

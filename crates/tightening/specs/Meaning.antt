@@ -9,23 +9,19 @@ use lib.ListN.{length}
 use lib.Signed.{_≤ℤ_}
 use Rattle.words.specs.Change.{wordAt}
 use Rattle.places.specs.Numbering.{blockStart}
-use Rattle.rules.specs.Meaning.{Assignment, Meets, names}
+use Rattle.rules.specs.Meaning.{Assignment, names}
 use Rattle.tables.specs.Places.{ruleAt}
-use Rattle.tables.specs.Meaning.{HoldsRule, Solutions, SheetAllows, NoneAbove}
+use Rattle.tables.specs.Meaning.{HoldsRule, Solutions, SheetAllows, NoneAbove, MetByAll}
 
--- a bound on the term of place k is met by all assignments of a sheet
-abbrev pub MetByAll : Solutions → ℕ → ℤ → Type 0
-MetByAll sheet k c = (σ : Assignment) → sheet σ → Meets σ (ruleAt k c)
-
--- some integer, of whatever size, is such a bound
+-- some integer, of whatever size, is a bound on the term of place k that all assignments of a sheet meet
 pub record Bounded (sheet : Solutions) (k : ℕ) : Type 0 where
   pub bound : ℤ
-  pub met : MetByAll sheet k bound
+  pub met : MetByAll sheet (ruleAt k bound)
 
--- the least of them
+-- the least such bound
 pub record LeastMet (sheet : Solutions) (k : ℕ) (c : ℤ) : Type 0 where
-  pub met : MetByAll sheet k c
-  pub least : (d : ℤ) → MetByAll sheet k d → c ≤ℤ d
+  pub met : MetByAll sheet (ruleAt k c)
+  pub least : (d : ℤ) → MetByAll sheet (ruleAt k d) → c ≤ℤ d
 
 -- the term of place k is of visible quantities
 abbrev pub VisibleAt : (ℕ → Bool) → ℕ → Type 0

@@ -15,19 +15,19 @@ use Rattle.rules.specs.Meaning.{Assignment}
 use Rattle.tables.specs.Places.{ruleAt}
 use Rattle.tables.specs.Tables.{hasRule}
 use Rattle.tables.specs.declared.reply.Reply.{Reply}
-use Rattle.tables.specs.Meaning.{Satisfies, Unsatisfiable, SheetAllows, Breaks}
+use Rattle.tables.specs.Meaning.{Satisfies, Unsatisfiable, SheetAllows, MetByAll, Breaks}
 use Rattle.keys.specs.Keys.{refuted}
 use Rattle.keys.specs.Meaning.{SheetAccepted}
 use Rattle.keys.specs.Promises.{KeyedAs}
 use Rattle.tightening.specs.Tightening.{tightened, tightKeyOf}
-use Rattle.tightening.specs.Meaning.{MetByAll, TightKey, SheetsAllowSame}
+use Rattle.tightening.specs.Meaning.{TightKey, SheetsAllowSame}
 
 -- ---- tightening
 
 -- w is the least bound of the term of place k in a table over n quantities, over unbounded integers, with an assignment that shows it. Where w is a rule, all that satisfies the table meets it, and
 -- every smaller integer is broken. Where it is no rule, the term has no bound at all: every integer is broken, however large
 pub record LeastBound (n : ℕ) (t : List ℤ) (k : ℕ) (w : ℤ) : Type 0 where
-  pub met : hasRule w ≡ true → MetByAll (Satisfies n t) k w
+  pub met : hasRule w ≡ true → MetByAll (Satisfies n t) (ruleAt k w)
   pub smaller : hasRule w ≡ true → (c : ℤ) → c <ℤ w → Breaks (Satisfies n t) (ruleAt k c)
   pub none : hasRule w ≡ false → (c : ℤ) → Breaks (Satisfies n t) (ruleAt k c)
 

@@ -12,42 +12,36 @@ ghost use Prim.Native.Nat.{_≤_};
 ghost use lib.ListN.{length};
 ghost use Rattle.rules.specs.Refusing.{passed, AllMet};
 ghost use Rattle.keys.specs.Meaning.{keyNeedsThen};
-ghost use Rattle.keys.specs.Inner.{KeyTried};
-ghost use Rattle.tightening.specs.Tightening.{tightKeyOf};
+ghost use Rattle.tightening.specs.Inner.{TightTried};
 ghost use Rattle.tightening.specs.Promises.{TightKeyed};
 
-// Makes the key of the sheet's table in the workspace and tightens it there, and answers whether no integers satisfy the sheet: a contradiction is met while hidden quantities are hidden, or while
-// visible ones are paired. Where there is none, the table becomes the tight key. The list is for the visible quantities: its words are free.
-fn make_tight(
+// Makes the tight key of the sheet's table in the workspace, and answers whether no integers satisfy the sheet: a contradiction is met while hidden quantities are hidden, or while visible ones
+// are paired. The list is for the visible quantities: its words are free.
+fn tighten_copy(
     n: usize,
     set: Set,
-    table: &mut [i64],
+    table: &[i64],
     workspace: &mut [i64],
     list: &mut [usize],
 ) -> bool
     requires { ⌜ AllMet (keyNeedsThen n set (now table) (length (now workspace)) passed) × (n ≤ length (now list)) ⌝ }
-    ensures { λ r. ⌜ KeyTried tightKeyOf n set (now (table .entry)) (now (workspace .entry)) r (now (table .exit)) (now (workspace .exit)) ⌝ }
+    ensures { λ r. ⌜ TightTried n set (now (table .entry)) (now (workspace .entry)) r (now (workspace .exit)) ⌝ }
 {
-    let m = table::size(n);
-    words::copy(workspace, table, m);
+    words::copy(workspace, table, table::size(n));
     if key::hide_set(n, set, workspace) {
         return true;
     }
     let count = live::list(n, set, Part::Outside, 0, list);
-    if tighten::tighten(n, workspace, &list[..count]) {
-        return true;
-    }
-    words::copy(table, workspace, m);
-    false
+    tighten::tighten(n, workspace, &list[..count])
 }
 
 // The same, with room on the stack for the list, which is short: one size serves every `n`.
-fn try_tight(n: usize, set: Set, table: &mut [i64], workspace: &mut [i64]) -> bool
+pub fn tighten_sheet(n: usize, set: Set, table: &[i64], workspace: &mut [i64]) -> bool
     requires { ⌜ AllMet (keyNeedsThen n set (now table) (length (now workspace)) passed) ⌝ }
-    ensures { λ r. ⌜ KeyTried tightKeyOf n set (now (table .entry)) (now (workspace .entry)) r (now (table .exit)) (now (workspace .exit)) ⌝ }
+    ensures { λ r. ⌜ TightTried n set (now (table .entry)) (now (workspace .entry)) r (now (workspace .exit)) ⌝ }
 {
     let mut list = [0; room::LARGE];
-    make_tight(n, set, table, workspace, &mut list)
+    tighten_copy(n, set, table, workspace, &mut list)
 }
 
 // Replaces the sheet's table over `n` quantities by its tightest key, the quantities of the set `hidden` hidden. It is made in the workspace, and 'no assignment' decided on the way, before the
@@ -59,8 +53,9 @@ pub fn tight_key(n: usize, hidden: Set, table: &mut [i64], workspace: &mut [i64]
     let Reply::Done = checked else {
         return checked;
     };
-    if try_tight(n, hidden, table, workspace) {
+    if tighten_sheet(n, hidden, table, workspace) {
         return Reply::Refused(Refusal::NoAssignment);
     }
+    words::copy(table, workspace, table::size(n));
     Reply::Done
 }

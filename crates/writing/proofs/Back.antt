@@ -20,13 +20,13 @@ use Rattle.rules.specs.Hidden.{setWithin}
 use Rattle.rules.specs.declared.paper.Paper.{Paper}
 use Rattle.rules.specs.declared.paper.Paper.the-variants.{Sheet, Script}
 use Rattle.rules.specs.Limits.{boundLimit, maxQuantities, maxRules, maxText}
-use Rattle.rules.specs.Literal.{quantityOf}
+use Rattle.rules.specs.Literal.{quantityOf, quantityWithin}
 use Rattle.rules.specs.Meaning.{boundOf}
 use Rattle.tables.specs.Places.{ruleAt, HasPlace}
 use Rattle.tables.specs.Tables.{hasRule}
 use Rattle.tables.specs.Meaning.{WordsWithin, KeyLike, BoundsWithin}
 use Rattle.tables.proofs.Places.{ruleAt-bound, ruleAt-hasPlace}
-use Rattle.lines.specs.Spelling.{Written, rule, quantityWithin, lineWithin, cancelling}
+use Rattle.lines.specs.Spelling.{Written, rule, lineWithin, cancelling}
 use Rattle.lines.specs.Lines.{accepted}
 use Rattle.reading.specs.declared.read.Reading.the-variants.{Accepted}
 use Rattle.reading.specs.Texts.{ruleLines}

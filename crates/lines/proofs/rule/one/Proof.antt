@@ -9,9 +9,9 @@ use borrow.Author.Needs.{needs}
 use borrow.Author.Tests.{not-true, not-false, le-leb, lt-leb}
 use Rattle.integers.proofs.Parts.{word-value}
 use Rattle.rules.proofs.Words.{narrow-value}
-use Rattle.lines.specs.Spelling.{quantityWithin}
+use Rattle.rules.specs.Literal.{quantityWithin}
+use Rattle.rules.proofs.Quantities.{within-narrow}
 use Rattle.lines.specs.Inner.{formAnswer}
-use Rattle.lines.proofs.RuleLimits.{within-narrow}
 use Rattle.lines.proofs.rule.one.Statement.{statement}
 use Rattle.lines.proofs.rule.one.Tie as tie
 

@@ -10,9 +10,9 @@ use borrow.Author.Needs.{needs}
 use borrow.Author.Tests.{not-true, not-false, le-leb, lt-leb}
 use Rattle.integers.proofs.Parts.{word-value}
 use Rattle.rules.proofs.Words.{narrow-value}
-use Rattle.lines.specs.Spelling.{quantityWithin}
+use Rattle.rules.specs.Literal.{quantityWithin}
+use Rattle.rules.proofs.Quantities.{within-narrow, within-sum, none-zero, none-other}
 use Rattle.lines.specs.Inner.{formAnswer}
-use Rattle.lines.proofs.RuleLimits.{within-narrow, within-sum, none-zero, none-other}
 use Rattle.lines.proofs.rule.two.Statement.{statement}
 use Rattle.lines.proofs.rule.two.Tie as tie
 

@@ -1,19 +1,19 @@
--- `rule::is_quantity` meets its contract. Assumes nothing.
+-- `literal::is_quantity` meets its contract. Assumes nothing.
 use mathlib.Core.Path.{_≡_, sym, _∙_, ap}
 use lib.IntN.{natAbs}
 use borrow.Author.Needs.{needs}
 use Rattle.integers.proofs.Parts.{word-value}
-use Rattle.lines.specs.Spelling.{quantityWithin}
-use Rattle.lines.proofs.RuleLimits.{within-low, within-high}
-use Rattle.lines.proofs.rule.is_quantity.Statement.{statement}
-use Rattle.lines.proofs.rule.is_quantity.Tie as tie
+use Rattle.rules.specs.Literal.{quantityWithin}
+use Rattle.rules.proofs.Quantities.{within-low, within-high}
+use Rattle.rules.proofs.literal.is_quantity.Statement.{statement}
+use Rattle.rules.proofs.literal.is_quantity.Tie as tie
 
 magnitude-requires : tie.Need-magnitude-requires
 magnitude-requires c κs = search needs
 
--- the magnitude of the term
-size : (c : tie.After-magnitude) → c .magnitude .result ≡ natAbs (c .before .args .term)
-size c = c .magnitude .ensures ∙ ap natAbs (word-value (c .before .fits .term))
+-- the magnitude of the number
+size : (c : tie.After-magnitude) → c .magnitude .result ≡ natAbs (c .before .args .number)
+size c = c .magnitude .ensures ∙ ap natAbs (word-value (c .before .fits .number))
 
 returns : tie.Need-returns
 returns c = let m = c .before in let a = m .before .args in

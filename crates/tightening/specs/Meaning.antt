@@ -36,6 +36,10 @@ pub record TightKey (hidden : ℕ → Bool) (n : ℕ) (sheet : Solutions) (key :
   pub room : blockStart n ≤ length key
   pub words : NoneAbove (blockStart n) key
 
+-- the tightest table of a sheet: its tightest key where no quantity is taken as hidden
+abbrev pub TightTable : ℕ → Solutions → List ℤ → Type 0
+TightTable n sheet tight = TightKey (λ q. false) n sheet tight
+
 -- two sheets allow the same visible integers
 abbrev pub SheetsAllowSame : (ℕ → Bool) → Solutions → Solutions → Type 0
 SheetsAllowSame hidden sheet other = (σ : Assignment) → SheetAllows hidden sheet σ ↔ SheetAllows hidden other σ

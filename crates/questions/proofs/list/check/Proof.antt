@@ -1,57 +1,65 @@
+-- `list::check` meets its contract. The loop's invariant: the questions so far are in their limits, and the flag says whether one of them is +q-q. Assumes nothing.
+use mathlib.Core.Path.{_≡_}
+use mathlib.Core.Logic.{⊎-elim}
+use Prim.Native.Nat.{_-_, _≤_}
+use native.Mathlib.Omega.{arith}
+use borrow.Author.Needs.{needs}
+use Rattle.questions.proofs.Listing.{Checked, checked-first, checked-cancels, checked-stated, reply-outside, reply-cancels, reply-done}
 use Rattle.questions.proofs.list.check.Statement.{statement}
 use Rattle.questions.proofs.list.check.Tie as tie
-use Rattle.questions.proofs.list.check.Reads as reads
-use Rattle.questions.proofs.list.check.Lts as lts
-use Rattle.questions.proofs.list.question.Reads as question-reads
 
 abbrev Inv-loop : tie.InvT-loop
-Inv-loop n questions m cancels₀ i₀ cancels i = ?
+Inv-loop n questions m cancels₀ i₀ cancels i = (i ≤ m) × Checked n questions i cancels
 
 abbrev μ-loop : tie.MeasureT-loop
-μ-loop n questions m cancels₀ i₀ cancels i = ?
+μ-loop n questions m cancels₀ i₀ cancels i = m - i
 
--- src/list.rt:38:5
 loop-holds : tie.Need-loop-holds Inv-loop μ-loop
-loop-holds c = ?
+loop-holds c = (omega arith, checked-first _ _)
 
--- src/list.rt:39:13
 question-requires : tie.Need-question-requires Inv-loop μ-loop
-question-requires c κs = ?
+question-requires c κs = (c .before .before .pre .0, omega (arith, c .before .before .pre .1))
 
--- src/list.rt:42:39
 enum-told : tie.Need-enum-told Inv-loop μ-loop
-enum-told c = ?
+enum-told c = search needs
 
--- src/list.rt:42:17
 returns : tie.Need-returns Inv-loop μ-loop
-returns c = ?
+returns c = let q = c .before .before in reply-outside _ _ _ _ _ (q .before .loop-test .taken) (q .question .ensures) (c .enum-told .given .1)
 
--- src/list.rt:45:17
 enum-told-2 : tie.Need-enum-told-2 Inv-loop μ-loop
-enum-told-2 c = ?
+enum-told-2 c = search needs
 
 enum-told-3 : tie.Need-enum-told-3 Inv-loop μ-loop
-enum-told-3 c = ?
+enum-told-3 c = search needs
 
--- src/list.rt:49:13
 add-i : tie.Need-add-i Inv-loop μ-loop
-add-i c = ?
+add-i c = omega arith
 
--- src/list.rt:38:5
 loop-less : tie.Need-loop-less Inv-loop μ-loop
-loop-less c = ?
+loop-less c = omega arith
 
--- src/list.rt:38:5
 loop-again : tie.Need-loop-again Inv-loop μ-loop
-loop-again c = ?
+loop-again c =
+    let q = c .before in
+    let l = q .before .before .loop in (
+      omega arith,
+      ⊎-elim
+          (λ x. rw (x .2) (checked-cancels _ _ _ _ _ (l .inv .1) (q .question .ensures) (x .1 .given .1)))
+          (λ x. rw (x .2) (checked-stated _ _ _ _ _ (l .inv .1) (q .question .ensures) _ (x .1 .given .1)))
+          (c .match .came),
+    )
 
--- src/list.rt:52:9
 returns-2 : tie.Need-returns-2 Inv-loop μ-loop
-returns-2 c = ?
+returns-2 c =
+    let l = c .before .before in
+    let e : l .loop .i ≡ l .before .args .m = omega (arith, l .loop .inv .0) in
+    reply-cancels _ _ _ (rw (e, c .if1 .taken) at (l .loop .inv .1))
 
--- src/list.rt:32:1
 returns-3 : tie.Need-returns-3 Inv-loop μ-loop
-returns-3 c = ?
+returns-3 c =
+    let l = c .before .before in
+    let e : l .loop .i ≡ l .before .args .m = omega (arith, l .loop .inv .0) in
+    reply-done _ _ _ (rw (e, c .if1 .left) at (l .loop .inv .1))
 
 pub check-spec : {M : Type 1} → statement M
 check-spec =

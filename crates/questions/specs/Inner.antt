@@ -16,11 +16,9 @@ use Rattle.tables.specs.Meaning.{NoneAbove}
 use Rattle.tables.specs.Replies.{check}
 use Rattle.tables.specs.Given.{GivenAs, RuleWithin}
 use Rattle.tables.specs.Meaning.{Cancels}
-
 use Rattle.questions.specs.Questions.{maxQuestions, firstOf, secondOf, limitOf, questionAt, allWithin, noneCancels}
 use Rattle.questions.specs.Meaning.{QuestionsWithin, NoneCancels, askNeedsThen}
 use Rattle.questions.specs.Asking.{askChecks}
-
 
 -- question i + 1 as it is given
 abbrev pub QuestionGiven : ℕ → List ℤ → ℕ → Given → Type 0

@@ -25,7 +25,12 @@ fn question(n: usize, questions: &[i64], i: usize) -> Given
     requires { ⌜ (n ≤ maxQuantities) × (3 * i + 3 ≤ length (now questions)) ⌝ }
     ensures { λ r. ⌜ QuestionGiven n (now (questions .entry)) i r ⌝ }
 {
-    given::rule_of(n, questions[3 * i], questions[3 * i + 1], questions[3 * i + 2])
+    given::rule_of(
+        n,
+        questions[3 * i],
+        questions[3 * i + 1],
+        questions[3 * i + 2],
+    )
 }
 
 // The first `m` questions: 3 where one is outside the limits of a sheet's rule, then 4 where one is +q-q, each over all of them.

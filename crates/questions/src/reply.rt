@@ -15,7 +15,10 @@ impl Asked {
         ensures { λ r. ⌜ r ≡ askedNumber self ⌝ }
     {
         match self {
-            Asked::Answered { count: _, answers: _ } => 0,
+            Asked::Answered {
+                count: _,
+                answers: _,
+            } => 0,
             Asked::Refused(refusal) => rules::refusal::number(refusal),
         }
     }
@@ -25,7 +28,10 @@ impl Asked {
         ensures { λ r. ⌜ r ≡ askedValue self ⌝ }
     {
         match self {
-            Asked::Answered { count: _, answers: _ } => 0,
+            Asked::Answered {
+                count: _,
+                answers: _,
+            } => 0,
             Asked::Refused(refusal) => rules::refusal::value(refusal),
         }
     }

@@ -1,39 +1,39 @@
+-- `ask::answer_list` meets its contract: the sheet is tightened in the workspace, and each question answered from a word there. Assumes nothing.
 use borrow.Author.Needs.{needs}
+use Rattle.questions.proofs.Promised.{ask-tightens, ask-five, ask-room, ask-answers, ask-answered}
 use Rattle.questions.proofs.ask.answer_list.Statement.{statement}
 use Rattle.questions.proofs.ask.answer_list.Tie as tie
-use Rattle.questions.proofs.ask.answer_list.Reads as reads
-use Rattle.questions.proofs.ask.answer_list.Lts as lts
-use Rattle.questions.proofs.list.answer_all.Reads as answer-all-reads
-use Rattle.questions.proofs.list.count.Reads as count-reads
-use Rattle.tightening.proofs.key.tighten_sheet.Reads as tighten-sheet-reads
 
--- src/ask.rt:20:8
 tighten-sheet-requires : tie.Need-tighten-sheet-requires
-tighten-sheet-requires c κs = ?
+tighten-sheet-requires c κs = ask-tightens _ _ _ _ (c .before .pre)
 
--- src/ask.rt:21:9
 same-length : tie.Need-same-length
 same-length c = search needs
 
--- src/ask.rt:21:9
 returns : tie.Need-returns
-returns c = ?
+returns c = let y = c .before .before in ask-five _ _ _ _ _ (y .before .before .pre) (rw (c .if1 .taken) at (y .tighten-sheet .ensures))
 
--- src/ask.rt:23:9
 count-requires : tie.Need-count-requires
 count-requires c κs = search needs
 
--- src/ask.rt:24:9
 answer-all-requires : tie.Need-answer-all-requires
-answer-all-requires c κs = ?
+answer-all-requires c κs =
+    let k = c .before in
+    let i = k .before in
+    let y = i .before .before in
+    let s = y .before .before in
+    ask-answers _ _ _ _ (s .pre) _ _ (k .count .ensures) (ask-room _ _ _ _ _ (s .pre) (rw (i .if1 .left) at (y .tighten-sheet .ensures)))
 
--- src/ask.rt:16:1
 same-length-2 : tie.Need-same-length-2
 same-length-2 c = search needs
 
--- src/ask.rt:16:1
 returns-2 : tie.Need-returns-2
-returns-2 c = ?
+returns-2 c =
+    let k = c .before .before in
+    let i = k .before in
+    let y = i .before .before in
+    let s = y .before .before in
+    ask-answered _ _ _ _ _ (s .pre) (rw (i .if1 .left) at (y .tighten-sheet .ensures)) _ _ (k .count .ensures) (c .answer-all .ensures)
 
 pub answer-list-spec : {M : Type 1} → statement M
 answer-list-spec =

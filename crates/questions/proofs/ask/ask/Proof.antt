@@ -1,36 +1,27 @@
+-- `ask::ask` meets its contract: a refusal of the checks stands with nothing changed, and else the list is answered. Assumes nothing.
 use borrow.Author.Needs.{needs}
+use Rattle.questions.proofs.Promised.{ask-refused}
 use Rattle.questions.proofs.ask.ask.Statement.{statement}
 use Rattle.questions.proofs.ask.ask.Tie as tie
-use Rattle.questions.proofs.ask.ask.Reads as reads
-use Rattle.questions.proofs.ask.ask.Lts as lts
-use Rattle.questions.proofs.ask.answer_list.Reads as answer-list-reads
-use Rattle.questions.proofs.check.check.Reads as check-reads
 
--- src/ask.rt:33:9
 check-requires : tie.Need-check-requires
 check-requires c κs = search needs
 
--- src/ask.rt:35:24
 enum-known-checked : tie.Need-enum-known-checked
 enum-known-checked c = search needs
 
--- src/ask.rt:36:57
 enum-told : tie.Need-enum-told
 enum-told c = search needs
 
--- src/ask.rt:36:24
 answer-list-requires : tie.Need-answer-list-requires
-answer-list-requires c κs = ?
+answer-list-requires c κs = let e = c .before in e .before .before .check .ensures .ready (e .enum-told .given .1)
 
--- src/ask.rt:30:1
 returns : tie.Need-returns
-returns c = ?
+returns c = let k = c .before in ask-refused _ _ _ _ _ _ (k .before .before .check .ensures .reply) (k .checked .given .1)
 
--- src/ask.rt:30:1
 same-length : tie.Need-same-length
 same-length c = search needs
 
--- src/ask.rt:30:1
 returns-2 : tie.Need-returns-2
 returns-2 c = search needs
 

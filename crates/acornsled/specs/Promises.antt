@@ -19,6 +19,11 @@ use Rattle.keys.specs.Keys.{keyReply, assignmentReply}
 use Rattle.keys.specs.Meaning.{keyNeeds, assignmentNeeds}
 use Rattle.keys.specs.Promises.{Keyed, Assigned}
 use Rattle.tightening.specs.Promises.{TightKeyed}
+use Rattle.questions.specs.Questions.{questionCount}
+use Rattle.questions.specs.Meaning.{askNeeds}
+use Rattle.questions.specs.Replies.{askedNumber, askedValue, answersAfter}
+use Rattle.questions.specs.Asking.{askReply}
+use Rattle.questions.specs.Promises.{ListAnswers, QuestionsAsked}
 use Rattle.marking.specs.declared.verdict.Marking.{Marking}
 use Rattle.marking.specs.declared.verdict.Marking.the-variants.{Marked as Given}
 use Rattle.marking.specs.declared.verdict.Marking.the-variants.{Refused as NotGiven}
@@ -96,6 +101,19 @@ pub record AssignmentAnswer (n : ℕ) (table workspace values : List ℤ) (r v :
   pub value : v ≡ replyValue (assignmentReply n table (length workspace) (length values))
   pub decided : DecidedBy (assignmentNeeds n table (length workspace) (length values)) (TellsRefusal r v) (r ≡ 0)
   pub call : Assigned n table workspace values (assignmentReply n table (length workspace) (length values)) workspace' values'
+
+-- ---- asking
+
+-- asking's number r and value v, with the answers as a number before and after it
+pub record AskAnswer (n : ℕ) (table questions workspace : List ℤ) (answers r v : ℕ) (workspace' : List ℤ) (answers' : ℕ) : Type 0 where
+  pub number : r ≡ askedNumber (askReply n table questions (length workspace))
+  pub value : v ≡ askedValue (askReply n table questions (length workspace))
+  pub bits : answers' ≡ answersAfter answers (askReply n table questions (length workspace))
+  pub decided : DecidedBy (askNeeds n table questions (length workspace)) (TellsRefusal r v) (r ≡ 0)
+  pub call : QuestionsAsked n table questions workspace (askReply n table questions (length workspace)) workspace'
+  -- with 0 the bits are the answers, and mean what the request says; any other number leaves them as they were
+  pub answered : r ≡ 0 → ListAnswers n table questions workspace' (questionCount (length questions)) answers'
+  pub kept : (r ≡ 0 → ⊥) → answers' ≡ answers
 
 -- ---- marking two texts
 

@@ -4,11 +4,13 @@
 // word, overlaps nothing else that it is given.
 use marking::rule_words;
 use marking::verdict::Marking;
+use questions::ask;
+use questions::reply::Asked;
 use reading::read::Reading;
 use rules::sheet::Sheet;
 use scripts::own;
 use scripts::reply::TextMarking;
-ghost use Rattle.acornsled.specs.Promises.{ReadAnswer, WriteAnswer, KeyAnswer, TightKeyAnswer, AssignmentAnswer, MarkAnswer, MarkTextsAnswer, MarkTablesAnswer};
+ghost use Rattle.acornsled.specs.Promises.{ReadAnswer, WriteAnswer, KeyAnswer, TightKeyAnswer, AssignmentAnswer, AskAnswer, MarkAnswer, MarkTextsAnswer, MarkTablesAnswer};
 
 // Reads a text: where it answers 0, the table's first 2n² words hold its rules, and n and the hidden set are written to `quantities` and `hidden`.
 #[no_mangle]
@@ -97,6 +99,32 @@ pub extern "C" fn acornsled_assignment(
     let reply = keys::assignment::assignment(n, table, workspace, values);
     *value = reply.value();
     reply.number()
+}
+
+// Asks a list of questions of a sheet's table, three words each: first and second signed quantity, 0 for no second, and bound; words past the last whole question are not looked at. Where it
+// answers 0, bit i of `answers` is 1 exactly when every assignment of the sheet meets question i + 1, and the other bits are 0; else `answers` stays as it was. The workspace needs 2n² words.
+#[no_mangle]
+pub extern "C" fn acornsled_ask(
+    n: usize,
+    table: &[i64],
+    questions: &[i64],
+    workspace: &mut [i64],
+    answers: &mut u64,
+    value: &mut usize,
+) -> u32
+    ensures { λ r. ⌜ AskAnswer n (now (table .entry)) (now (questions .entry)) (now (workspace .entry)) (now (answers .entry)) r (now (value .exit)) (now (workspace .exit)) (now (answers .exit)) ⌝ }
+{
+    let asked = ask::ask(n, table, questions, workspace);
+    *value = asked.value();
+    let Asked::Answered {
+        count: _,
+        answers: bits,
+    } = asked
+    else {
+        return asked.number();
+    };
+    *answers = bits;
+    0
 }
 
 // Marks the text of a script against the text of a sheet: 100 for equal, 101 for loose, 102 for tight, or the refusal's number. The assignment that shows a

@@ -27,6 +27,6 @@ askedValue (Answered count answers) = 0
 askedValue (Refused f) = refusalValue f
 
 -- a host's number of answers after the call: that of the answers, and as it was where there are none
-abbrev pub yesAfter : ℕ → Asked → ℕ
-yesAfter before (Answered count answers) = answers
-yesAfter before (Refused f) = before
+abbrev pub answersAfter : ℕ → Asked → ℕ
+answersAfter before (Answered count answers) = answers
+answersAfter before (Refused f) = before

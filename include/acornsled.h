@@ -29,8 +29,8 @@
  * too. A script's other limits are the same; for its bounds ACORNSLED_MOST_BOUND is doubled once for each quantity that is
  * hidden, in a text by its own hidden list. The bounds of acornsled_key's key are never past that: handed in as the script of
  * its sheet, it is equal. Those of acornsled_tight_key's may be; where none is, that is equal too. acornsled_read,
- * acornsled_key, acornsled_tight_key and acornsled_assignment hold what they are given to a sheet's limits, so that a key may be
- * past them (3); acornsled_write writes any bound.
+ * acornsled_key, acornsled_tight_key, acornsled_assignment and acornsled_ask hold what they are given to a sheet's limits, so
+ * that a key may be past them (3); acornsled_write writes any bound.
  */
 #define ACORNSLED_MOST_QUANTITIES 32
 #define ACORNSLED_MOST_BOUND INT64_C(1000000000)
@@ -38,24 +38,30 @@
 #define ACORNSLED_MOST_BYTES 65536
 #define ACORNSLED_NO_RULE INT64_MAX
 
-/* Lengths that are enough for every sheet: words of a table, and of a workspace for a key and for an assignment; words of a
- * workspace for marking two tables; bytes of a text written, words of an assignment, words of a rule. */
+/* The most questions that can be put to a sheet in one call. */
+#define ACORNSLED_MOST_QUESTIONS 64
+
+/* Lengths that are enough for every sheet: words of a table, and of a workspace for a key, for an assignment and for questions;
+ * words of a workspace for marking two tables; bytes of a text written, words of an assignment, words of a rule or of a
+ * question, words of the longest list of questions. */
 #define ACORNSLED_TABLE_WORDS 2048
 #define ACORNSLED_MARKING_WORDS 4096
 #define ACORNSLED_TEXT_BYTES 67703
 #define ACORNSLED_VALUES_WORDS ACORNSLED_MOST_QUANTITIES
 #define ACORNSLED_RULE_WORDS 3
+#define ACORNSLED_QUESTIONS_WORDS (ACORNSLED_MOST_QUESTIONS * ACORNSLED_RULE_WORDS)
 
 /* The answers. 0 is the answer of a call on one paper that is not refused, and the last three are verdicts. */
 enum {
     ACORNSLED_DONE = 0,
     ACORNSLED_SIZE = 1,          /* a call's n outside 1 to 32, a table shorter than 2n^2 words, a text over 65,536 bytes */
     ACORNSLED_MALFORMED = 2,     /* a line of a text is malformed or missing, or bytes follow the last rule */
-    ACORNSLED_PAST_LIMIT = 3,    /* a number is outside its limit, in a text, a hidden set or a table */
-    ACORNSLED_CANCELLING = 4,    /* a rule of a text is +q-q or -q+q */
+    ACORNSLED_PAST_LIMIT = 3,    /* a number is outside its limit, in a text, a hidden set, a table or a question */
+    ACORNSLED_CANCELLING = 4,    /* a rule of a text, or a question, is +q-q or -q+q */
     ACORNSLED_NO_ASSIGNMENT = 5, /* no integers satisfy the table */
     ACORNSLED_TOO_SHORT = 6,     /* what is lent to be written to is too short */
     ACORNSLED_MISMATCH = 7,      /* the script has another n or hidden list, or a rule that names a hidden quantity */
+    ACORNSLED_BAD_LIST = 8,      /* the list of questions is empty or has more than 64 */
     ACORNSLED_EQUAL = 100,       /* the script allows what the sheet allows */
     ACORNSLED_LOOSE = 101,       /* it allows something that the sheet does not, whatever it forbids */
     ACORNSLED_TIGHT = 102        /* it only forbids more */
@@ -74,7 +80,7 @@ extern "C" {
 #endif
 
 /*
- * The first five calls write to `value` what stands beside their number: with 2, 3 and 4 of a text the line, with 6 the
+ * The first six calls write to `value` what stands beside their number: with 2, 3 and 4 of a text the line, with 6 the
  * length needed, with 0 of acornsled_write the text's length, and 0 with all others. A refusal changes nothing else, but 5
  * leaves the first 2n^2 words of the workspace free.
  */
@@ -118,6 +124,25 @@ uint32_t acornsled_tight_key(size_t n, uint32_t hidden, int64_t *table, size_t t
  */
 uint32_t acornsled_assignment(size_t n, const int64_t *table, size_t table_length, int64_t *workspace,
                               size_t workspace_length, int64_t *values, size_t values_length, size_t *value);
+
+/*
+ * Puts up to 64 questions to a sheet: 0, or 1, 3, 4, 5, 6, 8. A question is a rule, as three words: two quantity numbers with
+ * their signs, +q as q and -q as -q, in either order, the second 0 where there is none, and the bound. It is taken as written:
+ * 1, 1, 7 asks whether twice quantity 1 is at most 7. Three words of `questions` make a question, and one or two that are left
+ * at its end are not looked at. The answer is yes exactly when all integers that satisfy the table meet the question; no
+ * quantity is taken as hidden. With 0 bit i of `answers` is the answer to the question with i others before it, 1 for yes, and
+ * the bits that stand for no question are 0; a refusal leaves `answers` as it was.
+ *
+ * The workspace needs 2n^2 words. With 0 its first 2n^2 words have become the tightest table of the sheet, as
+ * acornsled_tight_key makes it where nothing is hidden, from which all answers are taken. Table and questions are only read.
+ *
+ * 1 comes first, then 8 for a list of no question or of more than 64, 6 for the workspace, 3 for a bound of the table or for
+ * any question outside a sheet's limits, as is one whose first quantity is 0, 4 for any question +q-q or -q+q, and 5: a 3 of
+ * the last question is told before a 4 of the first.
+ */
+uint32_t acornsled_ask(size_t n, const int64_t *table, size_t table_length, const int64_t *questions,
+                       size_t questions_length, int64_t *workspace, size_t workspace_length, uint64_t *answers,
+                       size_t *value);
 
 /*
  * Marks a script against a sheet, both as texts: 100, 101 or 102, or the refusal's number alone, 1, 2, 3, 4 or 7. The sheet

@@ -117,6 +117,29 @@ pub fn assignment(n: usize, table: &[i64], workspace: &mut [i64], values: &mut [
     Reply { number, value }
 }
 
+/// Puts the questions to the table, each three words: two signed quantity numbers, 0 for no second, and the bound; words behind
+/// the last whole question are not looked at. Bit i of `answers` becomes the answer to the question with i others before it, 1
+/// where all integers that satisfy the table meet it. The workspace needs 2n² words, which become the tightest table with
+/// nothing hidden.
+pub fn ask(n: usize, table: &[i64], questions: &[i64], workspace: &mut [i64], answers: &mut u64) -> Reply {
+    let mut value = UNWRITTEN;
+    // SAFETY: as above.
+    let number = unsafe {
+        sys::acornsled_ask(
+            n,
+            table.as_ptr(),
+            table.len(),
+            questions.as_ptr(),
+            questions.len(),
+            workspace.as_mut_ptr(),
+            workspace.len(),
+            answers,
+            &mut value,
+        )
+    };
+    Reply { number, value }
+}
+
 /// The number of the verdict on two texts, 100 for equal, 101 for loose, 102 for tight, or of the refusal.
 pub fn mark(sheet: &[u8], script: &[u8]) -> u32 {
     // SAFETY: as above.

@@ -1,4 +1,4 @@
-//! The refusals of document 01, 'Returned to the caller'.
+//! The refusals of document 01, 'Returned to the caller', and of document 02.
 
 use crate::calls::Reply;
 use std::error::Error;
@@ -14,7 +14,7 @@ pub enum Refusal {
     Malformed { line: usize },
     /// 3: a number is outside its limit
     OutOfLimit { line: usize },
-    /// 4: a rule `+q-q` or `-q+q`
+    /// 4: a rule or a question `+q-q` or `-q+q`
     Cancelling { line: usize },
     /// 5: no integers satisfy the table
     NoAssignment,
@@ -22,6 +22,8 @@ pub enum Refusal {
     TooShort { needed: usize },
     /// 7: the script has another n or hidden list than the sheet, or one of its rules names a hidden quantity
     Mismatch,
+    /// 8: the list of questions is empty or has more than 64
+    BadList,
 }
 
 impl Refusal {
@@ -35,6 +37,7 @@ impl Refusal {
             Refusal::NoAssignment => 5,
             Refusal::TooShort { .. } => 6,
             Refusal::Mismatch => 7,
+            Refusal::BadList => 8,
         }
     }
 
@@ -42,7 +45,9 @@ impl Refusal {
     pub fn line(self) -> usize {
         match self {
             Refusal::Malformed { line } | Refusal::OutOfLimit { line } | Refusal::Cancelling { line } => line,
-            Refusal::Size | Refusal::NoAssignment | Refusal::TooShort { .. } | Refusal::Mismatch => 0,
+            Refusal::Size | Refusal::NoAssignment | Refusal::TooShort { .. } | Refusal::Mismatch | Refusal::BadList => {
+                0
+            }
         }
     }
 
@@ -62,6 +67,7 @@ impl Refusal {
             5 => Some(Refusal::NoAssignment),
             6 => Some(Refusal::TooShort { needed: value }),
             7 => Some(Refusal::Mismatch),
+            8 => Some(Refusal::BadList),
             _ => panic!("the library answers {number}, which is no refusal"),
         }
     }
@@ -77,6 +83,7 @@ impl fmt::Display for Refusal {
             Refusal::NoAssignment => "no integers satisfy it",
             Refusal::TooShort { needed } => return write!(f, "refused with 6: what is lent is shorter than {needed}"),
             Refusal::Mismatch => "the script does not fit the sheet",
+            Refusal::BadList => "the list of questions is empty or has more than 64",
         };
         match self.line() {
             0 => write!(f, "refused with {}: {what}", self.number()),

@@ -19,6 +19,14 @@ impl Rule {
             [first, second, bound] => Some(Rule::Two { first, second, bound }),
         }
     }
+
+    /// The three words by which C has the rule, 0 for no second quantity.
+    pub fn words(self) -> [i64; 3] {
+        match self {
+            Rule::One { term, bound } => [term, 0, bound],
+            Rule::Two { first, second, bound } => [first, second, bound],
+        }
+    }
 }
 
 impl fmt::Display for Rule {

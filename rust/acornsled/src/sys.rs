@@ -53,6 +53,18 @@ extern "C" {
         value: *mut usize,
     ) -> u32;
 
+    pub fn acornsled_ask(
+        n: usize,
+        table: *const i64,
+        table_length: usize,
+        questions: *const i64,
+        questions_length: usize,
+        workspace: *mut i64,
+        workspace_length: usize,
+        answers: *mut u64,
+        value: *mut usize,
+    ) -> u32;
+
     pub fn acornsled_mark(sheet: *const u8, sheet_length: usize, script: *const u8, script_length: usize) -> u32;
 
     pub fn acornsled_mark_texts(

@@ -1,8 +1,8 @@
-//! Tables that hold their own words, and the keys of a text.
+//! Tables that hold their own words, the keys of a text, and questions to it.
 
 use crate::calls::{self, Header, Reply};
 use crate::limits::{MARKING_WORDS, MOST_QUANTITIES, TABLE_WORDS, TEXT_BYTES};
-use crate::{Refusal, Verdict};
+use crate::{Refusal, Rule, Verdict};
 
 /// A paper read: a word for each term in place order, `limits::NO_RULE` where there is no rule. n and the hidden set are the
 /// caller's to change as well; a call refuses what does not fit.
@@ -65,6 +65,18 @@ impl Table {
         Ok(values)
     }
 
+    /// Whether all integers that satisfy the table meet the question, for each of up to 64 in their order. A question is a rule
+    /// as written: its quantities may stand in either order, and twice quantity 1 is at most 7 by 1, 1 and 7. No quantity is
+    /// taken as hidden. An empty or a longer list is refused with 8; a question outside a sheet's limits with 3 and one whose
+    /// quantities cancel with 4, both with line 0; a table that no integers satisfy with 5.
+    pub fn ask(&self, questions: &[Rule]) -> Result<Vec<bool>, Refusal> {
+        let words: Vec<i64> = questions.iter().flat_map(|question| question.words()).collect();
+        let mut workspace = vec![0; TABLE_WORDS];
+        let mut answers = 0;
+        done(calls::ask(self.quantities, &self.words, &words, &mut workspace, &mut answers))?;
+        Ok((0..questions.len()).map(|at| answers >> at & 1 == 1).collect())
+    }
+
     /// The verdict on a script, this table being the sheet. A script with another n or hidden set is refused with 7 before
     /// anything else is looked at. 5 is no answer: a sheet that nothing satisfies is marked.
     pub fn mark(&self, script: &Table) -> Result<Verdict, Refusal> {
@@ -104,6 +116,23 @@ pub fn key(sheet: &[u8]) -> Result<Vec<u8>, Refusal> {
 /// As the functions of [`Table`].
 pub fn tight_key(sheet: &[u8]) -> Result<Vec<u8>, Refusal> {
     Table::read(sheet)?.tight_key()?.text()
+}
+
+/// The answers to questions that are put to a sheet's text, as [`Table::ask`] gives them; a refusal of the text has its line.
+///
+/// ```no_run
+/// use acornsled::Rule;
+///
+/// let sheet = b"quantities=3\nhidden=2\nrules=3\nrule=+1+2:5\nrule=+1-2:2\nrule=+3-2:0\n";
+/// let questions = [Rule::One { term: 1, bound: 3 }, Rule::Two { first: 3, second: 1, bound: 4 }];
+/// assert_eq!(acornsled::ask(sheet, &questions), Ok(vec![true, false]));
+/// ```
+///
+/// # Panics
+///
+/// As the functions of [`Table`].
+pub fn ask(sheet: &[u8], questions: &[Rule]) -> Result<Vec<bool>, Refusal> {
+    Table::read(sheet)?.ask(questions)
 }
 
 /// What is returned beside 0, or the refusal.

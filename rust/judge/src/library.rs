@@ -1,6 +1,6 @@
-//! The eight calls of the library, and their replies. The judge knows the calls as traits, so that it can be tried on
-//! wrong answers too: one for the calls on one table, one for the calls on texts, one for the two that mark two texts, one
-//! for the call that marks two tables.
+//! The nine calls of the library, and their replies. The judge knows the calls as traits, so that it can be tried on
+//! wrong answers too: one for the keys and the assignment of a table, one for the call that puts questions to it, one for the
+//! calls on texts, one for the two that mark two texts, one for the call that marks two tables.
 
 pub use acornsled::calls::{Header, Reply, Told};
 
@@ -8,7 +8,11 @@ pub const DONE: Reply = Reply { number: 0, value: 0 };
 pub const SIZE: Reply = Reply { number: 1, value: 0 };
 /// The value is line 0: the limit is passed outside of a text.
 pub const PAST_LIMIT: Reply = Reply { number: 3, value: 0 };
+/// The same of a question `+q-q` or `-q+q`.
+pub const CANCELLING: Reply = Reply { number: 4, value: 0 };
 pub const NO_ASSIGNMENT: Reply = Reply { number: 5, value: 0 };
+/// The list of questions is empty or too long.
+pub const BAD_LIST: Reply = Reply { number: 8, value: 0 };
 
 /// The lent words or bytes are fewer than needed.
 pub fn too_short(needed: usize) -> Reply {
@@ -73,6 +77,12 @@ pub trait Library: Sync {
 
     /// Writes n integers that satisfy the table's rules to the first n words of `values`.
     fn assignment(&self, n: usize, table: &[i64], workspace: &mut [i64], values: &mut [i64]) -> Reply;
+}
+
+/// Shared by threads, as above.
+pub trait Asker: Sync {
+    /// Writes to bit i of `answers` whether all integers that satisfy the table meet the question with i others before it.
+    fn ask(&self, n: usize, table: &[i64], questions: &[i64], workspace: &mut [i64], answers: &mut u64) -> Reply;
 }
 
 /// Shared by threads, as above.

@@ -1,7 +1,7 @@
 //! The library that this program is linked with, by the numbers that C gets: the calls of the crate `acornsled`, which are
 //! judged here with the library.
 
-use crate::library::{Header, Library, Marker, Papers, Reply, TableMarker, Texts, Told};
+use crate::library::{Asker, Header, Library, Marker, Papers, Reply, TableMarker, Texts, Told};
 use acornsled::calls;
 
 pub struct Linked;
@@ -17,6 +17,12 @@ impl Library for Linked {
 
     fn assignment(&self, n: usize, table: &[i64], workspace: &mut [i64], values: &mut [i64]) -> Reply {
         calls::assignment(n, table, workspace, values)
+    }
+}
+
+impl Asker for Linked {
+    fn ask(&self, n: usize, table: &[i64], questions: &[i64], workspace: &mut [i64], answers: &mut u64) -> Reply {
+        calls::ask(n, table, questions, workspace, answers)
     }
 }
 

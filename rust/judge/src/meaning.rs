@@ -10,6 +10,9 @@ pub const MOST_RULES: usize = 2_048;
 pub const MOST_BYTES: usize = 65_536;
 pub const NO_RULE: i64 = i64::MAX;
 
+/// The most questions of a list (document 02, request 3).
+pub const MOST_QUESTIONS: usize = 64;
+
 /// The largest magnitude of a bound in a script with this hidden set: a sheet's, doubled for each quantity of the set. Where
 /// all 32 are hidden twice as much still fits a word.
 pub fn script_limit(hidden: u32) -> i64 {

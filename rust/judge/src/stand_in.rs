@@ -1,4 +1,4 @@
-//! The static library's eight functions over `plain`, `plain_text`, `plain_mark`, `plain_reasons` and `plain_tables`, under
+//! The static library's nine functions over `plain`, `plain_text`, `plain_mark`, `plain_reasons` and `plain_tables`, under
 //! the same names: with the feature `plain` the declarations of the crate `acornsled` are tried where no archive is built
 //! (`tests/linked.rs`).
 
@@ -67,6 +67,28 @@ unsafe extern "C" fn acornsled_assignment(
         )
     };
     let reply = plain::assignment(n, table, workspace, values);
+    *value = reply.value;
+    reply.number
+}
+
+#[no_mangle]
+unsafe extern "C" fn acornsled_ask(
+    n: usize,
+    table: *const i64,
+    table_len: usize,
+    questions: *const i64,
+    questions_len: usize,
+    workspace: *mut i64,
+    workspace_len: usize,
+    answers: *mut u64,
+    value: *mut usize,
+) -> u32 {
+    // SAFETY: as above.
+    let (table, questions) = unsafe { (from_raw_parts(table, table_len), from_raw_parts(questions, questions_len)) };
+    // SAFETY: as above.
+    let (workspace, answers, value) =
+        unsafe { (from_raw_parts_mut(workspace, workspace_len), &mut *answers, &mut *value) };
+    let reply = plain::ask(n, table, questions, workspace, answers);
     *value = reply.value;
     reply.number
 }

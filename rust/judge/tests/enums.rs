@@ -83,10 +83,11 @@ fn each_refusal_is_that_of_its_number_alone() {
             (5, Refusal::NoAssignment),
             (6, Refusal::TooShort { needed: line }),
             (7, Refusal::Mismatch),
+            (8, Refusal::BadList),
         ]
     };
     for (number, refusal) in each(0) {
-        for replied in 0..9 {
+        for replied in 0..10 {
             let accepted = same_refusal(refusal, Reply { number: replied, value: 0 }).is_ok();
             assert_eq!(accepted, number == replied, "{refusal:?} for {replied}");
         }

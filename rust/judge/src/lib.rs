@@ -5,7 +5,8 @@
 //! neither eliminates a quantity. How far they are independent of the fact that hiding rests on, `graph` says. The key's
 //! words are compared with document 01's steps, written by its own words (`naive`), and those of the tightest key with the
 //! least bounds that both ways find; so is what the benchmark measures against, the library's design in ordinary Rust
-//! (`plain`). Two sheets have one tightest key exactly where they mean the same (`alike`).
+//! (`plain`). Two sheets have one tightest key exactly where they mean the same (`alike`). The answers to questions are decided
+//! by the same two ways, on the questions as they are written (`asking`).
 //!
 //! What a text says is decided by spelling (`text`), and held against a parser in ordinary Rust (`plain_text`).
 //!
@@ -21,6 +22,7 @@
 //! wrong programs on the crates' proofs (`wrong`).
 
 pub mod alike;
+pub mod asking;
 pub mod brute;
 pub mod calls;
 pub mod check;

@@ -79,7 +79,7 @@ pub fn place(x: Literal) -> usize {
 }
 
 /// In the block of the higher quantity four words for each lower one: ++, +-, -+, --.
-fn place_of_two(x: Literal, y: Literal) -> usize {
+pub fn place_of_two(x: Literal, y: Literal) -> usize {
     let (low, high) = if x.quantity < y.quantity { (x, y) } else { (y, x) };
     let block = 2 * (high.quantity - 1) * (high.quantity - 1) + 2 + 4 * (low.quantity - 1);
     block + 2 * usize::from(low.sign < 0) + usize::from(high.sign < 0)

@@ -2,7 +2,7 @@
 
 use acornsled::{Paper, Refusal, Refused, Rule, Verdict};
 use judge::enums::mark::{same, Numbers};
-use judge::enums::table::same_refusal;
+use judge::enums::table::{self, same_refusal};
 use judge::library::{Reply, Told, BOTH, EQUAL, LOOSE, NOTHING, SCRIPT, TIGHT};
 
 fn verdict(number: u32, rule: [i64; 3]) -> Numbers {
@@ -70,6 +70,22 @@ fn what_they_do_not_say_is_refused() {
     for (answer, numbers) in wrong {
         assert!(same(&answer, &numbers).is_err(), "{answer:?} for {}", numbers.number);
     }
+}
+
+/// Of questions it is the answers themselves.
+#[test]
+fn other_answers_are_refused() {
+    let done = Reply { number: 0, value: 0 };
+    let due = vec![true, false];
+    assert!(table::same(&Ok(vec![true, false]), done, &due).is_ok());
+    for wrong in [vec![true, true], vec![false, true], vec![true], vec![true, false, false], vec![]] {
+        assert!(table::same(&Ok(wrong.clone()), done, &due).is_err(), "{wrong:?}");
+    }
+    let list = Reply { number: 8, value: 0 };
+    assert!(table::same(&Err(Refusal::BadList), list, &due).is_ok());
+    assert!(table::same(&Ok(vec![]), list, &due).is_err());
+    assert!(table::same(&Err(Refusal::Mismatch), list, &due).is_err());
+    assert_eq!(Refusal::BadList.to_string(), "refused with 8: the list of questions is empty or has more than 64");
 }
 
 #[test]

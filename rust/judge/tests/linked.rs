@@ -2,6 +2,7 @@
 //! declarations of the crate `acornsled` are tried without an archive.
 
 use judge::alike;
+use judge::asking;
 use judge::enums;
 use judge::linked::Linked;
 use judge::marking;
@@ -21,6 +22,12 @@ fn the_linked_library_is_accepted_on_sheets() {
 fn the_linked_library_is_accepted_on_pairs_of_sheets() {
     // so many that every kind of pair has to be met
     alike::run::all(&Linked, 1, 2000).unwrap_or_else(|failure| panic!("{failure}"));
+}
+
+#[test]
+fn the_linked_library_is_accepted_on_lists_of_questions() {
+    // so many that every kind of call has to be met
+    asking::run::all(&Linked, 1, 5000).unwrap_or_else(|failure| panic!("{failure}"));
 }
 
 #[test]
@@ -47,4 +54,6 @@ fn the_crates_enums_say_what_the_numbers_say() {
     assert!(counts.table_pairs > 0);
     let numbers: Vec<u32> = counts.numbers.keys().copied().collect();
     assert_eq!(numbers, [1, 2, 3, 4, 7, 100, 101, 102]);
+    let lists: Vec<u32> = counts.lists.keys().copied().collect();
+    assert_eq!(lists, [0, 1, 3, 4, 5, 8]);
 }

@@ -1,6 +1,6 @@
 //! A whole run over the crate's functions, on the texts that `marking` draws for the same seed.
 
-use super::{mark, pair, table};
+use super::{ask, mark, pair, table};
 use crate::halves::{self, add_kinds, Tally};
 use crate::marking::run::drawn;
 use crate::random::Random;
@@ -8,11 +8,13 @@ use crate::text::check::shown;
 use std::collections::BTreeMap;
 use std::fmt;
 
-/// What a run has judged: pairs of texts by their numbers, texts whose tables were tried, pairs whose tables were marked.
+/// What a run has judged: pairs of texts by their numbers, texts whose tables were tried, lists of questions to tables by their
+/// numbers, pairs whose tables were marked.
 #[derive(Default)]
 pub struct Counts {
     pub numbers: BTreeMap<u32, usize>,
     pub tables: usize,
+    pub lists: BTreeMap<u32, usize>,
     pub table_pairs: usize,
 }
 
@@ -31,6 +33,9 @@ fn numbered(seed: u64, number: u64, counts: &mut Counts) -> Result<(), String> {
         *counts.numbers.entry(mark::texts(&sheet, &script).map_err(stated)?).or_default() += 1;
         for text in [&sheet, &script] {
             counts.tables += usize::from(table::text(text, &mut random).map_err(stated)?);
+            for number in ask::text(text, &mut random).map_err(stated)? {
+                *counts.lists.entry(number).or_default() += 1;
+            }
         }
         counts.table_pairs += usize::from(pair::texts(&sheet, &script, &mut random).map_err(stated)?);
     }
@@ -42,6 +47,7 @@ impl Tally for Counts {
         self.tables += other.tables;
         self.table_pairs += other.table_pairs;
         add_kinds(&mut self.numbers, &other.numbers);
+        add_kinds(&mut self.lists, &other.lists);
     }
 }
 
@@ -49,6 +55,7 @@ impl fmt::Display for Counts {
     fn fmt(&self, f: &mut fmt::Formatter) -> fmt::Result {
         write!(f, "enums-of-pairs={}", self.numbers.values().sum::<usize>())?;
         self.numbers.iter().try_for_each(|(number, count)| write!(f, " number-{number}={count}"))?;
-        write!(f, " enums-of-tables={} enums-of-table-pairs={}", self.tables, self.table_pairs)
+        write!(f, " enums-of-tables={} enums-of-table-pairs={}", self.tables, self.table_pairs)?;
+        write!(f, " enums-of-lists={}", self.lists.values().sum::<usize>())
     }
 }

@@ -110,6 +110,7 @@ pub fn of_refused(given: &Given, enumerated: bool) -> Vec<String> {
 fn of_outside(n: usize, asked: &[Words]) -> Vec<&'static str> {
     let out: Vec<&Words> = asked.iter().filter(|words| outside(n, words)).collect();
     let first = asked.iter().position(|words| outside(n, words));
+    let cancelled = asked.iter().position(|words| cancels(words) && !outside(n, words));
     let alone = |such: &dyn Fn(&Words) -> bool| out.iter().all(|words| such(words));
     let named = |&[first, second, _]: &Words| !outside(n, &[first, second, 0]);
     let kinds = [
@@ -128,11 +129,7 @@ fn of_outside(n: usize, asked: &[Words]) -> Vec<&'static str> {
             "3 for a bound that would be within if halved",
         ),
         (asked.len() > 1 && first == Some(asked.len() - 1), "3 in the last question alone"),
-        (
-            asked.iter().position(|words| cancels(words) && !outside(n, words)) < first
-                && asked.iter().any(|words| cancels(words) && !outside(n, words)),
-            "3 behind a 4",
-        ),
+        (cancelled.is_some_and(|at| Some(at) < first), "3 behind a 4"),
     ];
     kinds.into_iter().filter(|(met, _)| *met).map(|(_, kind)| kind).collect()
 }

@@ -7,6 +7,7 @@ mod grid;
 mod large;
 mod marks;
 mod papers;
+mod questions;
 mod scripts;
 mod sizes;
 mod tables;
@@ -16,12 +17,14 @@ mod times;
 use grid::{Call, Grid};
 use times::{ROUNDS, TURNS};
 
-const CALLS: [Call; 11] = [
+const CALLS: [Call; 13] = [
     Call { name: "Reading the sheet", batches: texts::read_sheet, parts: 1 },
     Call { name: "Reading the script", batches: texts::read_script, parts: 1 },
     Call { name: "Key", batches: tables::key, parts: 1 },
     Call { name: "Tight key", batches: tables::tight_key, parts: 1 },
     Call { name: "Assignment", batches: tables::assignment, parts: 1 },
+    Call { name: "Asking 64 questions", batches: tables::ask_all, parts: 1 },
+    Call { name: "Asking 1 question", batches: tables::ask_one, parts: 1 },
     Call { name: "Verdict equal", batches: marks::equal, parts: 4 },
     Call { name: "Verdict loose", batches: marks::loose, parts: 4 },
     Call { name: "Verdict tight", batches: marks::tight, parts: 4 },

@@ -1,6 +1,6 @@
-//! The sheets that are timed, each with its scripts: 4 to 32 quantities, every second one hidden, few rules or all.
+//! The sheets that are timed, each with its scripts and questions: 4 to 32 quantities, every second one hidden, few rules or all.
 
-use crate::scripts;
+use crate::{questions, scripts};
 use judge::meaning::{size, terms, LIMIT, MOST_QUANTITIES, NO_RULE};
 use judge::random::Random;
 use judge::sheets::Sheet;
@@ -21,11 +21,12 @@ const HIDDEN: u32 = 0x5555_5555;
 /// Far from every limit, also when a bound of the key, a sum of at most 2n bounds of the sheet, is changed for a script.
 const REACH: i64 = LIMIT / 100;
 
-/// A sheet, its text, and the text of a script for each verdict.
+/// A sheet, its text, the text of a script for each verdict, and the words of a list of questions.
 pub struct Pair {
     pub sheet: Sheet,
     pub text: Vec<u8>,
     pub scripts: scripts::Texts,
+    pub questions: Vec<i64>,
 }
 
 /// For each n and each density the sheets that are timed.
@@ -39,11 +40,14 @@ pub fn all() -> Papers {
 /// Sheets with so many rules. Those are left out whose key has no rule that counts, for they have no loose script.
 fn drawn(n: usize, rules: usize) -> Vec<Pair> {
     let mut random = Random::new(1, n as u64);
+    // of their own, so that the sheets are the same whatever is asked
+    let mut asking = Random::new(2, n as u64);
     let sheets = std::iter::repeat_with(|| sheet(n, rules, &mut random));
     let pairs = sheets.filter_map(|sheet| {
         let text = sheet.to_string().into_bytes();
         let scripts = scripts::of(&sheet, &text)?;
-        Some(Pair { sheet, text, scripts })
+        let questions = questions::of(&sheet, &mut asking);
+        Some(Pair { sheet, text, scripts, questions })
     });
     pairs.take(WORDS / size(n)).collect()
 }

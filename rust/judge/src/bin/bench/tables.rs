@@ -1,11 +1,11 @@
-//! The calls on tables. A workspace and an assignment are lent to all calls of a batch in turn, for what they hold
+//! The calls on one table. A workspace and an assignment are lent to all calls of a batch in turn, for what they hold
 //! before a call does not matter to it.
 
 use crate::papers::Pair;
 use crate::times::{take_turns, timed, Batches, Side};
-use judge::library::{Library, Reply, DONE};
+use judge::library::{Asker, Library, Reply, DONE};
 use judge::linked::Linked;
-use judge::meaning::{size, MOST_QUANTITIES};
+use judge::meaning::{size, MOST_QUANTITIES, MOST_QUESTIONS};
 use judge::plain;
 use std::hint::black_box;
 
@@ -58,6 +58,43 @@ pub fn assignment(pairs: &[Pair]) -> Batches {
                     Side::Plain => plain::assignment(sheet.n, &sheet.table, workspace, values),
                 };
                 reply == DONE
+            })
+        })
+    })
+}
+
+/// Times as many questions to each sheet as may be.
+pub fn ask_all(pairs: &[Pair]) -> Batches {
+    asked(pairs, MOST_QUESTIONS)
+}
+
+/// Times one question to each sheet.
+pub fn ask_one(pairs: &[Pair]) -> Batches {
+    asked(pairs, 1)
+}
+
+/// Times the first questions of each list, so many, whose answers have to be the same from both sides.
+fn asked(pairs: &[Pair], count: usize) -> Batches {
+    let mut workspace = [0; MOST_WORDS];
+    let lists: Vec<(&Pair, &[i64], u64)> = pairs
+        .iter()
+        .map(|pair| {
+            let (Pair { sheet, questions, .. }, mut due) = (pair, 0);
+            let list = &questions[..3 * count];
+            assert_eq!(plain::ask(sheet.n, &sheet.table, list, &mut workspace, &mut due), DONE);
+            (pair, list, due)
+        })
+        .collect();
+    let mut answers = 0;
+    take_turns(pairs.len(), |side| {
+        timed(|| {
+            lists.iter().all(|&(Pair { sheet, .. }, list, due)| {
+                let (workspace, answers) = (black_box(&mut workspace[..]), black_box(&mut answers));
+                let reply = match side {
+                    Side::Library => Linked.ask(sheet.n, &sheet.table, list, workspace, answers),
+                    Side::Plain => plain::ask(sheet.n, &sheet.table, list, workspace, answers),
+                };
+                reply == DONE && *answers == due
             })
         })
     })

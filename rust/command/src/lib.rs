@@ -1,6 +1,7 @@
 //! The command `acornsled`: one module for each thing that can be asked for, and what they share.
 
 pub mod arguments;
+pub mod ask;
 pub mod descriptors;
 pub mod explain;
 pub mod files;
@@ -41,6 +42,7 @@ fn named(name: &OsStr, rest: &[OsString]) -> Option<Status> {
         Some("key") => Some(key::run(rest)),
         Some("mark") => Some(mark::run(rest)),
         Some("sitting") => Some(sitting::run(rest)),
+        Some("ask") => Some(ask::run(rest)),
         Some("explain") => Some(explain::run(rest)),
         _ => None,
     }

@@ -16,7 +16,8 @@ pub fn run(given: &[OsString]) -> Status {
     if (sheet, script) == (Source::Input, Source::Input) {
         return usage::wrong(usage::MARK.usage, "only one of the two can be standard input");
     }
-    let [sheet, script] = [(Paper::Sheet, sheet), (Paper::Script, script)].map(|(paper, source)| held(paper, source));
+    let [sheet, script] =
+        [(Paper::Sheet, sheet), (Paper::Script, script)].map(|(paper, source)| source.paper(paper.name()));
     match acornsled::mark(&sheet.bytes, &script.bytes) {
         Ok(verdict) => output::answer(verdict_lines(&verdict).as_bytes()),
         Err(refused) => {
@@ -25,14 +26,6 @@ pub fn run(given: &[OsString]) -> Status {
             printed.max(sheet.status).max(script.status).max(Status::Refused)
         }
     }
-}
-
-/// The text, called by the paper that it is.
-fn held(paper: Paper, source: Source) -> Held {
-    source.held(match source {
-        Source::Input => format!("the {paper} on standard input"),
-        Source::File(_) => format!("the {paper} {source}"),
-    })
 }
 
 fn tell_refusal(refused: Refused, sheet: &Held, script: &Held) {

@@ -20,6 +20,7 @@ pub mod lines;
 pub mod malformed;
 pub mod misfit;
 pub mod pointer;
+pub mod questions;
 pub mod relation;
 pub mod written;
 
@@ -53,7 +54,7 @@ pub fn of(name: &str, text: &[u8], refused: Refused) -> Reason {
         Refusal::OutOfLimit { line } => at_line(line, limit::outside(&lines, line, paper)),
         Refusal::Cancelling { line } => at_line(line, limit::cancelling(&lines, line)),
         Refusal::NoAssignment => (": no integers satisfy its rules".to_string(), unsatisfied(text)),
-        // 6 and 7 are about no single text
+        // 6, 7 and 8 are about no text by itself
         _ => (String::new(), Vec::new()),
     };
     Reason { headline: format!("{name}: refused with {}{place}", refusal.number()), details }
@@ -66,6 +67,17 @@ pub fn of_pair(names: [&str; 2], texts: [&[u8]; 2], refusal: Refusal) -> Reason 
         headline: format!("{script} does not fit {sheet}: refused with {number}"),
         details: misfit::told(texts[0], texts[1]),
     }
+}
+
+/// Why the questions of an accepted text, by its name, cannot be put to a sheet of n quantities.
+pub fn of_questions(name: &str, text: &[u8], n: usize, refusal: Refusal) -> Reason {
+    let (what, details) = match refusal {
+        Refusal::BadList => questions::miscounted(text),
+        Refusal::OutOfLimit { .. } => questions::unknown(text, n),
+        // not met, for the text was accepted and enough is lent
+        _ => (String::new(), Vec::new()),
+    };
+    Reason { headline: format!("{name}: refused with {}{what}", refusal.number()), details }
 }
 
 /// What is told of one line, and the place of the first byte that is wrong, if there is one.

@@ -32,6 +32,14 @@ impl<'a> Source<'a> {
         }
     }
 
+    /// The text, called by the paper that it is.
+    pub fn paper(&self, paper: &str) -> Held {
+        self.held(match self {
+            Source::Input => format!("the {paper} on standard input"),
+            Source::File(_) => format!("the {paper} {self}"),
+        })
+    }
+
     /// The text by this name, and no bytes where it cannot be read, as document 01 has it; that is told.
     pub fn held(&self, name: String) -> Held {
         match self.text() {

@@ -9,6 +9,7 @@ pub const COMMAND: &str = "\
 usage: acornsled key [FILE]
        acornsled mark SHEET SCRIPT
        acornsled sitting SHEET FOLDER
+       acornsled ask SHEET QUESTIONS
        acornsled explain [FILE]
        acornsled --help | --version
 ";
@@ -26,6 +27,7 @@ pub struct Page {
 
 pub const KEY: Page = Page { usage: "usage: acornsled key [FILE]\n", help: include_str!("usage/key.txt") };
 pub const MARK: Page = Page { usage: "usage: acornsled mark SHEET SCRIPT\n", help: include_str!("usage/mark.txt") };
+pub const ASK: Page = Page { usage: "usage: acornsled ask SHEET QUESTIONS\n", help: include_str!("usage/ask.txt") };
 pub const EXPLAIN: Page = Page { usage: "usage: acornsled explain [FILE]\n", help: include_str!("usage/explain.txt") };
 
 /// Tells what is wrong with the arguments, and how the command is used.

@@ -23,6 +23,9 @@ fn help_goes_to_standard_output() {
         (&["mark", "--help"], "acornsled mark - "),
         (&["mark", "a", "-h"], "acornsled mark - "),
         (&["help", "mark"], "acornsled mark - "),
+        (&["ask", "--help"], "acornsled ask - "),
+        (&["ask", "a", "b", "-h"], "acornsled ask - "),
+        (&["help", "ask"], "acornsled ask - "),
         (&["explain", "--help"], "acornsled explain - "),
         (&["help", "explain"], "acornsled explain - "),
     ];
@@ -38,7 +41,15 @@ fn help_goes_to_standard_output() {
 
 #[test]
 fn the_version_goes_to_standard_output() {
-    for arguments in [&["--version"][..], &["-V"], &["key", "--version"], &["mark", "-V"], &["explain", "--version"]] {
+    let asked = [
+        &["--version"][..],
+        &["-V"],
+        &["key", "--version"],
+        &["mark", "-V"],
+        &["ask", "-V"],
+        &["explain", "--version"],
+    ];
+    for arguments in asked {
         assert_eq!(called(arguments), Ran { status: Some(0), output: VERSION.into(), told: String::new() });
     }
 }
@@ -56,6 +67,11 @@ fn the_examples_of_the_help_hold() {
     };
     assert_eq!(ran(acornsled(["key"]).arg(&sheet)).output, shown("key"));
     assert_eq!(ran(acornsled(["mark"]).arg(&sheet).arg(script)).output, shown("mark"));
+    let page = called(&["ask", "--help"]).output;
+    let (_, after) = page.rsplit_once("\n    $ cat questions.txt\n").expect("the page shows questions");
+    let lines = after.lines().take_while(|line| !line.contains('$')).map(|line| format!("{}\n", line.trim_start()));
+    let questions = room.file("questions.txt", lines.collect::<String>());
+    assert_eq!(ran(acornsled(["ask"]).arg(&sheet).arg(questions)).output, shown("ask"));
     assert_eq!(ran(acornsled(["explain"]).arg(&sheet)).output, shown("explain"));
 
     let page = called(&["--help"]).output;
@@ -85,6 +101,10 @@ fn wrong_use_is_told_with_the_usage_and_status_2() {
             "there is no option -x; a file of that name is given after --",
             "mark SHEET SCRIPT",
         ),
+        (&["ask"], "2 files are due, and 0 are given", "ask SHEET QUESTIONS"),
+        (&["ask", "a"], "2 files are due, and 1 is given", "ask SHEET QUESTIONS"),
+        (&["ask", "a", "b", "c"], "2 files are due, and 3 are given", "ask SHEET QUESTIONS"),
+        (&["ask", "a", "-x"], "there is no option -x; a file of that name is given after --", "ask SHEET QUESTIONS"),
         (&["explain", "a", "b"], "at most 1 file is due, and 2 are given", "explain [FILE]"),
         (
             &["key", "--\n\x1b[2J"],

@@ -1,6 +1,9 @@
 //! Is the judge of the command worth believing? It accepts what belongs to a printed answer, and refuses what does not.
 
 use judge::command::answer::{judged, Kind, Said};
+use judge::command::ask;
+use std::fs;
+use std::path::Path;
 
 const KEY: &str = "quantities=1\nhidden=\nrules=0\n";
 const REFUSED: &str = "refused=3\npaper=script\nline=14\n";
@@ -43,5 +46,18 @@ fn what_does_not_belong_to_it_is_refused() {
     ];
     for (printed, said, unread, due) in wrong {
         assert_eq!(judged(printed.as_bytes(), &said, unread), Err(due.into()));
+    }
+}
+
+/// What is stored for questions was written by hand; a file that is missing counts as an empty text.
+#[test]
+fn questions_are_answered_as_it_is_stored() {
+    let folder = Path::new(env!("CARGO_MANIFEST_DIR")).join("../../tests/ask");
+    let cases: Vec<_> = fs::read_dir(folder).expect("the cases are there").map(|case| case.unwrap().path()).collect();
+    assert!(cases.len() > 20, "{} cases", cases.len());
+    for case in cases {
+        let [sheet, questions] = ["sheet", "questions"].map(|name| fs::read(case.join(name)).unwrap_or_default());
+        let stored = fs::read_to_string(case.join("stdout")).expect("what is printed is stored");
+        assert_eq!(ask::printed(&sheet, &questions), Ok(stored), "{}", case.display());
     }
 }

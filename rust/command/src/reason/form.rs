@@ -5,6 +5,7 @@ use super::cursor::{Cursor, Numeral};
 use super::divided::Number;
 use super::fault::Fault;
 use super::relation;
+use acornsled::Rule;
 use std::cmp::Ordering;
 
 /// A quantity behind its sign.
@@ -21,6 +22,30 @@ pub struct RuleLine<'a> {
     pub second: Option<Term<'a>>,
     pub minus: bool,
     pub bound: Numeral<'a>,
+}
+
+impl Term<'_> {
+    /// The quantity's number with its sign, 0 where it does not fit.
+    fn signed(&self) -> i64 {
+        let quantity = self.quantity.value().and_then(|value| i64::try_from(value).ok()).unwrap_or(0);
+        if self.minus {
+            -quantity
+        } else {
+            quantity
+        }
+    }
+}
+
+impl RuleLine<'_> {
+    /// The rule by value, as it is written. Its numbers are within their limits.
+    pub fn rule(&self) -> Rule {
+        let magnitude = self.bound.value().and_then(|value| i64::try_from(value).ok()).unwrap_or(i64::MAX);
+        let bound = if self.minus { -magnitude } else { magnitude };
+        match &self.second {
+            None => Rule::One { term: self.first.signed(), bound },
+            Some(second) => Rule::Two { first: self.first.signed(), second: second.signed(), bound },
+        }
+    }
 }
 
 const END_OF_NUMBER: &str = "a digit or the end of the line";

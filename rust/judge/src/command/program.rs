@@ -47,6 +47,21 @@ impl Acornsled {
         said(self.with(&["mark", "sheet", "script"]).current_dir(folder).stdin(Stdio::null()).output())
     }
 
+    /// The questions of one text put to the sheet of another, both in files, or the questions on standard input.
+    pub fn ask(&self, sheet: &[u8], questions: &[u8], fed_with_questions: bool) -> Result<Said, String> {
+        let folder = Folder::holding(&[("sheet", sheet), ("questions", questions)]);
+        let folder = folder.map_err(|e| format!("no folder is made: {e}"))?;
+        match fed_with_questions {
+            true => said(fed(self.with(&["ask", "sheet", "-"]).current_dir(folder.path()), questions)),
+            false => self.ask_in(folder.path()),
+        }
+    }
+
+    /// The same of the files `sheet` and `questions` of a folder, be they there or not.
+    pub fn ask_in(&self, folder: &Path) -> Result<Said, String> {
+        said(self.with(&["ask", "sheet", "questions"]).current_dir(folder).stdin(Stdio::null()).output())
+    }
+
     fn with(&self, given: &[&str]) -> Command {
         let mut command = Command::new(&self.path);
         command.args(given);

@@ -1,6 +1,8 @@
-//! A whole run over the command: the stored cases, then the inputs that the programs are judged on, for the same seed.
+//! A whole run over the command: the stored cases, then the inputs that the programs are judged on, for the same seed, and lists of
+//! questions, of which no program prints the answers.
 
 use super::answer::{judged, Kind};
+use super::ask;
 use super::program::Acornsled;
 use super::stored;
 use crate::halves::{self, Tally};
@@ -9,7 +11,7 @@ use crate::printed::programs::Printer;
 use crate::text::check::shown;
 use std::fmt;
 
-/// From so many inputs on there have to be answers and refusals of both commands.
+/// From so many inputs on there have to be answers and refusals of each command.
 const ENOUGH: u64 = 100;
 
 #[derive(Default)]
@@ -18,20 +20,39 @@ pub struct Counts {
     /// answers and refusals of *key*, and of *mark*
     key: [usize; 2],
     mark: [usize; 2],
+    /// the same of `ask`
+    ask: [usize; 2],
 }
 
 /// What was judged, or the first failure with its input.
 pub fn all(printer: &dyn Printer, command: &Acornsled, seed: u64, count: u64) -> Result<Counts, String> {
     let stored = stored::all(printer, command)?.len();
     let counts = Counts { stored, ..random(printer, command, seed, count)? };
-    if count >= ENOUGH && [counts.key, counts.mark].concat().contains(&0) {
+    if count >= ENOUGH && [counts.key, counts.mark, counts.ask].concat().contains(&0) {
         return Err(format!("not all is met: {counts}"));
     }
     Ok(counts)
 }
 
 fn random(printer: &dyn Printer, command: &Acornsled, seed: u64, count: u64) -> Result<Counts, String> {
-    halves::both(count, |number, counts| numbered(printer, command, seed, number, counts))
+    halves::both(count, |number, counts| {
+        numbered(printer, command, seed, number, counts)?;
+        asked(command, seed, number, counts)
+    })
+}
+
+/// The questions with this number.
+fn asked(command: &Acornsled, seed: u64, number: u64, counts: &mut Counts) -> Result<(), String> {
+    for [sheet, questions] in ask::drawn(seed, number) {
+        let printed = ask::printed(&sheet, &questions)?;
+        let said = command.ask(&sheet, &questions, number % 4 < 2)?;
+        let kind = judged(printed.as_bytes(), &said, false).map_err(|e| {
+            let texts = format!("sheet, {}\nquestions, {}", shown(&sheet), shown(&questions));
+            format!("seed {seed}, command's questions {number}: {e}\n{texts}")
+        })?;
+        counts.ask[at(kind)] += 1;
+    }
+    Ok(())
 }
 
 /// The inputs with this number. A key is asked for on standard input and by a file's name.
@@ -76,14 +97,15 @@ impl Tally for Counts {
         for kind in 0..2 {
             self.key[kind] += other.key[kind];
             self.mark[kind] += other.mark[kind];
+            self.ask[kind] += other.ask[kind];
         }
     }
 }
 
 impl fmt::Display for Counts {
     fn fmt(&self, f: &mut fmt::Formatter) -> fmt::Result {
-        let Counts { stored, key: [keys, no_keys], mark: [verdicts, refusals] } = self;
+        let Counts { stored, key: [keys, no_keys], mark: [verdicts, refusals], ask: [answered, unanswered] } = self;
         write!(f, "command-stored={stored} command-key={keys} refused={no_keys}")?;
-        write!(f, " command-mark={verdicts} refused={refusals}")
+        write!(f, " command-mark={verdicts} refused={refusals} command-ask={answered} refused={unanswered}")
     }
 }

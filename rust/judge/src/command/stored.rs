@@ -1,5 +1,6 @@
 //! The stored cases: in each folder of tests/mark a sheet, a script, either of which may be missing, and what *mark* prints; in
-//! each of tests/key a sheet and what *key* prints; and the sample sheets, whose keys *key* prints.
+//! each of tests/key a sheet and what *key* prints; in each of tests/ask a sheet, questions, either of which may be missing, and
+//! what `acornsled ask` prints; and the sample sheets, whose keys *key* prints.
 
 use super::answer::{judged, Kind};
 use super::program::Acornsled;
@@ -17,6 +18,7 @@ pub fn all(printer: &dyn Printer, command: &Acornsled) -> Result<Vec<Kind>, Stri
     for folder in listed(&root.join("tests/key"))? {
         kinds.push(keyed(command, &folder).map_err(|e| format!("{}: {e}", folder.display()))?);
     }
+    kinds.extend(asked(command)?);
     for path in listed(&root.join("sheets"))?.iter().filter(|path| path.is_file()) {
         let text = fs::read(path).map_err(|e| format!("{}: {e}", path.display()))?;
         let said = command.key_of_file(&text)?;
@@ -24,6 +26,17 @@ pub fn all(printer: &dyn Printer, command: &Acornsled) -> Result<Vec<Kind>, Stri
         kinds.push(kind.map_err(|e| format!("{}: {e}", path.display()))?);
     }
     Ok(kinds)
+}
+
+/// Judges the command on the stored questions.
+fn asked(command: &Acornsled) -> Result<Vec<Kind>, String> {
+    let folders = listed(&Path::new(env!("CARGO_MANIFEST_DIR")).join("../../tests/ask"))?;
+    let judged_in = |folder: &PathBuf| {
+        let printed = fs::read(folder.join("stdout")).map_err(|e| format!("stdout: {e}"))?;
+        let unread = ["sheet", "questions"].iter().any(|name| fs::read(folder.join(name)).is_err());
+        judged(&printed, &command.ask_in(folder)?, unread)
+    };
+    folders.iter().map(|folder| judged_in(folder).map_err(|e| format!("{}: {e}", folder.display()))).collect()
 }
 
 fn marked(command: &Acornsled, folder: &Path) -> Result<Kind, String> {

@@ -37,6 +37,13 @@ static const int64_t key_table[WORDS] = {
     NONE, NONE, 5, NONE, NONE, NONE, NONE, NONE, NONE, NONE,
 };
 
+/* The tightest table of sheet A with nothing hidden: +1:3, +1+2:5, +1-2:2, +1+3:5, -2+3:0. */
+static const int64_t tight_table[WORDS] = {
+    3, NONE,
+    NONE, NONE, 5, 2, NONE, NONE,
+    NONE, NONE, 5, NONE, NONE, NONE, NONE, NONE, 0, NONE,
+};
+
 /* The scripts of document 01 that are loose, tight, and both too wide and too narrow: +1:3; +1:2, +1+3:5; +1:2. */
 static const int64_t wide_table[WORDS] = {
     3, NONE,
@@ -64,6 +71,7 @@ static uint32_t hidden;
 static size_t value;
 static int64_t rule[ACORNSLED_RULE_WORDS];
 static uint32_t paper;
+static uint64_t answers;
 
 static unsigned calls;
 
@@ -114,6 +122,7 @@ static void lend(const int64_t *words, size_t length)
     hidden = BEFORE;
     value = BEFORE;
     paper = BEFORE;
+    answers = BEFORE;
     rule[0] = rule[1] = rule[2] = BEFORE;
     if (length > 0) {
         memcpy(table, words, length * sizeof *words);
@@ -254,6 +263,82 @@ static void keying_tight(void)
     holds(memcmp(table, tightest, sizeof tightest) == 0 && kept(table, TWO), "least bounds may be past every limit");
     lend(bound, 2);
     due("tight_key", acornsled_tight_key(1, 0, table, 2, workspace, 2, &value), ACORNSLED_PAST_LIMIT, 0);
+}
+
+/* Puts questions of so many words to sheet A, with so many words of workspace. The answers are BEFORE where they stay. */
+static void asked(const int64_t *questions, size_t words, size_t workspace_words, uint32_t number, size_t value_due,
+                  uint64_t answers_due)
+{
+    lend(sheet_table, WORDS);
+    due("ask", acornsled_ask(N, table, LARGEST, questions, words, workspace, workspace_words, &answers, &value), number,
+        value_due);
+    holds(answers == answers_due, "the answers to questions");
+    holds(held(sheet_table), "asking leaves the table");
+    if (number == ACORNSLED_DONE) {
+        holds(memcmp(workspace, tight_table, sizeof tight_table) == 0 && kept(workspace, WORDS),
+              "the workspace becomes the tightest table");
+    } else {
+        holds(kept(workspace, 0), "a refused list changes nothing");
+    }
+}
+
+/* One question to sheet A. */
+static void question(int64_t first, int64_t second, int64_t bound, uint32_t number, uint64_t answers_due)
+{
+    const int64_t words[ACORNSLED_RULE_WORDS] = {first, second, bound};
+    asked(words, ACORNSLED_RULE_WORDS, WORDS, number, 0, answers_due);
+}
+
+/* A list of so many questions +1:2 to sheet A, the last of which is +1:3: no to all but that. */
+static void asking_many(size_t count, size_t workspace_words, uint32_t number, size_t value_due, uint64_t answers_due)
+{
+    static int64_t list[ACORNSLED_QUESTIONS_WORDS + ACORNSLED_RULE_WORDS];
+    for (size_t at = 0; at < count; at++) {
+        list[3 * at] = 1;
+        list[3 * at + 1] = 0;
+        list[3 * at + 2] = at + 1 == count ? 3 : 2;
+    }
+    asked(list, count * ACORNSLED_RULE_WORDS, workspace_words, number, value_due, answers_due);
+}
+
+/* Document 02, request 3: questions to sheet A, then to a sheet that nothing satisfies. */
+static void asking(void)
+{
+    static const int64_t ten[] = {
+        1, 0, 3, 1, 0, 2, 1, 1, 7, 1, 1, 6, 1, 1, 5, 1, 3, 5, 3, 1, 5, 1, 3, 4,
+        -1, 0, ACORNSLED_MOST_BOUND, 3, 0, ACORNSLED_MOST_BOUND,
+        /* no whole question */ 0, 0,
+    };
+    static const int64_t both[] = {1, -1, 0, 1, 0, ACORNSLED_MOST_BOUND + 1};
+    static const int64_t none[] = {0, -1}; /* +1:0 and -1:-1 */
+    static const int64_t cancelling[] = {1, -1, 0}, plain_question[] = {1, 0, 0};
+
+    asked(ten, sizeof ten / sizeof *ten, LARGEST, ACORNSLED_DONE, 0, 0x6d);
+    question(1, 0, 3, ACORNSLED_DONE, 1);
+    question(1, 0, 2, ACORNSLED_DONE, 0);
+    question(-2, 3, 0, ACORNSLED_DONE, 1);
+    question(3, -2, -1, ACORNSLED_DONE, 0);
+    asking_many(ACORNSLED_MOST_QUESTIONS, WORDS, ACORNSLED_DONE, 0, UINT64_C(1) << 63);
+    asking_many(ACORNSLED_MOST_QUESTIONS, WORDS - 1, ACORNSLED_TOO_SHORT, WORDS, BEFORE);
+    asking_many(ACORNSLED_MOST_QUESTIONS + 1, 0, ACORNSLED_BAD_LIST, 0, BEFORE);
+    asked(ten, 2, 0, ACORNSLED_BAD_LIST, 0, BEFORE);
+    /* a first quantity that is none, quantities past n, a bound past the limit as it is written */
+    question(0, 0, 3, ACORNSLED_PAST_LIMIT, BEFORE);
+    question(N + 1, 0, 3, ACORNSLED_PAST_LIMIT, BEFORE);
+    question(1, -N - 1, 3, ACORNSLED_PAST_LIMIT, BEFORE);
+    question(1, 1, 2 * ACORNSLED_MOST_BOUND, ACORNSLED_PAST_LIMIT, BEFORE);
+    asked(both, 6, WORDS, ACORNSLED_PAST_LIMIT, 0, BEFORE);
+    asked(both, 3, WORDS, ACORNSLED_CANCELLING, 0, BEFORE);
+
+    lend(none, 2);
+    due("ask", acornsled_ask(0, table, 2, cancelling, 3, workspace, 2, &answers, &value), ACORNSLED_SIZE, 0);
+    due("ask", acornsled_ask(1, table, 1, cancelling, 0, workspace, 0, &answers, &value), ACORNSLED_SIZE, 0);
+    due("ask", acornsled_ask(1, table, 2, cancelling, 3, workspace, 2, &answers, &value), ACORNSLED_CANCELLING, 0);
+    holds(kept(workspace, 0), "a refused list changes nothing");
+    due("ask", acornsled_ask(1, table, 2, plain_question, 3, workspace, LARGEST, &answers, &value),
+        ACORNSLED_NO_ASSIGNMENT, 0);
+    holds(answers == BEFORE && kept(workspace, 2) && memcmp(table, none, sizeof none) == 0 && kept(table, 2),
+          "a sheet that nothing satisfies answers nothing");
 }
 
 static void writing(void)
@@ -418,6 +503,7 @@ int main(void)
     assigning();
     keying();
     keying_tight();
+    asking();
     writing();
     marking();
     marking_large();

@@ -24,7 +24,8 @@ static char sheet[ACORNSLED_MOST_BYTES], script[ACORNSLED_MOST_BYTES];
 static uint8_t out[ACORNSLED_TEXT_BYTES];
 static size_t sheet_length, script_length, quantities, value;
 static uint32_t hidden, paper_of, answer;
-static int64_t rule[ACORNSLED_RULE_WORDS];
+static int64_t rule[ACORNSLED_RULE_WORDS], questions[ACORNSLED_QUESTIONS_WORDS];
+static uint64_t answers;
 
 static void *call_nothing(void *unused)
 {
@@ -58,6 +59,12 @@ static void *call_key(void *unused)
 static void *call_tight_key(void *unused)
 {
     answer = acornsled_tight_key(N, hidden, table, WORDS, workspace, WORDS, &value);
+    return unused;
+}
+
+static void *call_ask(void *unused)
+{
+    answer = acornsled_ask(N, table, WORDS, questions, ACORNSLED_QUESTIONS_WORDS, workspace, WORDS, &answers, &value);
     return unused;
 }
 
@@ -147,6 +154,12 @@ int main(void)
     measure("acornsled_read", call_read, ACORNSLED_DONE);
     measure("acornsled_write", call_write, ACORNSLED_DONE);
     measure("acornsled_assignment", call_assignment, ACORNSLED_DONE);
+    for (int at = 0; at < ACORNSLED_MOST_QUESTIONS; at++) {
+        questions[3 * at] = at % N + 1;
+        questions[3 * at + 1] = at < N ? 0 : -((at + 1) % N + 1);
+        questions[3 * at + 2] = 1000;
+    }
+    measure("acornsled_ask", call_ask, ACORNSLED_DONE);
     measure("acornsled_key", call_key, ACORNSLED_DONE);
     /* the sheet's table has become the key */
     acornsled_read((uint8_t *)sheet, sheet_length, table, WORDS, &quantities, &hidden, &value);

@@ -320,8 +320,8 @@ static void asking(void)
     question(3, -2, -1, ACORNSLED_DONE, 0);
     asking_many(ACORNSLED_MOST_QUESTIONS, WORDS, ACORNSLED_DONE, 0, UINT64_C(1) << 63);
     asking_many(ACORNSLED_MOST_QUESTIONS, WORDS - 1, ACORNSLED_TOO_SHORT, WORDS, BEFORE);
-    asking_many(ACORNSLED_MOST_QUESTIONS + 1, 0, ACORNSLED_BAD_LIST, 0, BEFORE);
-    asked(ten, 2, 0, ACORNSLED_BAD_LIST, 0, BEFORE);
+    asking_many(ACORNSLED_MOST_QUESTIONS + 1, 0, ACORNSLED_LIST_SIZE, 0, BEFORE);
+    asked(ten, 2, 0, ACORNSLED_LIST_SIZE, 0, BEFORE);
     /* a first quantity that is none, quantities past n, a bound past the limit as it is written */
     question(0, 0, 3, ACORNSLED_PAST_LIMIT, BEFORE);
     question(N + 1, 0, 3, ACORNSLED_PAST_LIMIT, BEFORE);

@@ -61,7 +61,7 @@ enum {
     ACORNSLED_NO_ASSIGNMENT = 5, /* no integers satisfy the table */
     ACORNSLED_TOO_SHORT = 6,     /* what is lent to be written to is too short */
     ACORNSLED_MISMATCH = 7,      /* the script has another n or hidden list, or a rule that names a hidden quantity */
-    ACORNSLED_BAD_LIST = 8,      /* the list of questions is empty or has more than 64 */
+    ACORNSLED_LIST_SIZE = 8,     /* the list of questions is empty or has more than 64 */
     ACORNSLED_EQUAL = 100,       /* the script allows what the sheet allows */
     ACORNSLED_LOOSE = 101,       /* it allows something that the sheet does not, whatever it forbids */
     ACORNSLED_TIGHT = 102        /* it only forbids more */

@@ -23,7 +23,7 @@ pub enum Refusal {
     /// 7: the script has another n or hidden list than the sheet, or one of its rules names a hidden quantity
     Mismatch,
     /// 8: the list of questions is empty or has more than 64
-    BadList,
+    ListSize,
 }
 
 impl Refusal {
@@ -37,7 +37,7 @@ impl Refusal {
             Refusal::NoAssignment => 5,
             Refusal::TooShort { .. } => 6,
             Refusal::Mismatch => 7,
-            Refusal::BadList => 8,
+            Refusal::ListSize => 8,
         }
     }
 
@@ -45,9 +45,11 @@ impl Refusal {
     pub fn line(self) -> usize {
         match self {
             Refusal::Malformed { line } | Refusal::OutOfLimit { line } | Refusal::Cancelling { line } => line,
-            Refusal::Size | Refusal::NoAssignment | Refusal::TooShort { .. } | Refusal::Mismatch | Refusal::BadList => {
-                0
-            }
+            Refusal::Size
+            | Refusal::NoAssignment
+            | Refusal::TooShort { .. }
+            | Refusal::Mismatch
+            | Refusal::ListSize => 0,
         }
     }
 
@@ -67,7 +69,7 @@ impl Refusal {
             5 => Some(Refusal::NoAssignment),
             6 => Some(Refusal::TooShort { needed: value }),
             7 => Some(Refusal::Mismatch),
-            8 => Some(Refusal::BadList),
+            8 => Some(Refusal::ListSize),
             _ => panic!("the library answers {number}, which is no refusal"),
         }
     }
@@ -83,7 +85,7 @@ impl fmt::Display for Refusal {
             Refusal::NoAssignment => "no integers satisfy it",
             Refusal::TooShort { needed } => return write!(f, "refused with 6: what is lent is shorter than {needed}"),
             Refusal::Mismatch => "the script does not fit the sheet",
-            Refusal::BadList => "the list of questions is empty or has more than 64",
+            Refusal::ListSize => "the list of questions is empty or has more than 64",
         };
         match self.line() {
             0 => write!(f, "refused with {}: {what}", self.number()),

@@ -72,7 +72,7 @@ pub fn of_pair(names: [&str; 2], texts: [&[u8]; 2], refusal: Refusal) -> Reason 
 /// Why the questions of an accepted text, by its name, cannot be put to a sheet of n quantities.
 pub fn of_questions(name: &str, text: &[u8], n: usize, refusal: Refusal) -> Reason {
     let (what, details) = match refusal {
-        Refusal::BadList => questions::miscounted(text),
+        Refusal::ListSize => questions::miscounted(text),
         Refusal::OutOfLimit { .. } => questions::unknown(text, n),
         // not met, for the text was accepted and enough is lent
         _ => (String::new(), Vec::new()),

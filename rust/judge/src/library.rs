@@ -12,7 +12,7 @@ pub const PAST_LIMIT: Reply = Reply { number: 3, value: 0 };
 pub const CANCELLING: Reply = Reply { number: 4, value: 0 };
 pub const NO_ASSIGNMENT: Reply = Reply { number: 5, value: 0 };
 /// The list of questions is empty or too long.
-pub const BAD_LIST: Reply = Reply { number: 8, value: 0 };
+pub const LIST_SIZE: Reply = Reply { number: 8, value: 0 };
 
 /// The lent words or bytes are fewer than needed.
 pub fn too_short(needed: usize) -> Reply {

@@ -13,7 +13,7 @@ mod order;
 pub(crate) mod step;
 pub mod tight;
 
-use crate::library::{too_short, Reply, BAD_LIST, DONE, NO_ASSIGNMENT, PAST_LIMIT, SIZE};
+use crate::library::{too_short, Reply, DONE, LIST_SIZE, NO_ASSIGNMENT, PAST_LIMIT, SIZE};
 use crate::meaning::{LIMIT, MOST_QUANTITIES, MOST_QUESTIONS, NO_RULE};
 use order::Order;
 
@@ -68,7 +68,7 @@ pub fn ask(n: usize, table: &[i64], questions: &[i64], workspace: &mut [i64], an
         return SIZE;
     }
     if !(1..=MOST_QUESTIONS).contains(&(questions.len() / 3)) {
-        return BAD_LIST;
+        return LIST_SIZE;
     }
     if workspace.len() < 2 * n * n {
         return too_short(2 * n * n);

@@ -82,10 +82,10 @@ fn other_answers_are_refused() {
         assert!(table::same(&Ok(wrong.clone()), done, &due).is_err(), "{wrong:?}");
     }
     let list = Reply { number: 8, value: 0 };
-    assert!(table::same(&Err(Refusal::BadList), list, &due).is_ok());
+    assert!(table::same(&Err(Refusal::ListSize), list, &due).is_ok());
     assert!(table::same(&Ok(vec![]), list, &due).is_err());
     assert!(table::same(&Err(Refusal::Mismatch), list, &due).is_err());
-    assert_eq!(Refusal::BadList.to_string(), "refused with 8: the list of questions is empty or has more than 64");
+    assert_eq!(Refusal::ListSize.to_string(), "refused with 8: the list of questions is empty or has more than 64");
 }
 
 #[test]
@@ -99,7 +99,7 @@ fn each_refusal_is_that_of_its_number_alone() {
             (5, Refusal::NoAssignment),
             (6, Refusal::TooShort { needed: line }),
             (7, Refusal::Mismatch),
-            (8, Refusal::BadList),
+            (8, Refusal::ListSize),
         ]
     };
     for (number, refusal) in each(0) {

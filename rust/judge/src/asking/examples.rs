@@ -5,7 +5,7 @@ use super::counts::Counts;
 use super::due::Owed;
 use super::given::{Given, Words};
 use crate::document::{table, Short};
-use crate::library::{spelled, too_short, Asker, Reply, BAD_LIST, CANCELLING, DONE, NO_ASSIGNMENT, PAST_LIMIT, SIZE};
+use crate::library::{spelled, too_short, Asker, Reply, CANCELLING, DONE, LIST_SIZE, NO_ASSIGNMENT, PAST_LIMIT, SIZE};
 use crate::meaning::{size, LIMIT};
 use crate::random::Random;
 
@@ -121,7 +121,7 @@ fn lengths(library: &dyn Asker) -> Result<usize, String> {
         behind.questions.extend([0, i64::MIN]);
         answered(library, &behind, &yes)?;
         let more = [&words[..], &[[1, 0, 3]]].concat();
-        refused(library, &Given { workspace: 0, ..given(3, A, &more) }, BAD_LIST)?;
+        refused(library, &Given { workspace: 0, ..given(3, A, &more) }, LIST_SIZE)?;
         refused(library, &Given { workspace: 17, ..given(3, A, &words) }, too_short(18))?;
     }
     Ok(8)
@@ -138,8 +138,8 @@ fn refusals(library: &dyn Asker) -> Result<usize, String> {
         (Given { n: 0, ..given(3, A, &[]) }, SIZE),
         (Given { n: 33, ..given(3, A, &[]) }, SIZE),
         (Given { table: vec![0; 17], workspace: 0, ..given(3, A, &[]) }, SIZE),
-        (Given { workspace: 0, ..given(3, A, &[]) }, BAD_LIST),
-        (Given { questions: vec![9, 9], ..given(3, A, &[]) }, BAD_LIST),
+        (Given { workspace: 0, ..given(3, A, &[]) }, LIST_SIZE),
+        (Given { questions: vec![9, 9], ..given(3, A, &[]) }, LIST_SIZE),
         (Given { workspace: 17, ..past(17, LIMIT + 1) }, too_short(18)),
         // before 4
         (past(17, LIMIT + 1), PAST_LIMIT),

@@ -2,7 +2,7 @@
 
 use crate::graph::Closure;
 use crate::lent::further;
-use crate::library::{too_short, Reply, BAD_LIST, CANCELLING, NO_ASSIGNMENT, PAST_LIMIT, SIZE};
+use crate::library::{too_short, Reply, CANCELLING, LIST_SIZE, NO_ASSIGNMENT, PAST_LIMIT, SIZE};
 use crate::meaning::{rules, size, Literal, Rule, Term, LIMIT, MOST_QUANTITIES, MOST_QUESTIONS};
 use crate::naive;
 use crate::random::Random;
@@ -54,8 +54,8 @@ impl Given {
         let short = self.table.len() < size(n);
         let all = [
             (short, SIZE, "1 table"),
-            (asked.is_empty(), BAD_LIST, "8 none"),
-            (asked.len() > MOST_QUESTIONS, BAD_LIST, "8 more"),
+            (asked.is_empty(), LIST_SIZE, "8 none"),
+            (asked.len() > MOST_QUESTIONS, LIST_SIZE, "8 more"),
             (self.workspace < size(n), too_short(size(n)), "6"),
             (held.iter().any(|rule| past(rule.bound)), PAST_LIMIT, "3 table"),
             (asked.iter().any(|words| outside(n, words)), PAST_LIMIT, "3 question"),

@@ -103,7 +103,7 @@ pub fn same_refusal(refusal: Refusal, reply: Reply) -> Result<(), String> {
         Refusal::NoAssignment => (5, 0),
         Refusal::TooShort { needed } => (6, needed),
         Refusal::Mismatch => (7, 0),
-        Refusal::BadList => (8, 0),
+        Refusal::ListSize => (8, 0),
         // the crate's users have to expect further ones
         _ => (0, 0),
     };

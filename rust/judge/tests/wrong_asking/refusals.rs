@@ -3,7 +3,7 @@
 use super::{Trap, Wrong};
 use judge::asking::given::Words;
 use judge::graph::Closure;
-use judge::library::{too_short, Reply, BAD_LIST, CANCELLING, DONE, NO_ASSIGNMENT, PAST_LIMIT, SIZE};
+use judge::library::{too_short, Reply, CANCELLING, DONE, LIST_SIZE, NO_ASSIGNMENT, PAST_LIMIT, SIZE};
 use judge::meaning::{rules, size, LIMIT, MOST_QUANTITIES, MOST_QUESTIONS, NO_RULE};
 
 impl Wrong {
@@ -38,7 +38,7 @@ impl Wrong {
         };
         let first = order.into_iter().flatten().next();
         match (self.0, first) {
-            (Trap::NoneIsDone, Some(BAD_LIST)) if asked.is_empty() => short.or(Some(DONE)),
+            (Trap::NoneIsDone, Some(LIST_SIZE)) if asked.is_empty() => short.or(Some(DONE)),
             _ => first,
         }
     }
@@ -62,7 +62,7 @@ impl Wrong {
             count %= 256;
         }
         let part = self.0 == Trap::WholeOnly && !questions.len().is_multiple_of(3);
-        (count == 0 || count > most || part).then_some(BAD_LIST)
+        (count == 0 || count > most || part).then_some(LIST_SIZE)
     }
 
     fn table(&self, n: usize, table: &[i64]) -> Option<Reply> {

@@ -36,8 +36,8 @@ module _ (n : ℕ) (t list w : List ℤ) (before : ℕ) (w' : List ℤ) (asked :
   }
 
   -- answered
-  answered-as : (c a r v : ℕ) → asked ≡ Answered c a → r ≡ askedNumber asked → v ≡ askedValue asked → AskAnswer n t list w before r v w' a
-  answered-as c a r v e d g =
+  pub ask-answered : (c a r v : ℕ) → asked ≡ Answered c a → r ≡ askedNumber asked → v ≡ askedValue asked → AskAnswer n t list w before r v w' a
+  ask-answered c a r v e d g =
       let l = q .answered c a e in
       record {
         number = d ∙ ap askedNumber (q .reply);
@@ -48,6 +48,3 @@ module _ (n : ℕ) (t list w : List ℤ) (before : ℕ) (w' : List ℤ) (asked :
         answered = λ z. rw (l .counted) at l;
         kept = λ z. absurd (z (d ∙ ap askedNumber e));
       }
-
-  pub ask-answered : (c a v : ℕ) → asked ≡ Answered c a → v ≡ askedValue asked → AskAnswer n t list w before 0 v w' a
-  ask-answered c a v e g = answered-as c a 0 v e (sym (ap askedNumber e)) g

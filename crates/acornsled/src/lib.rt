@@ -124,7 +124,7 @@ pub extern "C" fn acornsled_ask(
         return asked.number();
     };
     *answers = bits;
-    0
+    asked.number()
 }
 
 // Marks the text of a script against the text of a sheet: 100 for equal, 101 for loose, 102 for tight, or the refusal's number. The assignment that shows a

@@ -6,3 +6,4 @@ pub mod Listing
 pub mod Checking
 pub mod TightWords
 pub mod Promised
+mod Worked

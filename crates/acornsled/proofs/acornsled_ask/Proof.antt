@@ -1,5 +1,7 @@
 -- `acornsled_ask` meets its contract. Assumes nothing.
+use mathlib.Core.Path.{sym, _∙_, ap}
 use borrow.Author.Needs.{needs}
+use Rattle.questions.specs.Replies.{askedNumber}
 use Rattle.acornsled.proofs.Asking.{ask-refused, ask-answered}
 use Rattle.acornsled.proofs.acornsled_ask.Statement.{statement}
 use Rattle.acornsled.proofs.acornsled_ask.Tie as tie
@@ -27,13 +29,17 @@ returns c =
     let v = c .before .before .before in
     ask-refused _ _ _ _ _ _ _ (v .before .before .ask .ensures) _ _ _ (c .before .enum-told .given .1) (c .number .ensures) (v .value .ensures)
 
+number-requires-2 : tie.Need-number-requires-2
+number-requires-2 c κs = search needs
+
 same-length-2 : tie.Need-same-length-2
 same-length-2 c = search needs
 
 returns-2 : tie.Need-returns-2
 returns-2 c =
-    let v = c .before .before .before in
-    ask-answered _ _ _ _ _ _ _ (v .before .before .ask .ensures) _ _ _ (c .before .asked .given .1) (v .value .ensures)
+    let m = c .before .before in
+    let v = m .before .before in
+    ask-answered _ _ _ _ _ _ _ (v .before .before .ask .ensures) _ _ _ _ (m .asked .given .1) (c .number2 .ensures ∙ sym (ap askedNumber (m .asked .given .1))) (v .value .ensures)
 
 pub acornsled-ask-spec : {M : Type 1} → statement M
 acornsled-ask-spec =
@@ -46,5 +52,6 @@ acornsled-ask-spec =
     number-requires
     same-length
     returns
+    number-requires-2
     same-length-2
     returns-2)

@@ -1,4 +1,4 @@
--- What the exported functions promise: document 01's number and value of a call's reply, and what the call promises of every lent word.
+-- What the exported functions promise: the number and value of a call's reply, and what the call promises of every lent word.
 use mathlib.Core.Path.{_≡_}
 use mathlib.Core.Logic.{_↔_}
 use mathlib.Core.List.{List}
@@ -104,15 +104,15 @@ pub record AssignmentAnswer (n : ℕ) (table workspace values : List ℤ) (r v :
 
 -- ---- asking
 
--- asking's number r and value v, with the answers as a number before and after it
-pub record AskAnswer (n : ℕ) (table questions workspace : List ℤ) (answers r v : ℕ) (workspace' : List ℤ) (answers' : ℕ) : Type 0 where
-  pub number : r ≡ askedNumber (askReply n table questions (length workspace))
-  pub value : v ≡ askedValue (askReply n table questions (length workspace))
-  pub bits : answers' ≡ answersAfter answers (askReply n table questions (length workspace))
-  pub decided : DecidedBy (askNeeds n table questions (length workspace)) (TellsRefusal r v) (r ≡ 0)
-  pub call : QuestionsAsked n table questions workspace (askReply n table questions (length workspace)) workspace'
+-- asking's number r and value v, with the number that has the answers before and after it
+pub record AskAnswer (n : ℕ) (table list workspace : List ℤ) (answers r v : ℕ) (workspace' : List ℤ) (answers' : ℕ) : Type 0 where
+  pub number : r ≡ askedNumber (askReply n table list (length workspace))
+  pub value : v ≡ askedValue (askReply n table list (length workspace))
+  pub bits : answers' ≡ answersAfter answers (askReply n table list (length workspace))
+  pub decided : DecidedBy (askNeeds n table list (length workspace)) (TellsRefusal r v) (r ≡ 0)
+  pub call : QuestionsAsked n table list workspace (askReply n table list (length workspace)) workspace'
   -- with 0 the bits are the answers, and mean what the request says; any other number leaves them as they were
-  pub answered : r ≡ 0 → ListAnswers n table questions workspace' (questionCount (length questions)) answers'
+  pub answered : r ≡ 0 → ListAnswers n table list workspace' (questionCount (length list)) answers'
   pub kept : (r ≡ 0 → ⊥) → answers' ≡ answers
 
 -- ---- marking two texts

@@ -1,5 +1,5 @@
-// The calls for hosts in C and Rust. A call answers with document 01's number of its reply, 0 where a call on one paper is not refused, and writes to `value` what
-// document 01 returns beside it, a line or a length, 0 where there is nothing. The exam host's call answers a verdict's number, or the refusal's, alone. C sees a
+// The calls for hosts in C and Rust. A call answers with the number of its reply, 0 where a call on one paper is not refused, and writes to `value` what
+// is returned beside it, a line or a length, 0 where there is nothing. The exam host's call answers a verdict's number, or the refusal's, alone. C sees a
 // slice as a pointer and its length in elements, words or bytes. The host passes true lengths and no null pointer, and what a call may change, slice or single
 // word, overlaps nothing else that it is given.
 use marking::rule_words;

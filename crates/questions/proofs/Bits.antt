@@ -7,11 +7,14 @@ use native.Mathlib.Nat.{add-mul-div-right, add-mul-mod-self-right}
 use native.Mathlib.Numerals.{add-one}
 use native.Mathlib.Omega.{arith}
 use lib.Dec.{ltb, eqb}
-use lib.IntN.{ℤ}
+use lib.IntN.{ℤ, pos}
+use lib.ListN.{length}
 use lib.Pow.{pow-pos, pow-add, high}
 use borrow.Author.Tests.{ltb-true, ltb-false}
 use Rattle.rules.proofs.Sets.{past-hidden}
+use Rattle.words.specs.Change.{wordAt}
 use Rattle.questions.specs.Questions.{answerAt, yesUpTo, isYes}
+use Rattle.questions.specs.Replies.{answerValues}
 
 -- ---- one bit more
 
@@ -87,3 +90,18 @@ pub yes-same : (t u list : List ℤ) (m : ℕ) → ((i : ℕ) → i < m → answ
 unfolding yesUpTo
 yes-same t u list zero h = refl
 yes-same t u list (suc k) h = rw (yes-same t u list k (λ i l. h i (omega arith)), h k (omega arith))
+
+-- ---- the answers as values
+
+pub values-length : (a i m : ℕ) → length (answerValues a i m) ≡ m
+values-length a i zero = refl
+values-length a i (suc m) = ap suc (values-length a (suc i) m)
+
+values-from : (a i m k : ℕ) → k < m → wordAt (answerValues a i m) k ≡ cond (isYes a (i + k)) (pos 1) (pos 0)
+values-from a i zero k h = let z : ⊥ = omega arith in absurd z
+values-from a i (suc m) zero h = ap (λ (j : ℕ). cond (isYes a j) (pos 1) (pos 0)) (omega arith)
+values-from a i (suc m) (suc k) h =
+    values-from a (suc i) m k (omega arith) ∙ ap (λ (j : ℕ). cond (isYes a j) (pos 1) (pos 0)) (omega arith)
+
+pub values-word : (a m k : ℕ) → k < m → wordAt (answerValues a 0 m) k ≡ cond (isYes a k) (pos 1) (pos 0)
+values-word a m k h = values-from a 0 m k h ∙ ap (λ (j : ℕ). cond (isYes a j) (pos 1) (pos 0)) (omega arith)

@@ -24,7 +24,7 @@ use Rattle.tables.proofs.Sizes.{serves-sized, serves-tells}
 use Rattle.tables.proofs.Refusing.{Tied, tied-done, tied-more, Before, before-none, before-more}
 use Rattle.keys.specs.Keys.{refuted, boundsInLimit}
 use Rattle.keys.proofs.Checking.{length-test, bounds, decided-some}
-use Rattle.questions.specs.Questions.{maxQuestions, questionCount, allWithin, noneCancels}
+use Rattle.questions.specs.Questions.{maxQuestions, questionCount, questionsWithin, noneCancels}
 use Rattle.questions.specs.Meaning.{ListSized, QuestionsWithin, askNeedsThen, askNeeds}
 use Rattle.questions.specs.Asking.{askChecks}
 use Rattle.questions.specs.Inner.{listChecks, AskReady, AskChecked}
@@ -39,9 +39,9 @@ list-sized words = (
 )
 
 module _ (n : ℕ) (t list : List ℤ) (w : ℕ) where
-  numbers : ((boundsInLimit Sheet n 0 t && allWithin n list (questionCount (length list))) ≡ true) ↔ (BoundsWithin Sheet n 0 t × QuestionsWithin n list (questionCount (length list)))
+  numbers : ((boundsInLimit Sheet n 0 t && questionsWithin n list (questionCount (length list))) ≡ true) ↔ (BoundsWithin Sheet n 0 t × QuestionsWithin n list (questionCount (length list)))
   numbers = (
-    λ e. let p = both-true (boundsInLimit Sheet n 0 t) (allWithin n list (questionCount (length list))) e in (bounds Sheet n 0 t .0 (p .0), within-all n (questionCount (length list)) list .0 (p .1)),
+    λ e. let p = both-true (boundsInLimit Sheet n 0 t) (questionsWithin n list (questionCount (length list))) e in (bounds Sheet n 0 t .0 (p .0), within-all n (questionCount (length list)) list .0 (p .1)),
     λ p. rw (bounds Sheet n 0 t .1 (p .0), within-all n (questionCount (length list)) list .1 (p .1)),
   )
 
@@ -67,7 +67,7 @@ module _ (n : ℕ) (t list : List ℤ) (w : ℕ) where
       before-more (serves n (length t)) Size _
       (before-more (leb 1 (questionCount (length list)) && leb (questionCount (length list)) maxQuestions) ListSize _
       (before-more (leb (blockStart n) w) (TooShort (blockStart n)) _
-      (before-more (boundsInLimit Sheet n 0 t && allWithin n list (questionCount (length list))) (OutOfLimit 0) _
+      (before-more (boundsInLimit Sheet n 0 t && questionsWithin n list (questionCount (length list))) (OutOfLimit 0) _
       (before-more (noneCancels list (questionCount (length list))) (Cancelling 0) (λ next. next) before-none))))
 
   pub ask-met : askChecks n t list w Done ≡ Done → AllMet (askNeedsThen n t list w passed)

@@ -18,10 +18,10 @@ use Rattle.tables.specs.declared.given.Given.the-variants.{Cancels as Cancelled
 use Rattle.tables.specs.declared.reply.Reply.the-variants.{Done, Refused}
 use Rattle.tables.specs.Tables.{cancels}
 use Rattle.tables.specs.Meaning.{Cancels}
-use Rattle.tables.specs.Given.{RuleWithin, ruleWithin}
+use Rattle.tables.specs.Given.{GivenWithin, givenWithin}
 use Rattle.tables.proofs.Tests.{clash, both-true, fails, not-so}
 use Rattle.tables.proofs.Giving.{within-test, cancels-test}
-use Rattle.questions.specs.Questions.{firstOf, secondOf, limitOf, questionAt, allWithin, noneCancels}
+use Rattle.questions.specs.Questions.{firstOf, secondOf, boundWord, questionAt, questionsWithin, noneCancels}
 use Rattle.questions.specs.Meaning.{QuestionsWithin, NoneCancels}
 use Rattle.questions.specs.Inner.{QuestionGiven, listChecks}
 
@@ -39,36 +39,36 @@ all-more {P} m a b all last = (to, λ h. rw (all .1 (λ i l. h i (omega arith)),
 -- ---- in their limits
 
 module _ (n : ℕ) (list : List ℤ) where
-  pub within-zero : allWithin n list 0 ≡ true
-  unfolding allWithin
+  pub within-zero : questionsWithin n list 0 ≡ true
+  unfolding questionsWithin
   within-zero = refl
 
   -- one question more
-  pub within-more : (i : ℕ) → allWithin n list (i + 1) ≡ _&&_ (allWithin n list i) (ruleWithin n (firstOf list i) (secondOf list i) (limitOf list i))
-  unfolding allWithin
+  pub within-more : (i : ℕ) → questionsWithin n list (i + 1) ≡ _&&_ (questionsWithin n list i) (givenWithin n (firstOf list i) (secondOf list i) (boundWord list i))
+  unfolding questionsWithin
   within-more i = rw (add-one i)
 
   -- a list that fails at some question fails with more of them
-  within-past : (i d : ℕ) → allWithin n list i ≡ false → allWithin n list (i + d) ≡ false
-  unfolding allWithin
+  within-past : (i d : ℕ) → questionsWithin n list i ≡ false → questionsWithin n list (i + d) ≡ false
+  unfolding questionsWithin
   within-past i zero e = rw add-zero e
   within-past i (suc d) e = rw (add-suc, within-past i d e)
 
-  pub within-stays : (i m : ℕ) → i ≤ m → allWithin n list i ≡ false → allWithin n list m ≡ false
+  pub within-stays : (i m : ℕ) → i ≤ m → questionsWithin n list i ≡ false → questionsWithin n list m ≡ false
   within-stays i m h e = let whole : m ≡ i + (m - i) = omega arith in rw whole (within-past i (m - i) e)
 
   -- so it fails where a question among them is outside its limits
-  pub within-outside : (i m : ℕ) → i < m → (RuleWithin n (firstOf list i) (secondOf list i) (limitOf list i) → ⊥) → allWithin n list m ≡ false
+  pub within-outside : (i m : ℕ) → i < m → (GivenWithin n (firstOf list i) (secondOf list i) (boundWord list i) → ⊥) → questionsWithin n list m ≡ false
   within-outside i m h o = within-stays (i + 1) m (omega arith)
-      (within-more i ∙ rw (not-so (within-test n (firstOf list i) (secondOf list i) (limitOf list i)) o) (and-false (allWithin n list i)))
+      (within-more i ∙ rw (not-so (within-test n (firstOf list i) (secondOf list i) (boundWord list i)) o) (and-false (questionsWithin n list i)))
 
 -- the test passes exactly where each question is in its limits
-pub within-all : (n m : ℕ) (list : List ℤ) → (allWithin n list m ≡ true) ↔ QuestionsWithin n list m
-unfolding allWithin
+pub within-all : (n m : ℕ) (list : List ℤ) → (questionsWithin n list m ≡ true) ↔ QuestionsWithin n list m
+unfolding questionsWithin
 within-all n zero list = (λ e i l. let z : ⊥ = omega arith in absurd z, λ h. refl)
 within-all n (suc m) list =
-    all-more m (allWithin n list m) (ruleWithin n (firstOf list m) (secondOf list m) (limitOf list m)) (within-all n m list)
-    (within-test n (firstOf list m) (secondOf list m) (limitOf list m))
+    all-more m (questionsWithin n list m) (givenWithin n (firstOf list m) (secondOf list m) (boundWord list m)) (within-all n m list)
+    (within-test n (firstOf list m) (secondOf list m) (boundWord list m))
 
 -- ---- none +q-q
 
@@ -99,7 +99,7 @@ cancels-none (suc m) list = all-more m (noneCancels list m) (not (cancels (quest
 
 -- the first i questions are in their limits, and the flag says whether one of them is +q-q
 pub record Checked (n : ℕ) (list : List ℤ) (i : ℕ) (flag : Bool) : Type 0 where
-  pub within : allWithin n list i ≡ true
+  pub within : questionsWithin n list i ≡ true
   pub flagged : noneCancels list i ≡ not flag
 
 module _ (n : ℕ) (list : List ℤ) where
@@ -108,8 +108,8 @@ module _ (n : ℕ) (list : List ℤ) where
 
   module _ (i : ℕ) (flag : Bool) (g : Given) (c : Checked n list i flag) (q : QuestionGiven n list i g) where
     -- the next one is in its limits
-    next : RuleWithin n (firstOf list i) (secondOf list i) (limitOf list i) → allWithin n list (i + 1) ≡ true
-    next w = within-more n list i ∙ rw (c .within, within-test n (firstOf list i) (secondOf list i) (limitOf list i) .1 w)
+    next : GivenWithin n (firstOf list i) (secondOf list i) (boundWord list i) → questionsWithin n list (i + 1) ≡ true
+    next w = within-more n list i ∙ rw (c .within, within-test n (firstOf list i) (secondOf list i) (boundWord list i) .1 w)
 
     -- it is +q-q,
     pub checked-cancels : g ≡ Cancelled → Checked n list (i + 1) true

@@ -23,6 +23,7 @@ use Rattle.rules.specs.Meaning.{boundOf}
 use Rattle.rules.specs.Refusal.{Returned, refusedAs}
 use Rattle.rules.specs.Refusing.{passed, AllMet, DecidedBy}
 use Rattle.rules.specs.Steps.{halvedOf}
+use Rattle.rules.proofs.Meanings.{ruleOf-meaning}
 use Rattle.rules.proofs.Refusals.{same-refusal, refusal-number}
 use Rattle.tables.specs.declared.reply.Reply.{Reply}
 use Rattle.tables.specs.declared.reply.Reply.the-variants.{Done}
@@ -41,20 +42,19 @@ use Rattle.keys.proofs.Checking.{checked-fits, decided-none, decided-some}
 use Rattle.keys.proofs.Promised.{untouched}
 use Rattle.tightening.specs.Tightening.{tightened}
 use Rattle.tightening.specs.Meaning.{TightTable}
-use Rattle.tightening.specs.Inner.{TightTried}
-use Rattle.tightening.specs.Promises.{LeastBound}
+use Rattle.tightening.specs.Promises.{LeastBound, TightTried}
 use Rattle.tightening.proofs.Least.{clash-refuted, tightened-least}
 use Rattle.questions.specs.declared.reply.Asked.{Asked}
 use Rattle.questions.specs.declared.reply.Asked.the-variants.{Answered, Refused}
-use Rattle.questions.specs.Questions.{questionCount, questionAt, answerOf, answerAt, wordFor, yesUpTo, isYes}
+use Rattle.questions.specs.Questions.{questionCount, firstOf, secondOf, boundWord, questionAt, answerOf, answerAt, wordFor, yesUpTo, isYes}
 use Rattle.questions.specs.Meaning.{askNeedsThen, askNeeds}
 use Rattle.questions.specs.Replies.{askedReturned, askedNumber}
-use Rattle.questions.specs.Asking.{askChecks, answeredAs, askReply, freesWorkspace}
+use Rattle.questions.specs.Asking.{askChecks, answeredAs, askReply, changesWorkspace}
 use Rattle.questions.specs.Promises.{ListAnswers, QuestionsAsked}
 use Rattle.questions.specs.Inner.{AskReady, AllAnswerable}
-use Rattle.questions.proofs.Answering.{at-question, answer-right}
+use Rattle.questions.proofs.Answering.{at-question, answer-right, answers-from}
 use Rattle.questions.proofs.Finding.{question-place, question-inside, answer-there}
-use Rattle.questions.proofs.Bits.{yes-bit, yes-past, yes-same}
+use Rattle.questions.proofs.Bits.{yes-bit, yes-past, yes-same, values-length, values-word}
 use Rattle.questions.proofs.TightWords.{tight-room, tight-word, tight-there}
 use Rattle.questions.proofs.Checking.{ask-tied, ask-before, ask-done}
 
@@ -115,7 +115,7 @@ refused-answered : {f : Refusal} {c a : ℕ} → Refused f ≡ Answered c a → 
 refused-answered e = let d = ap tag e in omega arith
 
 module _ (n : ℕ) (t list w w' : List ℤ) where
-  refused-as : (f : Refusal) → Refused f ≡ askReply n t list (length w) → Lent (blockStart n) (freesWorkspace (Refused f)) w w' → QuestionsAsked n t list w (Refused f) w'
+  refused-as : (f : Refusal) → Refused f ≡ askReply n t list (length w) → Lent (blockStart n) (changesWorkspace (Refused f)) w w' → QuestionsAsked n t list w (Refused f) w'
   refused-as f e l = record {
     reply = e;
     decided = ask-decided n t list (length w) (Refused f) e;
@@ -219,10 +219,13 @@ module _ (n : ℕ) (t list w w' : List ℤ) (ready : AskReady n t list (length w
       list-answers = record {
         counted = e;
         rest = λ i h. rw f (yes-past w' list m i h);
+        values = values-length a 0 m;
+        order = values-word a m;
         meaning = λ i h. rw (bit i h) (right i (omega (arith, e)));
         broken = λ i h z. breaks i (omega (arith, e)) (sym (bit i h) ∙ z);
-        tightened = tight;
-        each = λ i h. bit i h;
+        written = λ i σ. ruleOf-meaning σ (firstOf list i) (secondOf list i) (boundWord list i);
+        tight-table = tight;
+        each = λ i h. answers-from (wordFor w' (questionAt list i)) (questionAt list i) (isYes a i) (bit i h);
       }
 
       same-answers : a ≡ yesUpTo (tightened n t) list (questionCount (length list))

@@ -8,11 +8,11 @@ use lib.ListN.{replicate}
 use Rattle.rules.specs.declared.rule.Rule.{Rule}
 use Rattle.rules.specs.Refusal.{Returned}
 use Rattle.rules.specs.Steps.{ruleOf}
-use Rattle.tables.specs.Given.{ruleWithin}
+use Rattle.tables.specs.Given.{givenWithin}
 use Rattle.tables.specs.Tables.{tableOf}
 use Rattle.keys.proofs.Sheets.{sheetA, sheetTable, steps}
 use Rattle.tightening.specs.Tightening.{pairUpTo, strengthening, strengthened, tightened}
-use Rattle.questions.specs.Questions.{allWithin, noneCancels, answerAt, yesUpTo}
+use Rattle.questions.specs.Questions.{questionsWithin, noneCancels, answerAt, yesUpTo}
 use Rattle.questions.specs.Replies.{askedReturned}
 use Rattle.questions.specs.Asking.{askChecks, askReply}
 
@@ -72,6 +72,6 @@ cases =
 
 pub all-pass : AllPass cases
 unfolding
-    steps ten contradicting threes cases ruleWithin pairUpTo strengthening strengthened tightened
-    allWithin noneCancels answerAt yesUpTo askChecks askReply
+    steps ten contradicting threes cases givenWithin pairUpTo strengthening strengthened tightened
+    questionsWithin noneCancels answerAt yesUpTo askChecks askReply
 all-pass = (refl, (refl, (refl, (refl, (refl, (refl, (refl, (refl, (refl, (refl, (refl, (refl, (refl, tt)))))))))))))

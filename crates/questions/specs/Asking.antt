@@ -1,5 +1,5 @@
 -- Asking: the checks in order, and the reply, which compute.
-use mathlib.Core.Bool.{Bool, true, cond, not, _&&_}
+use mathlib.Core.Bool.{Bool, true, not, _&&_}
 use mathlib.Core.List.{List}
 use Prim.Native.Nat.{ℕ}
 use lib.Dec.{leb, eqb}
@@ -18,7 +18,7 @@ use Rattle.keys.specs.Keys.{refuted, boundsInLimit}
 use Rattle.tightening.specs.Tightening.{tightened}
 use Rattle.questions.specs.declared.reply.Asked.{Asked}
 use Rattle.questions.specs.declared.reply.Asked.the-variants.{Answered, Refused}
-use Rattle.questions.specs.Questions.{maxQuestions, questionCount, allWithin, noneCancels, yesUpTo}
+use Rattle.questions.specs.Questions.{maxQuestions, questionCount, questionsWithin, noneCancels, yesUpTo}
 
 -- the checks of asking, and what follows: 1, 8, 6, 3, 4
 unfoldable pub askChecks : ℕ → List ℤ → List ℤ → ℕ → Reply → Reply
@@ -26,7 +26,7 @@ askChecks n t list w next =
     check (serves n (length t)) Size
     (check (leb 1 (questionCount (length list)) && leb (questionCount (length list)) maxQuestions) ListSize
     (check (leb (blockStart n) w) (TooShort (blockStart n))
-    (check (boundsInLimit Sheet n 0 t && allWithin n list (questionCount (length list))) (OutOfLimit 0)
+    (check (boundsInLimit Sheet n 0 t && questionsWithin n list (questionCount (length list))) (OutOfLimit 0)
     (check (noneCancels list (questionCount (length list))) (Cancelling 0) next))))
 
 -- answers where the checks are done, else their refusal
@@ -40,7 +40,7 @@ askReply n t list w =
     answeredAs (askChecks n t list w (check (not (refuted n t)) NoAssignment Done))
     (questionCount (length list)) (yesUpTo (tightened n t) list (questionCount (length list)))
 
--- the replies after which the workspace is free: answers and 5
-abbrev pub freesWorkspace : Asked → Bool
-freesWorkspace (Answered count answers) = true
-freesWorkspace (Refused f) = eqb (refusalNumber f) 5
+-- the replies after which the workspace may have changed: answers and 5
+abbrev pub changesWorkspace : Asked → Bool
+changesWorkspace (Answered count answers) = true
+changesWorkspace (Refused f) = eqb (refusalNumber f) 5

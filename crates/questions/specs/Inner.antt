@@ -1,5 +1,4 @@
 -- What the functions inside ask and answer: for those who read the code.
-use mathlib.Core.Bool.{Bool, true, false}
 use mathlib.Core.Path.{_≡_}
 use mathlib.Core.List.{List}
 use Prim.Native.Nat.{ℕ, _+_, _*_, _≤_, _<_}
@@ -14,26 +13,26 @@ use Rattle.tables.specs.declared.reply.Reply.the-variants.{Done}
 use Rattle.tables.specs.declared.given.Given.{Given}
 use Rattle.tables.specs.Meaning.{NoneAbove}
 use Rattle.tables.specs.Replies.{check}
-use Rattle.tables.specs.Given.{GivenAs, RuleWithin}
+use Rattle.tables.specs.Given.{GivenAs, GivenWithin}
 use Rattle.tables.specs.Meaning.{Cancels}
-use Rattle.questions.specs.Questions.{maxQuestions, firstOf, secondOf, limitOf, questionAt, allWithin, noneCancels}
+use Rattle.questions.specs.Questions.{maxQuestions, firstOf, secondOf, boundWord, questionAt, questionsWithin, noneCancels}
 use Rattle.questions.specs.Meaning.{QuestionsWithin, NoneCancels, askNeedsThen}
 use Rattle.questions.specs.Asking.{askChecks}
 
 -- question i + 1 as it is given
 abbrev pub QuestionGiven : ℕ → List ℤ → ℕ → Given → Type 0
-QuestionGiven n list i r = GivenAs n (firstOf list i) (secondOf list i) (limitOf list i) r
+QuestionGiven n list i r = GivenAs n (firstOf list i) (secondOf list i) (boundWord list i) r
 
 -- the checks of the first m questions: 3, then 4
 unfoldable pub listChecks : ℕ → List ℤ → ℕ → Reply
-listChecks n list m = check (allWithin n list m) (OutOfLimit 0) (check (noneCancels list m) (Cancelling 0) Done)
+listChecks n list m = check (questionsWithin n list m) (OutOfLimit 0) (check (noneCancels list m) (Cancelling 0) Done)
 
 -- question i + 1 has a place in a table over n quantities
 pub record Answerable (n : ℕ) (tight list : List ℤ) (i : ℕ) : Type 0 where
   pub most : n ≤ maxQuantities
   pub tight-room : blockStart n ≤ length tight
   pub list-room : 3 * i + 3 ≤ length list
-  pub within : RuleWithin n (firstOf list i) (secondOf list i) (limitOf list i)
+  pub within : GivenWithin n (firstOf list i) (secondOf list i) (boundWord list i)
   pub states : Cancels (questionAt list i) → ⊥
 
 -- each of the first m has
@@ -45,7 +44,7 @@ pub record AllAnswerable (n : ℕ) (tight list : List ℤ) (m : ℕ) : Type 0 wh
   pub within : QuestionsWithin n list m
   pub states : NoneCancels list m
 
--- what the call needs before 5 is met; and every word was looked at, and a word of 64 bits is not above the no-rule word
+-- all that the call needs before 5. Words that were looked at are of 64 bits, so that none is above the no-rule word
 pub record AskReady (n : ℕ) (t list : List ℤ) (w : ℕ) : Type 0 where
   pub met : AllMet (askNeedsThen n t list w passed)
   pub words : NoneAbove (blockStart n) t

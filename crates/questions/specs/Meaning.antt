@@ -8,8 +8,8 @@ use Rattle.rules.specs.declared.paper.Paper.the-variants.{Sheet}
 use Rattle.rules.specs.declared.refusal.Refusal.the-variants.{Size, OutOfLimit, Cancelling, NoAssignment, TooShort, ListSize}
 use Rattle.rules.specs.Refusing.{Needs, passed, _or_then_}
 use Rattle.tables.specs.Meaning.{TableSized, Satisfiable, BoundsWithin, Cancels}
-use Rattle.tables.specs.Given.{RuleWithin}
-use Rattle.questions.specs.Questions.{maxQuestions, questionCount, firstOf, secondOf, limitOf, questionAt}
+use Rattle.tables.specs.Given.{GivenWithin}
+use Rattle.questions.specs.Questions.{maxQuestions, questionCount, firstOf, secondOf, boundWord, questionAt}
 
 -- a list of so many words has a question, and no more than an examiner puts
 abbrev pub ListSized : ℕ → Type 0
@@ -17,7 +17,7 @@ ListSized words = (1 ≤ questionCount words) × (questionCount words ≤ maxQue
 
 -- each of the first m questions is in the limits of a rule on a sheet over n quantities
 abbrev pub QuestionsWithin : ℕ → List ℤ → ℕ → Type 0
-QuestionsWithin n list m = (i : ℕ) → i < m → RuleWithin n (firstOf list i) (secondOf list i) (limitOf list i)
+QuestionsWithin n list m = (i : ℕ) → i < m → GivenWithin n (firstOf list i) (secondOf list i) (boundWord list i)
 
 -- none of them is +q-q or -q+q
 abbrev pub NoneCancels : List ℤ → ℕ → Type 0

@@ -1,6 +1,6 @@
 -- The questions of a list (document 02, [3]): rules as written, each of three words, first and second signed quantity, 0 for no second, and bound. And their answers from a tight table,
 -- which compute.
-use mathlib.Core.Bool.{Bool, true, false, cond, not, _&&_}
+use mathlib.Core.Bool.{Bool, true, cond, not, _&&_}
 use mathlib.Core.List.{List}
 use Prim.Native.Nat.{ℕ, zero, suc, _+_, _*_, _/_, _^_}
 use lib.IntN.{ℤ}
@@ -9,13 +9,13 @@ use Rattle.words.specs.Change.{wordAt}
 use Rattle.places.specs.declared.Place.{Place}
 use Rattle.places.specs.declared.Place.the-variants.{At, Nowhere}
 use Rattle.rules.specs.declared.rule.Rule.{Rule}
-use Rattle.rules.specs.Hidden.{hiddenIn}
+use Rattle.rules.specs.Hidden.{bitAt}
 use Rattle.rules.specs.Limits.{noRule}
 use Rattle.rules.specs.Meaning.{boundOf}
 use Rattle.rules.specs.Steps.{ruleOf, halvedOf}
 use Rattle.tables.specs.Places.{findPlace}
 use Rattle.tables.specs.Tables.{hasRule, cancels}
-use Rattle.tables.specs.Given.{ruleWithin}
+use Rattle.tables.specs.Given.{givenWithin}
 
 -- an examiner puts at most so many
 abbrev pub maxQuestions : ℕ
@@ -25,26 +25,26 @@ maxQuestions = 64
 abbrev pub questionCount : ℕ → ℕ
 questionCount words = words / 3
 
--- the words of question i + 1
+-- the words of question i + 1: its signed quantities and its bound
 abbrev pub firstOf : List ℤ → ℕ → ℤ
 firstOf list i = wordAt list (3 * i)
 
 abbrev pub secondOf : List ℤ → ℕ → ℤ
 secondOf list i = wordAt list (3 * i + 1)
 
-abbrev pub limitOf : List ℤ → ℕ → ℤ
-limitOf list i = wordAt list (3 * i + 2)
+abbrev pub boundWord : List ℤ → ℕ → ℤ
+boundWord list i = wordAt list (3 * i + 2)
 
--- the question itself: the rule of these words, as written, so that a doubled term stays doubled
+-- the question itself: the rule of these words, as written, so that a doubled term stays doubled (`ListAnswers.written` says it without literals)
 abbrev pub questionAt : List ℤ → ℕ → Rule
-questionAt list i = ruleOf (firstOf list i) (secondOf list i) (limitOf list i)
+questionAt list i = ruleOf (firstOf list i) (secondOf list i) (boundWord list i)
 
 -- ---- the tests of the first m questions
 
 -- are all in the limits of a rule on a sheet over n quantities?
-unfoldable pub allWithin : ℕ → List ℤ → ℕ → Bool
-allWithin n list zero = true
-allWithin n list (suc i) = allWithin n list i && ruleWithin n (firstOf list i) (secondOf list i) (limitOf list i)
+unfoldable pub questionsWithin : ℕ → List ℤ → ℕ → Bool
+questionsWithin n list zero = true
+questionsWithin n list (suc i) = questionsWithin n list i && givenWithin n (firstOf list i) (secondOf list i) (boundWord list i)
 
 -- is none +q-q or -q+q?
 unfoldable pub noneCancels : List ℤ → ℕ → Bool
@@ -75,6 +75,6 @@ unfoldable pub yesUpTo : List ℤ → List ℤ → ℕ → ℕ
 yesUpTo t list zero = 0
 yesUpTo t list (suc i) = yesUpTo t list i + cond (answerAt t list i) (2 ^ i) 0
 
--- is the answer to question i + 1 yes? The number is decoded as a hidden set is: bit i stands for i + 1
+-- is the answer to question i + 1 yes, by that number?
 abbrev pub isYes : ℕ → ℕ → Bool
-isYes answers i = hiddenIn answers (suc i)
+isYes answers i = bitAt answers i

@@ -1,5 +1,5 @@
 -- The reply to a list of questions: its number, and what is returned beside it.
-use mathlib.Core.Bool.{Bool, true, false, cond}
+use mathlib.Core.Bool.{cond}
 use mathlib.Core.List.{List, [], _∷_}
 use Prim.Native.Nat.{ℕ, zero, suc}
 use lib.IntN.{ℤ, pos}
@@ -26,7 +26,7 @@ abbrev pub askedValue : Asked → ℕ
 askedValue (Answered count answers) = 0
 askedValue (Refused f) = refusalValue f
 
--- a host's number of answers after the call: that of the answers, and as it was where there are none
+-- the number that has a host's answers, after the call: where there are answers they, and else as it was
 abbrev pub answersAfter : ℕ → Asked → ℕ
 answersAfter before (Answered count answers) = answers
 answersAfter before (Refused f) = before

@@ -9,9 +9,6 @@ ghost use lib.ListN.{length};
 ghost use Rattle.questions.specs.Inner.{AskReady};
 ghost use Rattle.questions.specs.Promises.{QuestionsAsked};
 
-// The questions of a list are at most so many.
-pub const MOST_QUESTIONS: usize = 64;
-
 // Tightens the sheet once, in the workspace, with no quantity hidden, and answers every question from one word of the tight table; or 5 where no integers satisfy the sheet.
 fn answer_list(n: usize, table: &[i64], questions: &[i64], workspace: &mut [i64]) -> Asked
     requires { ⌜ AskReady n (now table) (now questions) (length (now workspace)) ⌝ }
@@ -25,8 +22,8 @@ fn answer_list(n: usize, table: &[i64], questions: &[i64], workspace: &mut [i64]
     Asked::Answered { count, answers }
 }
 
-// Whether every assignment of the sheet's table over `n` quantities meets each question of a list, three words each. The workspace needs as many words as the table; where the questions are
-// answered it has the tight table.
+// Answers each question of a list, three words each: whether every assignment of the sheet's table over `n` quantities meets it. The workspace needs 2n² words; where the questions are answered
+// these are the tight table.
 pub fn ask(n: usize, table: &[i64], questions: &[i64], workspace: &mut [i64]) -> Asked
     ensures { λ r. ⌜ QuestionsAsked n (now (table .entry)) (now (questions .entry)) (now (workspace .entry)) r (now (workspace .exit)) ⌝ }
 {

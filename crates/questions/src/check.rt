@@ -1,5 +1,4 @@
 // The checks of the call before 5.
-use crate::ask::MOST_QUESTIONS;
 use crate::list;
 use rules::paper;
 use rules::paper::Paper;
@@ -8,6 +7,9 @@ use tables::limit;
 use tables::reply::Reply;
 use tables::table;
 ghost use Rattle.questions.specs.Inner.{AskChecked};
+
+// An examiner puts at most so many questions.
+const MOST_QUESTIONS: usize = 64;
 
 // The call's first refusal before 5 with a workspace of so many words, or done: 1, 8, 6, then 3 for the table's words and the questions, and 4.
 pub(crate) fn check(n: usize, table: &[i64], questions: &[i64], workspace: usize) -> Reply

@@ -20,12 +20,12 @@ pub(crate) fn count(words: usize) -> usize
     words / 3
 }
 
-// Question `i + 1` of a list with so many, as a rule on a sheet over `n` quantities.
+// Question `i + 1` of the list, as a rule on a sheet over `n` quantities.
 fn question(n: usize, questions: &[i64], i: usize) -> Given
     requires { ⌜ (n ≤ maxQuantities) × (3 * i + 3 ≤ length (now questions)) ⌝ }
     ensures { λ r. ⌜ QuestionGiven n (now (questions .entry)) i r ⌝ }
 {
-    given::rule_of(
+    given::of_numbers(
         n,
         questions[3 * i],
         questions[3 * i + 1],

@@ -26,7 +26,7 @@ use Rattle.tables.specs.declared.given.Given.the-variants.{Cancels as Ca
 use Rattle.tables.specs.Tables.{cancels}
 use Rattle.tables.specs.Meaning.{Cancels}
 use Rattle.tables.specs.Places.{HasPlace}
-use Rattle.tables.specs.Given.{NamesOneOf, RuleWithin, ruleWithin, givenOf, GivenAs}
+use Rattle.tables.specs.Given.{NamesOneOf, GivenWithin, givenWithin, givenOf, GivenAs}
 use Rattle.tables.proofs.Tests.{clash, both-true}
 use Rattle.tables.proofs.Putting.{different-quantities}
 
@@ -62,11 +62,11 @@ other-in n z = (go (isNone z) refl, λ s. ⊎-elim (λ e. rw (none-zero z e)) (�
     rest true e = refl
     rest false e = e
 
-pub within-test : (n : ℕ) (p q c : ℤ) → (ruleWithin n p q c ≡ true) ↔ RuleWithin n p q c
-unfolding ruleWithin
+pub within-test : (n : ℕ) (p q c : ℤ) → (givenWithin n p q c ≡ true) ↔ GivenWithin n p q c
+unfolding givenWithin
 within-test n p q c = (to, λ w. rw (number-in n p .1 (w .named), other-in n q .1 (w .other), bound-in (boundLimit Sheet n 0) c .1 (w .limit)))
   where
-    to : _&&_ (quantityWithin n (natAbs p)) (_&&_ (_||_ (isNone q) (quantityWithin n (natAbs q))) (leb (natAbs c) (boundLimit Sheet n 0))) ≡ true → RuleWithin n p q c
+    to : _&&_ (quantityWithin n (natAbs p)) (_&&_ (_||_ (isNone q) (quantityWithin n (natAbs q))) (leb (natAbs c) (boundLimit Sheet n 0))) ≡ true → GivenWithin n p q c
     to e =
         let a = both-true (quantityWithin n (natAbs p)) (_&&_ (_||_ (isNone q) (quantityWithin n (natAbs q))) (leb (natAbs c) (boundLimit Sheet n 0))) e in
         let b = both-true (_||_ (isNone q) (quantityWithin n (natAbs q))) (leb (natAbs c) (boundLimit Sheet n 0)) (a .1) in
@@ -147,7 +147,7 @@ two-place n x y c h g d = go (eqb x y) refl
     go true e = h
     go false e = (h, g, different-quantities x y (eqb-false x y e) d)
 
-pub given-place : (n : ℕ) (p q c : ℤ) → RuleWithin n p q c → (Cancels (ruleOf p q c) → ⊥) → HasPlace n (halvedOf (ruleOf p q c))
+pub given-place : (n : ℕ) (p q c : ℤ) → GivenWithin n p q c → (Cancels (ruleOf p q c) → ⊥) → HasPlace n (halvedOf (ruleOf p q c))
 unfolding ruleOf halvedOf
 given-place n p q c w d = ⊎-elim alone both (w .other)
   where
@@ -184,9 +184,9 @@ module _ (n : ℕ) (p q c : ℤ) where
 
   pub given-as : (r : Given) → r ≡ givenOf n p q c → GivenAs n p q c r
   unfolding givenOf
-  given-as r e = by (ruleWithin n p q c) (cancels (ruleOf p q c)) refl refl
+  given-as r e = by (givenWithin n p q c) (cancels (ruleOf p q c)) refl refl
     where
-      by : (a b : Bool) → ruleWithin n p q c ≡ a → cancels (ruleOf p q c) ≡ b → GivenAs n p q c r
+      by : (a b : Bool) → givenWithin n p q c ≡ a → cancels (ruleOf p q c) ≡ b → GivenAs n p q c r
       by false b f g = let o : r ≡ Outside = e ∙ rw f in record {
         reply = e;
         outside = (λ z w. clash (within-test n p q c .1 w) f, λ z. o);
@@ -214,12 +214,12 @@ module _ (n : ℕ) (p q c : ℤ) where
   module _ (f : quantityWithin n (natAbs p) ≡ true) (b : leb (natAbs c) (boundLimit Sheet n 0) ≡ true) where
     -- one number
     pub given-one : (r : Rule) → q ≡ pos 0 → r ≡ ruleOf p (pos 0) c → GivenAs n p q c (Stated r)
-    unfolding givenOf ruleWithin
+    unfolding givenOf givenWithin
     given-one r z e = given-as (Stated r) (rw (f, z, b, one-cancels p c (named-some n p (number-in n p .0 f)), e))
 
     -- a second one outside 1 to n
     pub given-second : (q ≡ pos 0 → ⊥) → quantityWithin n (natAbs q) ≡ false → GivenAs n p q c Outside
-    unfolding givenOf ruleWithin
+    unfolding givenOf givenWithin
     given-second z g = given-as Outside (rw (f, none-other q z, g))
 
     module _ (z : q ≡ pos 0 → ⊥) (g : quantityWithin n (natAbs q) ≡ true) where
@@ -227,19 +227,19 @@ module _ (n : ℕ) (p q c : ℤ) where
       sum = sum-cancels p q c (named-some n p (number-in n p .0 f)) (none-other q z)
 
       pub given-cancels : p +ℤ q ≡ pos 0 → GivenAs n p q c Cancelled
-      unfolding givenOf ruleWithin
+      unfolding givenOf givenWithin
       given-cancels e = given-as Cancelled (rw (f, none-other q z, g, b, sum, none-zero (p +ℤ q) e))
 
       pub given-two : (r : Rule) → (p +ℤ q ≡ pos 0 → ⊥) → r ≡ ruleOf p q c → GivenAs n p q c (Stated r)
-      unfolding givenOf ruleWithin
+      unfolding givenOf givenWithin
       given-two r e d = given-as (Stated r) (rw (f, none-other q z, g, b, sum, none-other (p +ℤ q) e, d))
 
   -- the first outside 1 to n
   pub given-first : quantityWithin n (natAbs p) ≡ false → GivenAs n p q c Outside
-  unfolding givenOf ruleWithin
+  unfolding givenOf givenWithin
   given-first f = given-as Outside (rw f)
 
   -- a bound outside its limit
   pub given-bound : leb (natAbs c) (boundLimit Sheet n 0) ≡ false → GivenAs n p q c Outside
-  unfolding givenOf ruleWithin
+  unfolding givenOf givenWithin
   given-bound b = given-as Outside (rw (b, and-false (_||_ (isNone q) (quantityWithin n (natAbs q))), and-false (quantityWithin n (natAbs p))))

@@ -17,7 +17,7 @@ pub enum Given {
 }
 
 // What the numbers are on a sheet over `n` quantities. The limit is on the bound as written, also of a doubled term.
-pub fn rule_of(n: usize, first: i64, second: i64, bound: i64) -> Given
+pub fn of_numbers(n: usize, first: i64, second: i64, bound: i64) -> Given
     requires { ⌜ n ≤ maxQuantities ⌝ }
     ensures { λ r. ⌜ GivenAs n first second bound r ⌝ }
 {

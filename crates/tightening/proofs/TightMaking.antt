@@ -20,20 +20,20 @@ use Rattle.tables.specs.Meaning.{TableSized, Satisfies, Satisfiable, BoundsWith
 use Rattle.tables.proofs.Tests.{clash}
 use Rattle.elimination.specs.Hiding.{every}
 use Rattle.keys.specs.declared.live.Part.the-variants.{Outside}
-use Rattle.keys.specs.Keys.{keyOf}
+use Rattle.keys.specs.Keys.{keyOf, refuted}
 use Rattle.keys.specs.Meaning.{keyNeedsThen}
 use Rattle.keys.specs.Inner.{Fits, RestFits, LiveListed, LiveAlone, SetHidden, KeyTried}
 use Rattle.keys.specs.Promises.{KeyedAs}
 use Rattle.keys.proofs.Several.{refuted-false, key-length}
 use Rattle.keys.proofs.Fitting.{hide-ample, sheet-fits}
 use Rattle.keys.proofs.Copying.{SameTable, same-front, front-same}
+use Rattle.keys.proofs.Checking.{decided-none}
 use Rattle.keys.proofs.Deciding.{copy-whole, rest-fits}
 use Rattle.keys.proofs.Making.{key-placed, tried-none, tried-some, tried-early, made-rest, made-same, made-none}
 use Rattle.keys.proofs.Promised.{key-done}
 use Rattle.tightening.specs.Tightening.{tightened, tightKeyOf}
 use Rattle.tightening.specs.Meaning.{TightKey}
-use Rattle.tightening.specs.Inner.{TightTried}
-use Rattle.tightening.specs.Promises.{Tightened, TightKeyMade, TightKeyed}
+use Rattle.tightening.specs.Promises.{Tightened, TightTried, TightKeyMade, TightKeyed}
 use Rattle.tightening.proofs.Holding.{key-words, tightened-words}
 use Rattle.tightening.proofs.Tight.{tight-only, tight-meaning, tight-same}
 use Rattle.tightening.proofs.TightSteps.{tight-length, tight-rest, same-tightened, tight-key}
@@ -42,6 +42,11 @@ use Rattle.tightening.proofs.Again.{tight-stays}
 -- the rules of a table name the listed visible quantities alone
 rest-alone : (n set count : ℕ) (out : List ℕ) (t : List ℤ) → LiveListed n set Outside 0 count out → RestFits n set t → LiveAlone n (take count out) t
 rest-alone n set count out t l f = record { listed = l .listed; rest = λ i h e. f .alone i h (sym (l .each i h) ∙ e) }
+
+-- the sheet's decision, with what it means
+tried-as : (n set : ℕ) (t w x : List ℤ) (r : Bool) → AllMet (keyNeedsThen n set t (length w) passed) → r ≡ refuted n t
+    → (r ≡ false → take (blockStart n) x ≡ take (blockStart n) (tightKeyOf (hiddenIn set) n t)) → Lent (blockStart n) true w x → TightTried n set t w r x
+tried-as n set t w x r p e f l = record { reply = e; none = rw e (decided-none n set t (p .0) (p .1 .1 .0 .1)); tight = f; lent = l }
 
 module _ (n set m : ℕ) (t w u : List ℤ) (p : AllMet (keyNeedsThen n set t (length w) passed)) (d : m ≡ tableSize n) (e : u ≡ change m (copying t) w)
     (v : List ℤ) (r : Bool) (h : SetHidden n set u r v) (c : r ≡ false) where
@@ -60,14 +65,14 @@ module _ (n set m : ℕ) (t w u : List ℤ) (p : AllMet (keyNeedsThen n set t (l
     tight-none : Tightened n v true x → TightTried n set t w true x
     tight-none q =
         let k = tried-none n set m t w u p d e tightKeyOf x (lent (q .lent)) (made-none n set m t w u p d e v r h c (q .none .0 refl)) in
-        record { reply = k .reply; tight = λ z. clash refl z; lent = k .lent }
+        tried-as n set t w x true p (k .reply) (λ z. clash refl z) (k .lent)
 
     -- and none
     tight-done : Tightened n v false x → TightTried n set t w false x
     unfolding tightKeyOf
     tight-done q =
         let k = tried-some n set m t w u p d e tightKeyOf x (lent (q .lent)) (tightKeyOf (hiddenIn set) n t) (h .some c left) refl in
-        record { reply = k .reply; tight = λ z. same-front n (tightKeyOf (hiddenIn set) n t) x same; lent = k .lent }
+        tried-as n set t w x false p (k .reply) (λ z. same-front n (tightKeyOf (hiddenIn set) n t) x same) (k .lent)
       where
         left : Satisfiable n v
         left = let f = rest-fits n set v rest in refuted-false n v (f .sums .room) (hide-ample every n v f) (sym (q .reply))
@@ -84,7 +89,7 @@ pub tight-early : (n set m : ℕ) (t w u : List ℤ) → AllMet (keyNeedsThen n 
     → (v : List ℤ) (r : Bool) → SetHidden n set u r v → r ≡ true → TightTried n set t w true v
 tight-early n set m t w u p d e v r h c =
     let k = tried-early n set m t w u p d e v r h tightKeyOf c in
-    record { reply = k .reply; tight = λ z. clash refl z; lent = k .lent }
+    tried-as n set t w v true p (k .reply) (λ z. clash refl z) (k .lent)
 
 -- ---- the table
 

@@ -4,18 +4,16 @@ use mathlib.Core.Path.{_≡_}
 use mathlib.Core.List.{List}
 use Prim.Native.Nat.{ℕ, _*_, _/_, _≤_, _<_}
 use lib.IntN.{ℤ}
-use lib.ListN.{length, take}
+use lib.ListN.{length}
 use Rattle.words.specs.Change.{wordAt}
 use Rattle.words.specs.Lent.{Lent}
 use Rattle.places.specs.Numbering.{blockStart}
-use Rattle.rules.specs.Hidden.{hiddenIn}
 use Rattle.rules.specs.Limits.{maxQuantities}
 use Rattle.tables.specs.Meaning.{WordsWithin}
 use Rattle.elimination.specs.Magnitude.{addLimit}
 use Rattle.elimination.specs.Hiding.{loneWord}
 use Rattle.elimination.specs.Inner.{among, Listed}
-use Rattle.keys.specs.Keys.{refuted}
-use Rattle.tightening.specs.Tightening.{pairUpTo, clashUpTo, tightKeyOf}
+use Rattle.tightening.specs.Tightening.{pairUpTo, clashUpTo}
 
 -- two rows with room for a word of each literal
 pub record RowsLent (n : ℕ) (plus minus : List ℤ) : Type 0 where
@@ -44,11 +42,3 @@ pub record LoneGatherable (n : ℕ) (live : List ℕ) (table row : List ℤ) : T
 -- those of live literals gathered; what else stands in the row does not matter
 pub record LoneGathered (n : ℕ) (live : List ℕ) (table row : List ℤ) : Type 0 where
   pub bounds : (x : ℕ) → x < 2 * n → among live (x / 2) ≡ true → wordAt row x ≡ loneWord table x
-
--- ---- the tight key made in a workspace
-
--- whether no integers satisfy the sheet; where some do, the workspace has its tight key in its first 2n² words
-pub record TightTried (n set : ℕ) (table workspace : List ℤ) (r : Bool) (workspace' : List ℤ) : Type 0 where
-  pub reply : r ≡ refuted n table
-  pub tight : r ≡ false → take (blockStart n) workspace' ≡ take (blockStart n) (tightKeyOf (hiddenIn set) n table)
-  pub lent : Lent (blockStart n) true workspace workspace'

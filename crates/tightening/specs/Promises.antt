@@ -1,4 +1,4 @@
--- What tightening and the tight key call promise. What tightening asks is in `Inner` of keys, what the functions inside ask in Inner.
+-- What tightening, in place and in a workspace, and the tight key call promise. What tightening asks is in `Inner` of keys, what the functions inside ask in Inner.
 use mathlib.Core.Bool.{Bool, true, false}
 use mathlib.Core.Path.{_≡_}
 use mathlib.Core.Logic.{_↔_}
@@ -38,6 +38,15 @@ pub record Tightened (n : ℕ) (before : List ℤ) (r : Bool) (after : List ℤ)
   pub table : r ≡ false → after ≡ tightened n before
   pub lent : Lent (blockStart n) true before after
   pub bounds : r ≡ false → (k : ℕ) → k < blockStart n → LeastBound n before k (wordAt after k)
+
+-- ---- the tight key in a workspace
+
+-- a sheet's tight key made in the first 2n² words of a workspace, and whether no integers satisfy the sheet. Where none do, these words are free. The sheet is only read
+pub record TightTried (n set : ℕ) (table workspace : List ℤ) (r : Bool) (workspace' : List ℤ) : Type 0 where
+  pub reply : r ≡ refuted n table
+  pub none : (r ≡ true) ↔ Unsatisfiable n table
+  pub tight : r ≡ false → take (blockStart n) workspace' ≡ take (blockStart n) (tightKeyOf (hiddenIn set) n table)
+  pub lent : Lent (blockStart n) true workspace workspace'
 
 -- ---- the tight key call
 

@@ -12,8 +12,7 @@ ghost use Prim.Native.Nat.{_≤_};
 ghost use lib.ListN.{length};
 ghost use Rattle.rules.specs.Refusing.{passed, AllMet};
 ghost use Rattle.keys.specs.Meaning.{keyNeedsThen};
-ghost use Rattle.tightening.specs.Inner.{TightTried};
-ghost use Rattle.tightening.specs.Promises.{TightKeyed};
+ghost use Rattle.tightening.specs.Promises.{TightTried, TightKeyed};
 
 // Makes the tight key of the sheet's table in the workspace, and answers whether no integers satisfy the sheet: a contradiction is met while hidden quantities are hidden, or while visible ones
 // are paired. The list is for the visible quantities: its words are free.

@@ -2,45 +2,45 @@
 use denote.Ref.{now}
 use borrow.Author.Needs.{needs}
 use Rattle.integers.proofs.Parts.{held-value}
-use Rattle.questions.specs.Questions.{firstOf, secondOf, limitOf}
+use Rattle.questions.specs.Questions.{firstOf, secondOf, boundWord}
 use Rattle.questions.proofs.list.question.Statement.{statement}
 use Rattle.questions.proofs.list.question.Tie as tie
 
-mul-rule-of : tie.Need-mul-rule-of
-mul-rule-of c = search needs
+mul-of-numbers : tie.Need-mul-of-numbers
+mul-of-numbers c = search needs
 
-mul-rule-of-2 : tie.Need-mul-rule-of-2
-mul-rule-of-2 c = search needs
+mul-of-numbers-2 : tie.Need-mul-of-numbers-2
+mul-of-numbers-2 c = search needs
 
-shared-slice-copy-out-rule-of : tie.Need-shared-slice-copy-out-rule-of
-shared-slice-copy-out-rule-of c = search needs
+shared-slice-copy-out-of-numbers : tie.Need-shared-slice-copy-out-of-numbers
+shared-slice-copy-out-of-numbers c = search needs
 
-mul-rule-of-3 : tie.Need-mul-rule-of-3
-mul-rule-of-3 c = search needs
+mul-of-numbers-3 : tie.Need-mul-of-numbers-3
+mul-of-numbers-3 c = search needs
 
-add-rule-of : tie.Need-add-rule-of
-add-rule-of c = search needs
+add-of-numbers : tie.Need-add-of-numbers
+add-of-numbers c = search needs
 
-mul-rule-of-4 : tie.Need-mul-rule-of-4
-mul-rule-of-4 c = search needs
+mul-of-numbers-4 : tie.Need-mul-of-numbers-4
+mul-of-numbers-4 c = search needs
 
-shared-slice-copy-out-rule-of-2 : tie.Need-shared-slice-copy-out-rule-of-2
-shared-slice-copy-out-rule-of-2 c = search needs
+shared-slice-copy-out-of-numbers-2 : tie.Need-shared-slice-copy-out-of-numbers-2
+shared-slice-copy-out-of-numbers-2 c = search needs
 
-mul-rule-of-5 : tie.Need-mul-rule-of-5
-mul-rule-of-5 c = search needs
+mul-of-numbers-5 : tie.Need-mul-of-numbers-5
+mul-of-numbers-5 c = search needs
 
-add-rule-of-2 : tie.Need-add-rule-of-2
-add-rule-of-2 c = search needs
+add-of-numbers-2 : tie.Need-add-of-numbers-2
+add-of-numbers-2 c = search needs
 
-mul-rule-of-6 : tie.Need-mul-rule-of-6
-mul-rule-of-6 c = search needs
+mul-of-numbers-6 : tie.Need-mul-of-numbers-6
+mul-of-numbers-6 c = search needs
 
-shared-slice-copy-out-rule-of-3 : tie.Need-shared-slice-copy-out-rule-of-3
-shared-slice-copy-out-rule-of-3 c = search needs
+shared-slice-copy-out-of-numbers-3 : tie.Need-shared-slice-copy-out-of-numbers-3
+shared-slice-copy-out-of-numbers-3 c = search needs
 
-rule-of-requires : tie.Need-rule-of-requires
-rule-of-requires c κs = search needs
+of-numbers-requires : tie.Need-of-numbers-requires
+of-numbers-requires c κs = search needs
 
 returns : tie.Need-returns
 returns c =
@@ -49,25 +49,25 @@ returns c =
     let c1 = c2 .before in
     let a = c1 .before .args in
     rw (
-      held-value {z = firstOf (now (a .questions)) (a .i)} (c1 .rule-of-arg .given),
-      held-value {z = secondOf (now (a .questions)) (a .i)} (c2 .rule-of-arg2 .given),
-      held-value {z = limitOf (now (a .questions)) (a .i)} (c3 .rule-of-arg3 .given),
-    ) at (c .rule-of .ensures)
+      held-value {z = firstOf (now (a .questions)) (a .i)} (c1 .of-numbers-arg .given),
+      held-value {z = secondOf (now (a .questions)) (a .i)} (c2 .of-numbers-arg2 .given),
+      held-value {z = boundWord (now (a .questions)) (a .i)} (c3 .of-numbers-arg3 .given),
+    ) at (c .of-numbers .ensures)
 
 pub question-spec : {M : Type 1} → statement M
 question-spec =
     tie.close
     (tie.spec
-    mul-rule-of
-    mul-rule-of-2
-    shared-slice-copy-out-rule-of
-    mul-rule-of-3
-    add-rule-of
-    mul-rule-of-4
-    shared-slice-copy-out-rule-of-2
-    mul-rule-of-5
-    add-rule-of-2
-    mul-rule-of-6
-    shared-slice-copy-out-rule-of-3
-    rule-of-requires
+    mul-of-numbers
+    mul-of-numbers-2
+    shared-slice-copy-out-of-numbers
+    mul-of-numbers-3
+    add-of-numbers
+    mul-of-numbers-4
+    shared-slice-copy-out-of-numbers-2
+    mul-of-numbers-5
+    add-of-numbers-2
+    mul-of-numbers-6
+    shared-slice-copy-out-of-numbers-3
+    of-numbers-requires
     returns)

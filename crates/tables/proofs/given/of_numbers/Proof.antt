@@ -1,4 +1,4 @@
--- `given::rule_of` meets its contract: the limits of its numbers, whether they have the sum 0, then the rule. Assumes nothing.
+-- `given::of_numbers` meets its contract: the limits of its numbers, whether they have the sum 0, then the rule. Assumes nothing.
 use mathlib.Core.Path.{_≡_, sym, _∙_, ap, ap₂}
 use mathlib.Core.Bool.{true, false}
 use native.Mathlib.Omega.{arith}
@@ -16,8 +16,8 @@ use Rattle.rules.specs.Steps.{ruleOf}
 use Rattle.rules.proofs.Quantities.{within-narrow, within-sum}
 use Rattle.rules.proofs.Words.{narrow-value}
 use Rattle.tables.proofs.Giving.{limit-casts, limit-value, given-first, given-bound, given-one, given-second, given-cancels, given-two}
-use Rattle.tables.proofs.given.rule_of.Statement.{statement}
-use Rattle.tables.proofs.given.rule_of.Tie as tie
+use Rattle.tables.proofs.given.of_numbers.Statement.{statement}
+use Rattle.tables.proofs.given.of_numbers.Tie as tie
 
 is-quantity-requires : tie.Need-is-quantity-requires
 is-quantity-requires c κs = search needs
@@ -146,8 +146,8 @@ returns-6 c =
       word-value (s .fits .bound),
     ))
 
-pub rule-of-spec : {M : Type 1} → statement M
-rule-of-spec =
+pub of-numbers-spec : {M : Type 1} → statement M
+of-numbers-spec =
     tie.close
     (tie.spec
     is-quantity-requires

@@ -11,7 +11,6 @@ use Rattle.rules.proofs.Refusals.{same-refusal-value, same-refusal, refusal-num
 use Rattle.tables.proofs.Refusing.{decided-as}
 use Rattle.questions.specs.declared.reply.Asked.{Asked}
 use Rattle.questions.specs.declared.reply.Asked.the-variants.{Answered, Refused}
-use Rattle.questions.specs.Questions.{questionCount}
 use Rattle.questions.specs.Replies.{askedReturned, askedNumber, askedValue, answersAfter}
 use Rattle.questions.specs.Promises.{QuestionsAsked}
 use Rattle.acornsled.specs.Promises.{TellsRefusal, AskAnswer}
@@ -45,6 +44,6 @@ module _ (n : ℕ) (t list w : List ℤ) (before : ℕ) (w' : List ℤ) (asked :
         bits = sym (ap (answersAfter before) (sym (q .reply) ∙ e));
         decided = rw (d, g) (decided-as (q .decided) (asked-told asked) Iff·rfl);
         call = rw (sym (q .reply)) q;
-        answered = λ z. rw (l .counted) at l;
+        answered = λ z. l;
         kept = λ z. absurd (z (d ∙ ap askedNumber e));
       }

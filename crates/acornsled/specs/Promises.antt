@@ -19,7 +19,6 @@ use Rattle.keys.specs.Keys.{keyReply, assignmentReply}
 use Rattle.keys.specs.Meaning.{keyNeeds, assignmentNeeds}
 use Rattle.keys.specs.Promises.{Keyed, Assigned}
 use Rattle.tightening.specs.Promises.{TightKeyed}
-use Rattle.questions.specs.Questions.{questionCount}
 use Rattle.questions.specs.Meaning.{askNeeds}
 use Rattle.questions.specs.Replies.{askedNumber, askedValue, answersAfter}
 use Rattle.questions.specs.Asking.{askReply}
@@ -112,7 +111,7 @@ pub record AskAnswer (n : ℕ) (table list workspace : List ℤ) (answers r v : 
   pub decided : DecidedBy (askNeeds n table list (length workspace)) (TellsRefusal r v) (r ≡ 0)
   pub call : QuestionsAsked n table list workspace (askReply n table list (length workspace)) workspace'
   -- with 0 the bits are the answers, and mean what the request says; any other number leaves them as they were
-  pub answered : r ≡ 0 → ListAnswers n table list workspace' (questionCount (length list)) answers'
+  pub answered : r ≡ 0 → ListAnswers n table list workspace' answers'
   pub kept : (r ≡ 0 → ⊥) → answers' ≡ answers
 
 -- ---- marking two texts

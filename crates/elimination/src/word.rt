@@ -4,19 +4,17 @@ ghost use mathlib.Core.Path.{_≡_};
 ghost use Rattle.elimination.specs.Hiding.{withSum, withHalf, bareBelow};
 ghost use Rattle.elimination.specs.Inner.{Addable, noneHeld, allHeld};
 
-// `w` with the sum of two bounds put in by minimum; `w` where either is no rule, for no word is above the no-rule word. The sum is chosen first, so that the machine need not guess
-// which words of a sparse table are rules.
+// `w` with the sum of two bounds put in by minimum; `w` where either is no rule.
 pub(crate) fn with_sum(a: i64, b: i64, w: i64) -> i64
     requires { ⌜ Addable a × Addable b ⌝ }
     ensures { λ r. ⌜ r ≡ withSum a b w ⌝ }
 {
-    let mut sum = Sheet::NO_RULE;
     if a < Sheet::NO_RULE {
         if b < Sheet::NO_RULE {
-            sum = a + b;
+            return integers::minimum(w, a + b);
         }
     }
-    integers::minimum(w, sum)
+    w
 }
 
 // `w` with the sum of two bounds, halved, put in by minimum; `w` where either is no rule.

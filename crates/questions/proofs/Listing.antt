@@ -14,7 +14,7 @@ use Rattle.rules.specs.declared.rule.Rule.{Rule}
 use Rattle.rules.specs.declared.refusal.Refusal.the-variants.{OutOfLimit, Cancelling}
 use Rattle.tables.specs.declared.given.Given.{Given}
 use Rattle.tables.specs.declared.given.Given.the-variants.{Stated, Outside}
-use Rattle.tables.specs.declared.given.Given.the-variants.{Cancels as Cancelled}
+use Rattle.tables.specs.declared.given.Given.the-variants.{Vanishes}
 use Rattle.tables.specs.declared.reply.Reply.the-variants.{Done, Refused}
 use Rattle.tables.specs.Tables.{cancels}
 use Rattle.tables.specs.Meaning.{Cancels}
@@ -112,7 +112,7 @@ module _ (n : ℕ) (list : List ℤ) where
     next w = within-more n list i ∙ rw (c .within, within-test n (firstOf list i) (secondOf list i) (boundWord list i) .1 w)
 
     -- it is +q-q,
-    pub checked-cancels : g ≡ Cancelled → Checked n list (i + 1) true
+    pub checked-cancels : g ≡ Vanishes → Checked n list (i + 1) true
     checked-cancels e = let w = q .cancelled .0 e in record {
       within = next (w .0);
       flagged = none-more list i ∙ rw (cancels-test (questionAt list i) .1 (w .1)) (and-false (noneCancels list i));

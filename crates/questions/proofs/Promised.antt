@@ -1,11 +1,11 @@
 -- The contract of asking, from plain facts: the answers from a tight table mean what they say, and the call is refused by the first need that is not met. Assumes nothing.
 use mathlib.Core.Path.{_≡_, refl, sym, _∙_, ap}
-use mathlib.Core.Bool.{Bool, true, false, not, _&&_}
+use mathlib.Core.Bool.{Bool, true, false, cond, not, _&&_}
 use mathlib.Core.List.{List}
 use mathlib.Core.Logic.{_↔_, Iff·trans}
 use Prim.Native.Nat.{ℕ, _*_, _≤_, _<_, _^_}
 use native.Mathlib.Omega.{arith}
-use lib.IntN.{ℤ}
+use lib.IntN.{ℤ, pos, natAbs}
 use lib.ListN.{length, take}
 use lib.Pow.{pow-pos}
 use lib.Signed.{leZ}
@@ -23,7 +23,6 @@ use Rattle.rules.specs.Meaning.{boundOf}
 use Rattle.rules.specs.Refusal.{Returned, refusedAs}
 use Rattle.rules.specs.Refusing.{passed, AllMet, DecidedBy}
 use Rattle.rules.specs.Steps.{halvedOf}
-use Rattle.rules.proofs.Meanings.{ruleOf-meaning}
 use Rattle.rules.proofs.Refusals.{same-refusal, refusal-number}
 use Rattle.tables.specs.declared.reply.Reply.{Reply}
 use Rattle.tables.specs.declared.reply.Reply.the-variants.{Done}
@@ -46,16 +45,16 @@ use Rattle.tightening.specs.Promises.{LeastBound, TightTried}
 use Rattle.tightening.proofs.Least.{clash-refuted, tightened-least}
 use Rattle.questions.specs.declared.reply.Asked.{Asked}
 use Rattle.questions.specs.declared.reply.Asked.the-variants.{Answered, Refused}
-use Rattle.questions.specs.Questions.{questionCount, firstOf, secondOf, boundWord, questionAt, answerOf, answerAt, wordFor, yesUpTo, isYes}
+use Rattle.questions.specs.Questions.{questionCount, questionAt, answerOf, answerAt, wordFor, yesUpTo, isYes}
 use Rattle.questions.specs.Meaning.{askNeedsThen, askNeeds}
-use Rattle.questions.specs.Replies.{askedReturned, askedNumber}
+use Rattle.questions.specs.Replies.{answerValues, askedReturned, askedNumber}
 use Rattle.questions.specs.Asking.{askChecks, answeredAs, askReply, changesWorkspace}
-use Rattle.questions.specs.Promises.{ListAnswers, QuestionsAsked}
+use Rattle.questions.specs.Promises.{AnswersTold, ListAnswers, QuestionsAsked}
 use Rattle.questions.specs.Inner.{AskReady, AllAnswerable}
 use Rattle.questions.proofs.Answering.{at-question, answer-right, answers-from}
 use Rattle.questions.proofs.Finding.{question-place, question-inside, answer-there}
 use Rattle.questions.proofs.Bits.{yes-bit, yes-past, yes-same, values-length, values-word}
-use Rattle.questions.proofs.TightWords.{tight-room, tight-word, tight-there}
+use Rattle.questions.proofs.TightWords.{tight-room, tight-word, unhidden}
 use Rattle.questions.proofs.Checking.{ask-tied, ask-before, ask-done}
 
 -- ---- a reply, by its checks
@@ -103,10 +102,6 @@ abbrev tag : Asked → ℕ
 tag (Answered c a) = 0
 tag (Refused f) = 1
 
-abbrev countIn : Asked → ℕ
-countIn (Answered c a) = c
-countIn (Refused f) = 0
-
 abbrev answersIn : Asked → ℕ
 answersIn (Answered c a) = a
 answersIn (Refused f) = 0
@@ -121,6 +116,7 @@ module _ (n : ℕ) (t list w w' : List ℤ) where
     decided = ask-decided n t list (length w) (Refused f) e;
     none = ask-none n t list (length w) (Refused f) e;
     lent = l;
+    told = λ z. absurd (refusal-number f z);
     answered = λ c a d. absurd (refused-answered d);
   }
 
@@ -129,6 +125,21 @@ pub ask-refused : (n : ℕ) (t list w : List ℤ) (r : Reply) (f : Refusal) → 
 unfolding askReply
 ask-refused n t list w r f e d =
     refused-as n t list w w f (sym (rw (ask-before n t list (length w) .stands f (sym e ∙ d) (check (not (refuted n t)) NoAssignment Done)))) (untouched (blockStart n) _ w)
+
+-- ---- values
+
+-- 1 for yes, and 0 for no
+one-when : (b : Bool) → (cond b (pos 1) (pos 0) ≡ pos 1) ↔ (b ≡ true)
+one-when true = (λ e. refl, λ e. refl)
+one-when false = (λ e. let z : _≡_ {A = ℕ} 0 1 = ap natAbs e in let y : ⊥ = omega arith in absurd y, λ e. clash e refl)
+
+zero-when : (b : Bool) → (cond b (pos 1) (pos 0) ≡ pos 0) ↔ (b ≡ false)
+zero-when true = (λ e. let z : _≡_ {A = ℕ} 1 0 = ap natAbs e in let y : ⊥ = omega arith in absurd y, λ e. clash refl e)
+zero-when false = (λ e. refl, λ e. refl)
+
+failed : (b : Bool) → (b ≡ true → ⊥) → b ≡ false
+failed true h = absurd (h refl)
+failed false h = refl
 
 -- ---- past the checks
 
@@ -157,9 +168,6 @@ module _ (n : ℕ) (t list w w' : List ℤ) (ready : AskReady n t list (length w
     fits : Fits n t
     fits = checked-fits n 0 t (ready .met .0) (ready .met .1 .1 .1 .0 .0)
 
-    some : Satisfiable n t
-    some = decided-some n 0 t (ready .met .0) (ready .met .1 .1 .1 .0 .0) .0 (ap not (sym (d .reply)))
-
     table-room : blockStart n ≤ length t
     table-room = ready .met .0 .room
 
@@ -167,7 +175,7 @@ module _ (n : ℕ) (t list w w' : List ℤ) (ready : AskReady n t list (length w
     ask-room = tight-room n t w' table-room (d .tight refl)
 
     tight : TightTable n (Satisfies n t) w'
-    tight = tight-there n t w' table-room (d .tight refl) (ready .met .0 .most) (ready .met .1 .1 .1 .0 .0) (ready .words) some
+    tight = unhidden n (Satisfies n t) w' (d .made refl (ready .words))
 
     word : (k : ℕ) → k < blockStart n → wordAt w' k ≡ wordAt (tightened n t) k
     word = tight-word n t w' table-room (d .tight refl)
@@ -211,21 +219,35 @@ module _ (n : ℕ) (t list w w' : List ℤ) (ready : AskReady n t list (length w
           go true x true y = clash (answer-there w' list i (found .at) (found .place) ∙ rw (x, y)) e
 
     module _ (m a : ℕ) (e : m ≡ questionCount (length list)) (f : a ≡ yesUpTo w' list m) where
-      bit : (i : ℕ) → i < m → isYes a i ≡ answerAt w' list i
-      bit i h = rw f (yes-bit w' list m i h)
+      module _ (i : ℕ) (h : i < questionCount (length list)) where
+        bit : isYes a i ≡ answerAt w' list i
+        bit = rw f (yes-bit w' list m i (omega (arith, e)))
 
-      list-answers : ListAnswers n t list w' m a
+        yes-means : (isYes a i ≡ true) ↔ MetByAll (Satisfies n t) (questionAt list i)
+        yes-means = rw bit (right i h)
+
+        -- an assignment that breaks it is none that meets it
+        no-means : (isYes a i ≡ false) ↔ Breaks (Satisfies n t) (questionAt list i)
+        no-means = (λ z. breaks i h (sym bit ∙ z), λ b. failed (isYes a i) (λ y. b .broken (yes-means .0 y (b .assignment) (b .satisfies))))
+
+        value : wordAt (answerValues a 0 m) i ≡ cond (isYes a i) (pos 1) (pos 0)
+        value = values-word a m i (omega (arith, e))
+
+      list-answers : ListAnswers n t list w' a
       unfolding answerAt
       list-answers = record {
-        counted = e;
-        rest = λ i h. rw f (yes-past w' list m i h);
-        values = values-length a 0 m;
-        order = values-word a m;
-        meaning = λ i h. rw (bit i h) (right i (omega (arith, e)));
-        broken = λ i h z. breaks i (omega (arith, e)) (sym (bit i h) ∙ z);
-        written = λ i σ. ruleOf-meaning σ (firstOf list i) (secondOf list i) (boundWord list i);
+        meaning = yes-means;
+        broken = no-means;
+        rest = λ i h. rw f (yes-past w' list m i (omega (arith, e)));
         tight-table = tight;
         each = λ i h. answers-from (wordFor w' (questionAt list i)) (questionAt list i) (isYes a i) (bit i h);
+      }
+
+      answers-told : AnswersTold n t list (answerValues a 0 m)
+      answers-told = record {
+        counted = values-length a 0 m ∙ e;
+        yes-when = λ i h. rw (value i h) (Iff·trans (one-when (isYes a i)) (yes-means i h));
+        no-when = λ i h. rw (value i h) (Iff·trans (zero-when (isYes a i)) (no-means i h));
       }
 
       same-answers : a ≡ yesUpTo (tightened n t) list (questionCount (length list))
@@ -240,5 +262,6 @@ module _ (n : ℕ) (t list w w' : List ℤ) (ready : AskReady n t list (length w
         decided = ask-decided n t list (length w) (Answered m a) answered-as;
         none = ask-none n t list (length w) (Answered m a) answered-as;
         lent = d .lent;
-        answered = λ c b g. rw (sym (ap countIn g), sym (ap answersIn g)) list-answers;
+        told = λ z. answers-told;
+        answered = λ c b g. rw (sym (ap answersIn g)) list-answers;
       }

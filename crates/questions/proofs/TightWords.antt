@@ -38,17 +38,8 @@ nothing-hidden n t = rw (hides-none n n t)
 
 -- ---- tight tables
 
--- a table with the same words is tight too
-same-tight : (hidden : ℕ → Bool) (n : ℕ) (sheet : Solutions) (a b : List ℤ) → SameTable n a b → TightKey hidden n sheet a → TightKey hidden n sheet b
-same-tight hidden n sheet a b s x = record {
-  rule = λ k h. (λ p. x .rule k h .0 (holds-same n a b k s p), λ p. holds-same n b a k (same-back n a b s) (x .rule k h .1 p));
-  least = λ k p. rw (s .words k (p .inside)) (x .least k (holds-same n a b k s p));
-  room = s .theirs;
-  words = λ k h. rw (s .words k h) (x .words k h);
-}
-
 -- with no quantity hidden, whichever way that is said
-unhidden : (n : ℕ) (sheet : Solutions) (a : List ℤ) → TightKey (hiddenIn 0) n sheet a → TightTable n sheet a
+pub unhidden : (n : ℕ) (sheet : Solutions) (a : List ℤ) → TightKey (hiddenIn 0) n sheet a → TightTable n sheet a
 unhidden n sheet a x = record {
   rule = λ k h. (λ p. (λ q e. refl, x .rule k h .0 p .1), λ p. x .rule k h .1 (λ q e. none-hidden q, p .1));
   least = x .least;
@@ -66,7 +57,3 @@ module _ (n : ℕ) (t u : List ℤ) (room : blockStart n ≤ length t) (e : take
   -- word by word it is the sheet tightened
   pub tight-word : (k : ℕ) → k < blockStart n → wordAt u k ≡ wordAt (tightened n t) k
   tight-word k h = same .words k h ∙ rw (nothing-hidden n t)
-
-  pub tight-there : n ≤ maxQuantities → BoundsWithin Sheet n 0 t → NoneAbove (blockStart n) t → Satisfiable n t → TightTable n (Satisfies n t) u
-  tight-there most within held s =
-      unhidden n (Satisfies n t) u (same-tight (hiddenIn 0) n (Satisfies n t) (tightKeyOf (hiddenIn 0) n t) u same (tight-made n 0 t most room within held s .tight))

@@ -1,4 +1,4 @@
--- Document 02's questions on named sheets, as one table: the answers in the list's order, and each refusal before those that come after it. Every case is computed by the definitions that the
+-- Questions to named sheets (document 02, [3]), as one table: the answers in the list's order, and each refusal before those that come after it. Every case is computed by the definitions that the
 -- contracts cite. Assumes nothing.
 use mathlib.Core.Path.{_≡_, refl}
 use mathlib.Core.List.{List, [], _∷_, _++_}

@@ -1,7 +1,7 @@
 -- What the functions inside ask and answer: for those who read the code.
 use mathlib.Core.Path.{_≡_}
 use mathlib.Core.List.{List}
-use Prim.Native.Nat.{ℕ, _+_, _*_, _≤_, _<_}
+use Prim.Native.Nat.{ℕ, _+_, _*_, _≤_}
 use lib.IntN.{ℤ}
 use lib.ListN.{length}
 use Rattle.places.specs.Numbering.{blockStart}
@@ -11,10 +11,9 @@ use Rattle.rules.specs.Refusing.{passed, AllMet}
 use Rattle.tables.specs.declared.reply.Reply.{Reply}
 use Rattle.tables.specs.declared.reply.Reply.the-variants.{Done}
 use Rattle.tables.specs.declared.given.Given.{Given}
-use Rattle.tables.specs.Meaning.{NoneAbove}
 use Rattle.tables.specs.Replies.{check}
 use Rattle.tables.specs.Given.{GivenAs, GivenWithin}
-use Rattle.tables.specs.Meaning.{Cancels}
+use Rattle.tables.specs.Meaning.{NoneAbove, Cancels}
 use Rattle.questions.specs.Questions.{maxQuestions, firstOf, secondOf, boundWord, questionAt, questionsWithin, noneCancels}
 use Rattle.questions.specs.Meaning.{QuestionsWithin, NoneCancels, askNeedsThen}
 use Rattle.questions.specs.Asking.{askChecks}

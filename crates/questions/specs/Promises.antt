@@ -1,18 +1,16 @@
 -- What the call and the answer to one question promise: the reply and every lent word, for every input, and what yes and no mean.
-use mathlib.Core.Bool.{Bool, true, false, cond}
+use mathlib.Core.Bool.{Bool, true, false}
 use mathlib.Core.Path.{_≡_}
 use mathlib.Core.Logic.{_↔_}
 use mathlib.Core.List.{List}
 use Prim.Native.Nat.{ℕ, _≤_, _<_}
-use lib.IntN.{ℤ, pos, _+ℤ_}
+use lib.IntN.{ℤ, pos}
 use lib.ListN.{length}
-use lib.Signed.{_≤ℤ_}
 use Rattle.words.specs.Change.{wordAt}
 use Rattle.words.specs.Lent.{Lent}
 use Rattle.places.specs.declared.Place.the-variants.{At}
 use Rattle.places.specs.Numbering.{blockStart}
 use Rattle.rules.specs.declared.rule.Rule.{Rule}
-use Rattle.rules.specs.Meaning.{Assignment, Meets, signedValue}
 use Rattle.rules.specs.Refusal.{refusedAs}
 use Rattle.rules.specs.Refusing.{passed, AllMet, DecidedBy}
 use Rattle.rules.specs.Steps.{halvedOf}
@@ -21,9 +19,9 @@ use Rattle.tables.specs.Meaning.{Satisfies, Unsatisfiable, MetByAll, Breaks}
 use Rattle.tightening.specs.Meaning.{TightTable}
 use Rattle.questions.specs.declared.reply.Asked.{Asked}
 use Rattle.questions.specs.declared.reply.Asked.the-variants.{Answered}
-use Rattle.questions.specs.Questions.{questionCount, firstOf, secondOf, boundWord, questionAt, answerOf, wordFor, isYes}
+use Rattle.questions.specs.Questions.{questionCount, questionAt, answerOf, wordFor, isYes}
 use Rattle.questions.specs.Meaning.{askNeedsThen, askNeeds}
-use Rattle.questions.specs.Replies.{answerValues, askedReturned, askedNumber}
+use Rattle.questions.specs.Replies.{askedReturned, askedNumber}
 use Rattle.questions.specs.Asking.{askReply, changesWorkspace}
 
 -- ---- one question
@@ -37,21 +35,21 @@ pub record Answers (word : ℤ) (question : Rule) (r : Bool) : Type 0 where
 
 -- ---- a list of questions
 
--- the answers to a list put to a sheet over n quantities, as a number, and the tight table that they are from
-pub record ListAnswers (n : ℕ) (sheet list tight : List ℤ) (count answers : ℕ) : Type 0 where
-  -- one for each question, bit i for question i + 1, and no other bits; as values they are in the list's order, 1 for yes and 0 for no
-  pub counted : count ≡ questionCount (length list)
-  pub rest : (i : ℕ) → count ≤ i → isYes answers i ≡ false
-  pub values : length (answerValues answers 0 count) ≡ count
-  pub order : (i : ℕ) → i < count → wordAt (answerValues answers 0 count) i ≡ cond (isYes answers i) (pos 1) (pos 0)
-  -- yes exactly when every assignment of the sheet meets the question; with no there is an assignment that breaks it
-  pub meaning : (i : ℕ) → i < count → (isYes answers i ≡ true) ↔ MetByAll (Satisfies n sheet) (questionAt list i)
-  pub broken : (i : ℕ) → i < count → isYes answers i ≡ false → Breaks (Satisfies n sheet) (questionAt list i)
-  -- to meet it: the two integers together are at most the bound, as written
-  pub written : (i : ℕ) (σ : Assignment) → Meets σ (questionAt list i) ↔ ((signedValue σ (firstOf list i) +ℤ signedValue σ (secondOf list i)) ≤ℤ boundWord list i)
+-- the answers to a list put to a sheet over n quantities, as they are returned: one for each question, in the list's order. Yes, 1, exactly when every assignment of the sheet meets the question;
+-- no, 0, exactly when some assignment breaks it
+pub record AnswersTold (n : ℕ) (sheet list values : List ℤ) : Type 0 where
+  pub counted : length values ≡ questionCount (length list)
+  pub yes-when : (i : ℕ) → i < questionCount (length list) → (wordAt values i ≡ pos 1) ↔ MetByAll (Satisfies n sheet) (questionAt list i)
+  pub no-when : (i : ℕ) → i < questionCount (length list) → (wordAt values i ≡ pos 0) ↔ Breaks (Satisfies n sheet) (questionAt list i)
+
+-- the same as a number, bit i for question i + 1, and the tight table that they are from
+pub record ListAnswers (n : ℕ) (sheet list tight : List ℤ) (answers : ℕ) : Type 0 where
+  pub meaning : (i : ℕ) → i < questionCount (length list) → (isYes answers i ≡ true) ↔ MetByAll (Satisfies n sheet) (questionAt list i)
+  pub broken : (i : ℕ) → i < questionCount (length list) → (isYes answers i ≡ false) ↔ Breaks (Satisfies n sheet) (questionAt list i)
+  pub rest : (i : ℕ) → questionCount (length list) ≤ i → isYes answers i ≡ false
   -- one tight table for the whole list, with nothing hidden; and each answer is what the function above answers, given one word of it and the question
   pub tight-table : TightTable n (Satisfies n sheet) tight
-  pub each : (i : ℕ) → i < count → Answers (wordFor tight (questionAt list i)) (questionAt list i) (isYes answers i)
+  pub each : (i : ℕ) → i < questionCount (length list) → Answers (wordFor tight (questionAt list i)) (questionAt list i) (isYes answers i)
 
 -- a list of questions put to a table over n quantities. Table and list are only read; where the questions are answered, the workspace has the tight table
 pub record QuestionsAsked (n : ℕ) (table list workspace : List ℤ) (r : Asked) (workspace' : List ℤ) : Type 0 where
@@ -60,4 +58,5 @@ pub record QuestionsAsked (n : ℕ) (table list workspace : List ℤ) (r : Asked
   -- past the checks before it, 5 exactly when no integers satisfy the sheet
   pub none : AllMet (askNeedsThen n table list (length workspace) passed) → (askedNumber r ≡ 5) ↔ Unsatisfiable n table
   pub lent : Lent (blockStart n) (changesWorkspace r) workspace workspace'
-  pub answered : (count answers : ℕ) → r ≡ Answered count answers → ListAnswers n table list workspace' count answers
+  pub told : askedNumber r ≡ 0 → AnswersTold n table list (askedReturned r .values)
+  pub answered : (count answers : ℕ) → r ≡ Answered count answers → ListAnswers n table list workspace' answers

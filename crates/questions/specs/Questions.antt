@@ -9,7 +9,7 @@ use Rattle.words.specs.Change.{wordAt}
 use Rattle.places.specs.declared.Place.{Place}
 use Rattle.places.specs.declared.Place.the-variants.{At, Nowhere}
 use Rattle.rules.specs.declared.rule.Rule.{Rule}
-use Rattle.rules.specs.Hidden.{bitAt}
+use Rattle.rules.specs.Bits.{bitAt}
 use Rattle.rules.specs.Limits.{noRule}
 use Rattle.rules.specs.Meaning.{boundOf}
 use Rattle.rules.specs.Steps.{ruleOf, halvedOf}
@@ -35,7 +35,7 @@ secondOf list i = wordAt list (3 * i + 1)
 abbrev pub boundWord : List ℤ → ℕ → ℤ
 boundWord list i = wordAt list (3 * i + 2)
 
--- the question itself: the rule of these words, as written, so that a doubled term stays doubled (`ListAnswers.written` says it without literals)
+-- the question itself: the rule of these words, as written, so that a doubled term stays doubled. To meet it is that the two integers together are at most the bound (`Made.meaning` in rules)
 abbrev pub questionAt : List ℤ → ℕ → Rule
 questionAt list i = ruleOf (firstOf list i) (secondOf list i) (boundWord list i)
 

@@ -46,7 +46,7 @@ pub(crate) fn check(n: usize, questions: &[i64], m: usize) -> Reply
             Given::Outside => {
                 return Reply::Refused(Refusal::OutOfLimit { line: 0 });
             }
-            Given::Cancels => {
+            Given::Vanishes => {
                 cancels = true;
             }
             Given::Stated(_) => {}

@@ -1,12 +1,9 @@
--- The hidden set of a sheet, as document 01 writes it in a number, decoded here alone: bit q - 1 stands for quantity q. Bits of a number are counted from 0.
+-- The hidden set of a sheet, as document 01 writes it in a number, decoded here alone: bit q - 1 stands for quantity q.
 use mathlib.Core.Bool.{Bool, false, _||_, cond}
 use mathlib.Core.List.{List, [], _∷_}
-use Prim.Native.Nat.{ℕ, zero, suc, _+_, _-_, _/_, _%_, _^_}
+use Prim.Native.Nat.{ℕ, zero, suc, _+_, _-_, _^_}
 use lib.Dec.{eqb, ltb}
-
--- is bit i of a number 1?
-abbrev pub bitAt : ℕ → ℕ → Bool
-bitAt h i = eqb (h / 2 ^ i % 2) 1
+use Rattle.rules.specs.Bits.{bitAt}
 
 -- is quantity q in the set h?
 abbrev pub hiddenIn : ℕ → ℕ → Bool

@@ -22,7 +22,7 @@ use Rattle.rules.specs.Steps.{isNone, ruleOf, halvedOf}
 use Rattle.rules.proofs.Quantities.{within-range, none-zero, none-other}
 use Rattle.tables.specs.declared.given.Given.{Given}
 use Rattle.tables.specs.declared.given.Given.the-variants.{Stated, Outside}
-use Rattle.tables.specs.declared.given.Given.the-variants.{Cancels as Cancelled}
+use Rattle.tables.specs.declared.given.Given.the-variants.{Vanishes}
 use Rattle.tables.specs.Tables.{cancels}
 use Rattle.tables.specs.Meaning.{Cancels}
 use Rattle.tables.specs.Places.{HasPlace}
@@ -167,15 +167,15 @@ given-place n p q c w d = ⊎-elim alone both (w .other)
 abbrev code : Given → ℕ
 code (Stated r) = 0
 code Outside = 1
-code Cancelled = 2
+code Vanishes = 2
 
-cancelled-outside : Cancelled ≡ Outside → ⊥
+cancelled-outside : Vanishes ≡ Outside → ⊥
 cancelled-outside e = let d = ap code e in omega arith
 
 stated-outside : {r : Rule} → Stated r ≡ Outside → ⊥
 stated-outside e = let d = ap code e in omega arith
 
-stated-cancelled : {r : Rule} → Stated r ≡ Cancelled → ⊥
+stated-cancelled : {r : Rule} → Stated r ≡ Vanishes → ⊥
 stated-cancelled e = let d = ap code e in omega arith
 
 module _ (n : ℕ) (p q c : ℤ) where
@@ -193,7 +193,7 @@ module _ (n : ℕ) (p q c : ℤ) where
         cancelled = (λ z. absurd (cancelled-outside (sym z ∙ o)), λ w. clash (within-test n p q c .1 (w .0)) f);
         stated = λ s. (λ z. absurd (stated-outside (sym z ∙ o)), λ w. clash (within-test n p q c .1 (w .0)) f);
       }
-      by true true f g = let o : r ≡ Cancelled = e ∙ rw (f, g) in record {
+      by true true f g = let o : r ≡ Vanishes = e ∙ rw (f, g) in record {
         reply = e;
         outside = (λ z. absurd (cancelled-outside (sym o ∙ z)), λ w. absurd (w (within-test n p q c .0 f)));
         cancelled = (λ z. (within-test n p q c .0 f, cancels-test (ruleOf p q c) .0 g), λ w. o);
@@ -226,9 +226,9 @@ module _ (n : ℕ) (p q c : ℤ) where
       sum : cancels (ruleOf p q c) ≡ isNone (p +ℤ q)
       sum = sum-cancels p q c (named-some n p (number-in n p .0 f)) (none-other q z)
 
-      pub given-cancels : p +ℤ q ≡ pos 0 → GivenAs n p q c Cancelled
+      pub given-cancels : p +ℤ q ≡ pos 0 → GivenAs n p q c Vanishes
       unfolding givenOf givenWithin
-      given-cancels e = given-as Cancelled (rw (f, none-other q z, g, b, sum, none-zero (p +ℤ q) e))
+      given-cancels e = given-as Vanishes (rw (f, none-other q z, g, b, sum, none-zero (p +ℤ q) e))
 
       pub given-two : (r : Rule) → (p +ℤ q ≡ pos 0 → ⊥) → r ≡ ruleOf p q c → GivenAs n p q c (Stated r)
       unfolding givenOf givenWithin

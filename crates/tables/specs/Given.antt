@@ -13,7 +13,7 @@ use Rattle.rules.specs.Literal.{quantityWithin}
 use Rattle.rules.specs.Steps.{isNone, ruleOf}
 use Rattle.tables.specs.declared.given.Given.{Given}
 use Rattle.tables.specs.declared.given.Given.the-variants.{Stated, Outside}
-use Rattle.tables.specs.declared.given.Given.the-variants.{Cancels as Cancelled}
+use Rattle.tables.specs.declared.given.Given.the-variants.{Vanishes}
 use Rattle.tables.specs.Tables.{cancels}
 use Rattle.tables.specs.Meaning.{Cancels}
 
@@ -35,12 +35,12 @@ unfoldable pub givenWithin : ℕ → ℤ → ℤ → ℤ → Bool
 givenWithin n first second bound = quantityWithin n (natAbs first) && ((isNone second || quantityWithin n (natAbs second)) && leb (natAbs bound) (boundLimit Sheet n 0))
 
 unfoldable pub givenOf : ℕ → ℤ → ℤ → ℤ → Given
-givenOf n first second bound = cond (givenWithin n first second bound) (cond (cancels (ruleOf first second bound)) Cancelled (Stated (ruleOf first second bound))) Outside
+givenOf n first second bound = cond (givenWithin n first second bound) (cond (cancels (ruleOf first second bound)) Vanishes (Stated (ruleOf first second bound))) Outside
 
 -- ---- what is promised: outside and cancelling exactly when they are, and else the rule as written
 
 pub record GivenAs (n : ℕ) (first second bound : ℤ) (r : Given) : Type 0 where
   pub reply : r ≡ givenOf n first second bound
   pub outside : (r ≡ Outside) ↔ (GivenWithin n first second bound → ⊥)
-  pub cancelled : (r ≡ Cancelled) ↔ (GivenWithin n first second bound × Cancels (ruleOf first second bound))
+  pub cancelled : (r ≡ Vanishes) ↔ (GivenWithin n first second bound × Cancels (ruleOf first second bound))
   pub stated : (rule : Rule) → (r ≡ Stated rule) ↔ (GivenWithin n first second bound × (Cancels (ruleOf first second bound) → ⊥) × (rule ≡ ruleOf first second bound))

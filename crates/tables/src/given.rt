@@ -13,7 +13,7 @@ pub enum Given {
     // 3: a number outside its limit
     Outside,
     // 4: +q-q or -q+q
-    Cancels,
+    Vanishes,
 }
 
 // What the numbers are on a sheet over `n` quantities. The limit is on the bound as written, also of a doubled term.
@@ -35,7 +35,7 @@ pub fn of_numbers(n: usize, first: i64, second: i64, bound: i64) -> Given
         return Given::Outside;
     }
     if first + second == 0 {
-        return Given::Cancels;
+        return Given::Vanishes;
     }
     Given::Stated(Rule::new(first as i32, second as i32, bound))
 }

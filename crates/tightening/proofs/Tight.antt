@@ -24,7 +24,7 @@ use Rattle.keys.specs.Keys.{keyOf}
 use Rattle.keys.specs.Inner.{Fits}
 use Rattle.keys.proofs.Several.{allows-own, key-exact, key-visible}
 use Rattle.keys.proofs.Fitting.{hide-ample}
-use Rattle.keys.proofs.Copying.{SameTable, same-front, front-same, same-back, same-satisfies}
+use Rattle.keys.proofs.Copying.{SameTable, same-front, front-same, same-back, holds-same, same-satisfies}
 use Rattle.tightening.specs.Meaning.{Bounded, LeastMet, VisibleAt, TightKey, SheetsAllowSame}
 
 -- two integers that are at most each other are the same
@@ -67,6 +67,15 @@ module _ (hidden : ℕ → Bool) (n : ℕ) (sheet : Solutions) (a b : List ℤ) 
 
 pub tight-table : (hidden : ℕ → Bool) (n : ℕ) (sheet : Solutions) (a b : List ℤ) → TightKey hidden n sheet a → TightKey hidden n sheet b → SameTable n a b
 tight-table hidden n sheet a b x y = record { mine = x .room; theirs = y .room; words = λ k h. one-word hidden n sheet b a y x k h }
+
+-- a table with the same words is tight too
+pub same-tight : (hidden : ℕ → Bool) (n : ℕ) (sheet : Solutions) (a b : List ℤ) → SameTable n a b → TightKey hidden n sheet a → TightKey hidden n sheet b
+same-tight hidden n sheet a b s x = record {
+  rule = λ k h. (λ p. x .rule k h .0 (holds-same n a b k s p), λ p. holds-same n b a k (same-back n a b s) (x .rule k h .1 p));
+  least = λ k p. rw (s .words k (p .inside)) (x .least k (holds-same n a b k s p));
+  room = s .theirs;
+  words = λ k h. rw (s .words k h) (x .words k h);
+}
 
 pub tight-only : (hidden : ℕ → Bool) (n : ℕ) (sheet : Solutions) (a b : List ℤ) → TightKey hidden n sheet a → TightKey hidden n sheet b
     → take (blockStart n) b ≡ take (blockStart n) a

@@ -15,7 +15,7 @@ use Rattle.rules.specs.Meaning.{Assignment}
 use Rattle.tables.specs.Places.{ruleAt}
 use Rattle.tables.specs.Tables.{hasRule}
 use Rattle.tables.specs.declared.reply.Reply.{Reply}
-use Rattle.tables.specs.Meaning.{Satisfies, Unsatisfiable, SheetAllows, MetByAll, Breaks}
+use Rattle.tables.specs.Meaning.{Satisfies, Unsatisfiable, SheetAllows, NoneAbove, MetByAll, Breaks}
 use Rattle.keys.specs.Keys.{refuted}
 use Rattle.keys.specs.Meaning.{SheetAccepted}
 use Rattle.keys.specs.Promises.{KeyedAs}
@@ -46,6 +46,8 @@ pub record TightTried (n set : ℕ) (table workspace : List ℤ) (r : Bool) (wor
   pub reply : r ≡ refuted n table
   pub none : (r ≡ true) ↔ Unsatisfiable n table
   pub tight : r ≡ false → take (blockStart n) workspace' ≡ take (blockStart n) (tightKeyOf (hiddenIn set) n table)
+  -- of words of 64 bits, none of which is above the no-rule word
+  pub made : r ≡ false → NoneAbove (blockStart n) table → TightKey (hiddenIn set) n (Satisfies n table) workspace'
   pub lent : Lent (blockStart n) true workspace workspace'
 
 -- ---- the tight key call

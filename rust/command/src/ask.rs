@@ -8,6 +8,9 @@ use acornsled::{Refusal, Rule, Table};
 use std::ffi::OsString;
 use std::fmt;
 
+/// The lines of a text before its rules.
+const HEADER_LINES: usize = 3;
+
 /// Which of the two texts a refusal is about.
 #[derive(Clone, Copy, PartialEq, Eq, Debug)]
 enum Paper {
@@ -51,6 +54,8 @@ fn answers(sheet: &[u8], questions: &[u8]) -> Result<Vec<bool>, Refused> {
     let written = Written::of(questions, acornsled::Paper::Sheet);
     let written = written.map_err(|refusal| Refused::Text(Paper::Questions, refusal))?;
     let rules: Vec<Rule> = written.rules.iter().map(|(_, rule)| rule.rule()).collect();
+    // a line that the library reads and this command does not would move all answers after it
+    assert_eq!(rules.len() + HEADER_LINES, written.lines.count(), "every rule line that the library accepts is read");
     table.ask(&rules).map_err(|refusal| Refused::Call(table.quantities, refusal))
 }
 

@@ -7,13 +7,12 @@ use crate::usage::counted;
 use acornsled::limits::MOST_QUESTIONS;
 use acornsled::Paper;
 
-const EXPECTED: &str = "expected: 1 to 64 rule lines, each of them a question";
 const FURTHER: &str = "what helps: put the further ones into another text, and ask them by themselves";
 
 /// Refusals with 8: there are no questions, or too many. What is told in the headline, and below it.
 pub fn miscounted(text: &[u8]) -> (String, Vec<String>) {
     let count = Written::of(text, Paper::Sheet).map_or(0, |written| written.rules.len());
-    let mut details = vec![EXPECTED.to_string()];
+    let mut details = vec![format!("expected: 1 to {MOST_QUESTIONS} rule lines, each of them a question")];
     if count > MOST_QUESTIONS {
         details.push(FURTHER.to_string());
     }

@@ -9,7 +9,7 @@ use Rattle.integers.proofs.Parts.{word-value}
 use Rattle.integers.proofs.Within.{sum-word}
 use Rattle.tables.specs.Tables.{hasRule}
 use Rattle.tables.proofs.Tests.{clash, both-true}
-use Rattle.elimination.specs.Inner.{Addable, noneHeld, allHeld}
+use Rattle.elimination.specs.Inner.{Addable, neitherHeld, noneHeld, allHeld}
 
 -- the sum of two addable words that hold rules is a word
 pub sum-fits : (a b : ℤ) → Addable a → Addable b → hasRule a ≡ true → hasRule b ≡ true → SFits w64 (a +ℤ b)
@@ -22,6 +22,16 @@ held-rule f e = rw (word-value f) at e
 -- and it is addable where the word is
 pub adds-held : (w : ℤ) → SFits w64 w → Addable w → Addable (toZ w64 (ofZ w64 w))
 adds-held w f h = rw (word-value f) h
+
+-- what it tells that neither of two words is a rule
+pub neither-tells : (a b : ℤ) → neitherHeld a b ≡ true → (hasRule a ≡ false) × (hasRule b ≡ false)
+unfolding neitherHeld
+neither-tells a b = go (hasRule a) (hasRule b)
+  where
+    go : (p q : Bool) → not (p || q) ≡ true → (p ≡ false) × (q ≡ false)
+    go true q e = clash e refl
+    go false true e = clash e refl
+    go false false e = (refl, refl)
 
 -- what it tells that none of four words is a rule
 pub none-tells : (a b c d : ℤ) → noneHeld a b c d ≡ true → (hasRule a ≡ false) × (hasRule b ≡ false) × (hasRule c ≡ false) × (hasRule d ≡ false)

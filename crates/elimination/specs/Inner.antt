@@ -131,6 +131,10 @@ pub record BlocksPaired (n : ℕ) (live : List ℕ) (plus minus : List ℤ) (p m
 abbrev pub twoPaired : List ℤ → ℕ → ℤ → ℤ → ℤ → ℤ → List ℤ
 twoPaired t at plus-x minus-x plus-y minus-y = set t at (withSum plus-x minus-y (withSum minus-x plus-y (wordAt t at)))
 
+-- at the two places of x with y and x with -y
+abbrev pub rowPaired : List ℤ → ℕ → ℤ → ℤ → ℤ → ℤ → ℤ → ℤ → List ℤ
+rowPaired t at plus-x minus-x plus-y minus-y plus-not-y minus-not-y = twoPaired (twoPaired t at plus-x minus-x plus-y minus-y) (at + 1) plus-x minus-x plus-not-y minus-not-y
+
 -- and at the four places of two quantities, those of x with y, x with -y, -x with y and -x with -y
 abbrev pub fourPaired : List ℤ → ℕ → ℤ → ℤ → ℤ → ℤ → ℤ → ℤ → ℤ → ℤ → List ℤ
 fourPaired t at plus-x minus-x plus-not-x minus-not-x plus-y minus-y plus-not-y minus-not-y =
@@ -147,6 +151,10 @@ pub record FourAddable (a b c d : ℤ) : Type 0 where
 -- each of four words is a rule: the test by which the code adds without further tests
 unfoldable pub allHeld : ℤ → ℤ → ℤ → ℤ → Bool
 allHeld a b c d = hasRule a && (hasRule b && (hasRule c && hasRule d))
+
+-- neither of two words is a rule: the test by which it passes over two places
+unfoldable pub neitherHeld : ℤ → ℤ → Bool
+neitherHeld a b = not (hasRule a || hasRule b)
 
 -- none of four words is a rule: the test by which the code passes over a block to which no sum goes
 unfoldable pub noneHeld : ℤ → ℤ → ℤ → ℤ → Bool

@@ -11,7 +11,7 @@ ghost use lib.ListN.{length, set, getD};
 ghost use Rattle.words.specs.Change.{wordAt};
 ghost use Rattle.elimination.specs.Hiding.{withSum, withHalf};
 ghost use Rattle.elimination.specs.Promises.{Paired};
-ghost use Rattle.elimination.specs.Inner.{Addable, FourAddable, allHeld, twoPaired, fourPaired, among, StepReady, BlockReady, BlockPaired, BlocksReady, BlocksPaired, TwosReady, TwosPaired};
+ghost use Rattle.elimination.specs.Inner.{Addable, FourAddable, allHeld, twoPaired, rowPaired, fourPaired, among, StepReady, BlockReady, BlockPaired, BlocksReady, BlocksPaired, TwosReady, TwosPaired};
 
 // Puts the sums in at the place `at` of two literals, given the bounds of each with the quantity and + and with it and -.
 fn pair_two(table: &mut [i64], at: usize, plus_x: i64, minus_x: i64, plus_y: i64, minus_y: i64)
@@ -32,29 +32,60 @@ fn add_two(table: &mut [i64], at: usize, plus_x: i64, minus_x: i64, plus_y: i64,
     table[at] = integers::minimum(w, plus_x + minus_y);
 }
 
-// Puts them in either way: untested where `quick` tells that each of the bounds is a rule.
-fn put_two(
+// Puts the sums in at the places of one literal of a quantity and both of another, `at` being the first. None goes there where no rule has the literal together with the quantity that is paired,
+// as with most literals of a table with few rules.
+fn pair_row(
     table: &mut [i64],
     at: usize,
     plus_x: i64,
     minus_x: i64,
     plus_y: i64,
     minus_y: i64,
-    quick: bool,
+    plus_not_y: i64,
+    minus_not_y: i64,
 )
-    requires { ⌜ (at < length (now table)) × FourAddable «plus_x» «minus_x» «plus_y» «minus_y» ⌝ }
-    requires { ⌜ (quick ≡ true → allHeld «plus_x» «minus_x» «plus_y» «minus_y» ≡ true) ⌝ }
-    ensures { λ _. ⌜ now (table .exit) ≡ twoPaired (now (table .entry)) at «plus_x» «minus_x» «plus_y» «minus_y» ⌝ }
+    requires { ⌜ (at + 1 < length (now table)) × FourAddable «plus_x» «minus_x» «plus_y» «minus_y» × FourAddable «plus_x» «minus_x» «plus_not_y» «minus_not_y» ⌝ }
+    ensures { λ _. ⌜ now (table .exit) ≡ rowPaired (now (table .entry)) at «plus_x» «minus_x» «plus_y» «minus_y» «plus_not_y» «minus_not_y» ⌝ }
 {
-    if quick {
-        add_two(table, at, plus_x, minus_x, plus_y, minus_y);
+    if word::is_neither(plus_x, minus_x) {
         return;
     }
     pair_two(table, at, plus_x, minus_x, plus_y, minus_y);
+    pair_two(table, at + 1, plus_x, minus_x, plus_not_y, minus_not_y);
 }
 
-// Puts the sums in at the four places of two quantities, `at` being the first, given the bounds of the literals of each; `full` tells whether each bound of the second quantity is a
-// rule. In a table with many rules most are, and then only the bounds of the first one are tested.
+// Puts the sums in at the four places of two quantities, `at` being the first, where each bound of the literals of both is a rule.
+fn add_four(
+    table: &mut [i64],
+    at: usize,
+    plus_x: i64,
+    minus_x: i64,
+    plus_not_x: i64,
+    minus_not_x: i64,
+    plus_y: i64,
+    minus_y: i64,
+    plus_not_y: i64,
+    minus_not_y: i64,
+)
+    requires { ⌜ (at + 3 < length (now table)) × FourAddable «plus_x» «minus_x» «plus_not_x» «minus_not_x» × FourAddable «plus_y» «minus_y» «plus_not_y» «minus_not_y» ⌝ }
+    requires { ⌜ (allHeld «plus_x» «minus_x» «plus_not_x» «minus_not_x» ≡ true) × (allHeld «plus_y» «minus_y» «plus_not_y» «minus_not_y» ≡ true) ⌝ }
+    ensures { λ _. ⌜ now (table .exit) ≡ fourPaired (now (table .entry)) at «plus_x» «minus_x» «plus_not_x» «minus_not_x» «plus_y» «minus_y» «plus_not_y» «minus_not_y» ⌝ }
+{
+    add_two(table, at, plus_x, minus_x, plus_y, minus_y);
+    add_two(table, at + 1, plus_x, minus_x, plus_not_y, minus_not_y);
+    add_two(table, at + 2, plus_not_x, minus_not_x, plus_y, minus_y);
+    add_two(
+        table,
+        at + 3,
+        plus_not_x,
+        minus_not_x,
+        plus_not_y,
+        minus_not_y,
+    );
+}
+
+// Puts them in at these four places whatever the bounds are; `full` tells whether each bound of the second quantity is a rule. In a table with many rules most are, and then only the bounds of the
+// first one are tested.
 fn put_four(
     table: &mut [i64],
     at: usize,
@@ -73,33 +104,40 @@ fn put_four(
     ensures { λ _. ⌜ now (table .exit) ≡ fourPaired (now (table .entry)) at «plus_x» «minus_x» «plus_not_x» «minus_not_x» «plus_y» «minus_y» «plus_not_y» «minus_not_y» ⌝ }
 {
     let quick = full && word::are_all(plus_x, minus_x, plus_not_x, minus_not_x);
-    put_two(table, at, plus_x, minus_x, plus_y, minus_y, quick);
-    put_two(
+    if quick {
+        add_four(
+            table,
+            at,
+            plus_x,
+            minus_x,
+            plus_not_x,
+            minus_not_x,
+            plus_y,
+            minus_y,
+            plus_not_y,
+            minus_not_y,
+        );
+        return;
+    }
+    pair_row(
         table,
-        at + 1,
+        at,
         plus_x,
         minus_x,
+        plus_y,
+        minus_y,
         plus_not_y,
         minus_not_y,
-        quick,
     );
-    put_two(
+    pair_row(
         table,
         at + 2,
         plus_not_x,
         minus_not_x,
         plus_y,
         minus_y,
-        quick,
-    );
-    put_two(
-        table,
-        at + 3,
-        plus_not_x,
-        minus_not_x,
         plus_not_y,
         minus_not_y,
-        quick,
     );
 }
 

@@ -1,8 +1,8 @@
-// The operations on the words of a step: a sum put in by minimum, the same halved, the test of a bare sum, and the tests that none or all of four words are rules.
+// The operations on the words of a step: a sum put in by minimum, the same halved, the test of a bare sum, and the tests that none of two or four words, or all of four, are rules.
 use rules::sheet::Sheet;
 ghost use mathlib.Core.Path.{_≡_};
 ghost use Rattle.elimination.specs.Hiding.{withSum, withHalf, bareBelow};
-ghost use Rattle.elimination.specs.Inner.{Addable, noneHeld, allHeld};
+ghost use Rattle.elimination.specs.Inner.{Addable, neitherHeld, noneHeld, allHeld};
 
 // `w` with the sum of two bounds put in by minimum; `w` where either is no rule.
 pub(crate) fn with_sum(a: i64, b: i64, w: i64) -> i64
@@ -41,6 +41,19 @@ pub(crate) fn is_bare_below(a: i64, b: i64) -> bool
         }
     }
     false
+}
+
+// Whether neither of two words is a rule.
+pub(crate) fn is_neither(a: i64, b: i64) -> bool
+    ensures { λ r. ⌜ r ≡ neitherHeld a b ⌝ }
+{
+    if a < Sheet::NO_RULE {
+        return false;
+    }
+    if b < Sheet::NO_RULE {
+        return false;
+    }
+    true
 }
 
 // Whether none of four words is a rule.

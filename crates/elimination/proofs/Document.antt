@@ -27,6 +27,7 @@ use Rattle.tables.specs.Tables.{hasRule}
 use Rattle.tables.specs.Meaning.{ruleIn}
 use Rattle.tables.proofs.Places.{placeOf, hasPlace-found, hasPlace-below, names-bound, place-names}
 use Rattle.tables.proofs.Without.{cleared-word}
+use Rattle.tables.proofs.Tests.{clash}
 use Rattle.elimination.specs.Hiding.{every, pairWord, loneWord, paired, contradicts, eliminated}
 use Rattle.elimination.specs.ByRules.{RuleWith, IsSum, SumAt, BareSum, HiddenByRules}
 use Rattle.elimination.proofs.TermWords.{pair-first, pair-second, pair-apart, pair-at}
@@ -75,7 +76,7 @@ bare-nowhere u k q p = nowhere-at k (rw q at p)
 
 module _ (n j : ℕ) (t : List ℤ) (l : blockStart n ≤ length t) (h : j < n) where
   -- 'Sums go in by minimum': the word at a sum's place is at most its bound
-  sum-goes-in : (u : Rule) → IsSum n j t u → (k : ℕ) → findPlace u ≡ At k → wordAt (paired every n j t) k ≤ℤ boundOf u
+  pub sum-goes-in : (u : Rule) → IsSum n j t u → (k : ℕ) → findPlace u ≡ At k → wordAt (paired every n j t) k ≤ℤ boundOf u
   unfolding findPlace
   sum-goes-in = sum-listed n j t (λ (u : Rule). (k : ℕ) → findPlace u ≡ At k → wordAt (paired every n j t) k ≤ℤ boundOf u) (record {
     nothing = λ f g k e. absurd (nowhere-at k e);
@@ -178,7 +179,7 @@ module _ (n j : ℕ) (t : List ℤ) (l : blockStart n ≤ length t) (h : j < n) 
   -- ---- the whole step
 
   -- a hidden table's words: those of the paired one where the place does not name the quantity, no rule where it does
-  hidden-word : (k : ℕ) → k < blockStart n → names (suc j) (ruleIn t k) ≡ false → wordAt (eliminated n j t) k ≡ wordAt (paired every n j t) k
+  pub hidden-word : (k : ℕ) → k < blockStart n → names (suc j) (ruleIn t k) ≡ false → wordAt (eliminated n j t) k ≡ wordAt (paired every n j t) k
   unfolding eliminated
   hidden-word k b e =
       cleared-word n (suc j) (paired every n j t) k (rw (paired-length every n j t) l) b
@@ -190,20 +191,30 @@ module _ (n j : ℕ) (t : List ℤ) (l : blockStart n ≤ length t) (h : j < n) 
       cleared-word n (suc j) (paired every n j t) k (rw (paired-length every n j t) l) b
       ∙ rw (names-bound (suc j) k (wordAt (paired every n j t) k) (wordAt t k) ∙ e)
 
+  -- a sum that has a place goes to one that does not name the quantity,
+  pub sum-place : (u : Rule) → IsSum n j t u → (k : ℕ) → findPlace u ≡ At k → (k < blockStart n) × (names (suc j) (ruleIn t k) ≡ false)
+  sum-place u s k p = go (sum-places u s)
+    where
+      go : HasPlace n u ⊎ (u ≡ Nothing (boundOf u)) → (k < blockStart n) × (names (suc j) (ruleIn t k) ≡ false)
+      go (inl q) =
+          let place : placeOf u ≡ k = cc (hasPlace-found n u q) in
+          (rw (← place) (hasPlace-below n u q), rw (← place) (place-names n (suc j) u (wordAt t (placeOf u)) q ∙ sum-drops u s))
+      go (inr q) = absurd (bare-nowhere u k q p)
+
+  -- so the words that name it stay until they are cleared
+  pub named-word : (k : ℕ) → k < blockStart n → names (suc j) (ruleIn t k) ≡ true → wordAt (paired every n j t) k ≡ wordAt t k
+  named-word k b e = go (word-from k b)
+    where
+      go : (wordAt (paired every n j t) k ≡ wordAt t k) ⊎ SumAt n j t k (wordAt (paired every n j t) k) → wordAt (paired every n j t) k ≡ wordAt t k
+      go (inl q) = q
+      go (inr s) = clash e (sum-place (s .sum) (s .is) k (s .place) .1)
+
   -- so the step is document 01's
   pub by-rules : (v : List ℤ) (r : Bool) → r ≡ contradicts every n j t → v ≡ eliminated n j t → HiddenByRules n j t r v
   by-rules v r e d = rw d (record {
-    each = λ u s k p. at-sum u s k p (sum-places u s);
+    each = λ u s k p. let o = sum-place u s k p in rw (hidden-word k (o .0) (o .1)) (sum-goes-in u s k p);
     lowered = λ k g q. rw (hidden-word k g q) (word-lowered k g);
     some = λ k g q. rw (hidden-word k g q) (word-from k g);
     blank = hidden-blank;
     bare = (λ c. contradicts-bare (sym e ∙ c), λ b. e ∙ bare-contradicts (b .bound) (b .is) (b .below));
   })
-    where
-      at-sum : (u : Rule) → IsSum n j t u → (k : ℕ) → findPlace u ≡ At k → HasPlace n u ⊎ (u ≡ Nothing (boundOf u)) → wordAt (eliminated n j t) k ≤ℤ boundOf u
-      at-sum u s k p (inl q) =
-          let place : placeOf u ≡ k = cc (hasPlace-found n u q) in
-          let inside : k < blockStart n = rw (← place) (hasPlace-below n u q) in
-          let out : names (suc j) (ruleIn t k) ≡ false = rw (← place) (place-names n (suc j) u (wordAt t (placeOf u)) q ∙ sum-drops u s) in
-          rw (hidden-word k inside out) (sum-goes-in u s k p)
-      at-sum u s k p (inr q) = absurd (bare-nowhere u k q p)

@@ -21,6 +21,7 @@ use Rattle.elimination.proofs.Step.{Adds, paired-length}
 use Rattle.elimination.proofs.Exact.{eliminate-exact, eliminate-none}
 use Rattle.elimination.proofs.Growth.{eliminated-within}
 use Rattle.elimination.proofs.Document.{by-rules}
+use Rattle.elimination.proofs.BlockOrder.{by-blocks}
 use Rattle.elimination.proofs.SumOver.{sums-over}
 use Rattle.elimination.specs.Inner.{among, Ready, NamesAlone}
 use Rattle.elimination.proofs.Fewer.{fewer-paired, fewer-contradicts}
@@ -43,6 +44,7 @@ hidden-done n j t u v r reply s p c = record {
   reply = p .reply;
   table = table;
   rules = by-rules n j t (s .room) (s .one) v r (p .reply) table;
+  blocks = by-blocks n j t (s .room) (s .one) v table;
   sums = sums-over n j t (s .words);
   growth = λ B w. rw table (eliminated-within n j B t (s .room) (s .one) w);
   meaning = λ e σ. rw table (eliminate-exact n j 4611686018427387903 t σ adds (s .one) (sym (p .reply) ∙ e));

@@ -14,7 +14,7 @@ use Rattle.rules.specs.Limits.{maxQuantities}
 use Rattle.rules.specs.Hidden.{isListed}
 use Rattle.tables.specs.Tables.{hasRule}
 use Rattle.tables.specs.Meaning.{WordsWithin}
-use Rattle.elimination.specs.Hiding.{withSum, pairWord, pairing}
+use Rattle.elimination.specs.Hiding.{withSum, pairWord, loneWord, pairing}
 use Rattle.elimination.specs.Magnitude.{addLimit, valueLimit, Unnamed}
 
 -- a word is no rule, or a bound small enough to be added to another
@@ -90,6 +90,14 @@ pub record PairGathered (j a : ℕ) (table plus minus plus' minus' : List ℤ) :
 abbrev pub NamesAlone : ℕ → ℕ → List ℕ → List ℤ → Type 0
 NamesAlone n j live t = (i : ℕ) → i < n → (i ≡ j → ⊥) → among live i ≡ false → Unnamed n i t
 
+-- the step that hides quantity j + 1 of n is begun on the table `start`, whose rules name it and live quantities alone: its bounds are gathered in rows, p and m being those of the quantity alone
+pub record StepBegun (n j : ℕ) (live : List ℕ) (start plus minus : List ℤ) (p m : ℤ) : Type 0 where
+  pub ready : Ready n j start
+  pub alone : NamesAlone n j live start
+  pub rows : Gathered n j live start plus minus
+  pub plus-alone : p ≡ loneWord start (2 * j)
+  pub minus-alone : m ≡ loneWord start (2 * j + 1)
+
 -- ---- sums put in, block after block
 
 -- the block of the live quantity of place i in the list, and rows of bounds that add: those of each live literal with the quantity that is paired and + and with it and -
@@ -115,8 +123,9 @@ pub record BlockPaired (b : ℕ) (live : List ℕ) (plus minus : List ℤ) (p m 
 pub record TwosPaired (b : ℕ) (live : List ℕ) (plus minus before after : List ℤ) : Type 0 where
   pub table : (p m : ℤ) → after ≡ change (blockStart (suc b)) (startingAt (blockStart b + 2) (pairing (among live) (wordAt plus) (wordAt minus) p m)) before
 
--- the same of all blocks of n quantities
-pub record BlocksReady (n : ℕ) (live : List ℕ) (table plus minus : List ℤ) (p m : ℤ) : Type 0 where
+-- the same of the first `count` listed quantities of n
+pub record BlocksReady (n count : ℕ) (live : List ℕ) (table plus minus : List ℤ) (p m : ℤ) : Type 0 where
+  pub most : count ≤ length live
   pub listed : Listed n live
   pub room : blockStart n ≤ length table
   pub plus-row : Row n live plus
@@ -124,8 +133,12 @@ pub record BlocksReady (n : ℕ) (live : List ℕ) (table plus minus : List ℤ)
   pub plus-alone : Addable p
   pub minus-alone : Addable m
 
-pub record BlocksPaired (n : ℕ) (live : List ℕ) (plus minus : List ℤ) (p m : ℤ) (before after : List ℤ) : Type 0 where
-  pub table : after ≡ change (blockStart n) (pairing (among live) (wordAt plus) (wordAt minus) p m) before
+-- the first quantity whose block is not begun when those of the first `count` listed ones are done, by its number less one; n where all are
+abbrev pub nextBlock : ℕ → List ℕ → ℕ → ℕ
+nextBlock n live count = getD live count n
+
+pub record BlocksPaired (n count : ℕ) (live : List ℕ) (plus minus : List ℤ) (p m : ℤ) (before after : List ℤ) : Type 0 where
+  pub table : after ≡ change (blockStart (nextBlock n live count)) (pairing (among live) (wordAt plus) (wordAt minus) p m) before
 
 -- the sums put in at the place of two literals x and y, given the bounds of each with + and - of the paired quantity
 abbrev pub twoPaired : List ℤ → ℕ → ℤ → ℤ → ℤ → ℤ → List ℤ

@@ -4,8 +4,9 @@ use mathlib.Core.Path.{_≡_}
 use mathlib.Core.Logic.{_↔_}
 use mathlib.Core.List.{List}
 use lib.Dec.{eqb}
-use Prim.Native.Nat.{ℕ, suc, _+_, _*_, _≤_}
+use Prim.Native.Nat.{ℕ, suc, _+_, _*_, _≤_, _<_}
 use lib.IntN.{ℤ, pos, natAbs}
+use Rattle.words.specs.Change.{wordAt}
 use Rattle.places.specs.Numbering.{blockStart}
 use Rattle.rules.specs.declared.rule.Rule.{Rule}
 use Rattle.rules.specs.Meaning.{Assignment}
@@ -13,8 +14,23 @@ use Rattle.rules.specs.Steps.{sumOver}
 use Rattle.tables.specs.Meaning.{Satisfies, Unsatisfiable, SheetAllows, WordsWithin, assignmentOf}
 use Rattle.elimination.specs.Hiding.{every, paired, contradicts, eliminated}
 use Rattle.elimination.specs.ByRules.{IsSum, HiddenByRules}
+use Rattle.elimination.specs.Blocks.{InBlock, BlockAlone, BlockDone, HiddenByBlocks}
+use Rattle.elimination.specs.Inner.{among, nextBlock, StepBegun, BlockPaired}
 use Rattle.elimination.specs.Choosing.{choice}
 use Rattle.elimination.specs.Feasible.{Feasible}
+
+-- the work on the block of quantity b + 1, given rows and the bounds p and m (`pair_block`). It changes no word outside the block. Where it is part of the step that hides a quantity, rows and bounds being those
+-- of the table `start` and the block standing as there, it is done as the request says: whatever the blocks before it have become
+pub record BlockWorked (b : ℕ) (live : List ℕ) (plus minus : List ℤ) (p m : ℤ) (before after : List ℤ) : Type 0 where
+  pub sums : BlockPaired b live plus minus p m before after
+  pub alone : BlockAlone b before after
+  pub done : (n j : ℕ) (start : List ℤ) → b < n → StepBegun n j live start plus minus p m → ((k : ℕ) → InBlock b k → wordAt before k ≡ wordAt start k)
+      → BlockDone n j b start before after
+
+-- the sums of quantity j + 1 put in at the blocks of the first `count` live quantities, and whether a bare sum is a contradiction, in whichever block
+pub record PairedUpTo (live : List ℕ) (n j count : ℕ) (before : List ℤ) (r : Bool) (after : List ℤ) : Type 0 where
+  pub reply : r ≡ contradicts (among live) n j before
+  pub table : after ≡ paired (among live) (nextBlock n live count) j before
 
 -- the sums of quantity j + 1 put in, of the other quantities only the live ones, and whether one is a contradiction
 pub record Paired (live : ℕ → Bool) (n j : ℕ) (before : List ℤ) (r : Bool) (after : List ℤ) : Type 0 where
@@ -22,12 +38,13 @@ pub record Paired (live : ℕ → Bool) (n j : ℕ) (before : List ℤ) (r : Boo
   pub table : after ≡ paired live n j before
 
 -- quantity j + 1 hidden, and whether a sum is a contradiction: place by place, and in document 01's words, each sum being the one that `Rule::sum` hands back. The
--- bounds at most double. Where there is no contradiction, the table allows just what some integer for the quantity completes; where there is one, nothing
+-- bounds at most double. The work is done one block after another (document 02, request 4). Where there is no contradiction, the table allows just what some integer for the quantity completes; where there is one, nothing
 -- satisfied the table
 pub record QuantityHidden (n j : ℕ) (before : List ℤ) (r : Bool) (after : List ℤ) : Type 0 where
   pub reply : r ≡ contradicts every n j before
   pub table : after ≡ eliminated n j before
   pub rules : HiddenByRules n j before r after
+  pub blocks : HiddenByBlocks n j before after
   pub sums : (u : Rule) (s : IsSum n j before u) → u ≡ sumOver (2 * j) (s .plus) (s .minus)
   pub growth : (B : ℕ) → WordsWithin (blockStart n) (pos B) before → WordsWithin (blockStart n) (pos (B + B)) after
   pub meaning : r ≡ false → (σ : Assignment) → Satisfies n after σ ↔ SheetAllows (eqb (suc j)) (Satisfies n before) σ

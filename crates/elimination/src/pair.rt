@@ -6,11 +6,11 @@ use crate::row;
 use crate::word;
 ghost use mathlib.Core.Bool.{true};
 ghost use mathlib.Core.Path.{_≡_};
-ghost use Prim.Native.Nat.{_+_, _<_};
+ghost use Prim.Native.Nat.{_+_, _≤_, _<_};
 ghost use lib.ListN.{length, set, getD};
 ghost use Rattle.words.specs.Change.{wordAt};
 ghost use Rattle.elimination.specs.Hiding.{withSum, withHalf};
-ghost use Rattle.elimination.specs.Promises.{Paired};
+ghost use Rattle.elimination.specs.Promises.{BlockWorked, PairedUpTo, Paired};
 ghost use Rattle.elimination.specs.Inner.{Addable, FourAddable, allHeld, twoPaired, rowPaired, fourPaired, among, StepReady, BlockReady, BlockPaired, BlocksReady, BlocksPaired, TwosReady, TwosPaired};
 
 // Puts the sums in at the place `at` of two literals, given the bounds of each with the quantity and + and with it and -.
@@ -207,9 +207,9 @@ fn pair_places(
     pair_twos(table, i, live, plus, minus);
 }
 
-// Puts the sums in at the terms of that block. None goes there where no rule has its quantity together with the one that is paired, as in most blocks of a table
-// with few rules.
-fn pair_block(
+// The work on one block: puts in every sum that lands in the block of the live quantity of place `i` in the list, and changes no other word. None goes there where no rule has that quantity together with the one that is
+// paired, as in most blocks of a table with few rules.
+pub fn pair_block(
     table: &mut [i64],
     i: usize,
     live: &[usize],
@@ -219,7 +219,7 @@ fn pair_block(
     m: i64,
 )
     requires { ⌜ BlockReady i (now live) (now table) (now plus) (now minus) p m ⌝ }
-    ensures { λ _. ⌜ BlockPaired (getD (now (live .entry)) i 0) (now (live .entry)) (now (plus .entry)) (now (minus .entry)) p m (now (table .entry)) (now (table .exit)) ⌝ }
+    ensures { λ _. ⌜ BlockWorked (getD (now (live .entry)) i 0) (now (live .entry)) (now (plus .entry)) (now (minus .entry)) p m (now (table .entry)) (now (table .exit)) ⌝ }
 {
     let y = 2 * live[i];
     if word::are_none(plus[y], minus[y], plus[y + 1], minus[y + 1]) {
@@ -228,28 +228,53 @@ fn pair_block(
     pair_places(table, i, live, plus, minus, p, m);
 }
 
-// Puts in, at the places of live quantities of `n`, every sum of the rows `plus` and `minus` and of the bounds `p` and `m`, block after block.
+// Puts in, at the places of live quantities of `n`, the sums of the rows `plus` and `minus` and of the bounds `p` and `m`: one block after another, those of the first `count` live quantities.
 pub fn pair_blocks(
     n: usize,
     table: &mut [i64],
+    count: usize,
     live: &[usize],
     plus: &[i64],
     minus: &[i64],
     p: i64,
     m: i64,
 )
-    requires { ⌜ BlocksReady n (now live) (now table) (now plus) (now minus) p m ⌝ }
-    ensures { λ _. ⌜ BlocksPaired n (now (live .entry)) (now (plus .entry)) (now (minus .entry)) p m (now (table .entry)) (now (table .exit)) ⌝ }
+    requires { ⌜ BlocksReady n count (now live) (now table) (now plus) (now minus) p m ⌝ }
+    ensures { λ _. ⌜ BlocksPaired n count (now (live .entry)) (now (plus .entry)) (now (minus .entry)) p m (now (table .entry)) (now (table .exit)) ⌝ }
 {
     let mut i = 0;
-    while i < live.len() {
+    while i < count {
         pair_block(table, i, live, plus, minus, p, m);
         i = i + 1;
     }
 }
 
-// Puts in every sum of a rule with +(j + 1) and a rule with -(j + 1) whose other quantities are live, and answers whether a bare sum is a contradiction. The two rows
-// are for the quantity's rules: their words are free.
+// Puts in the sums of a rule with +(j + 1) and a rule with -(j + 1), whose other quantities are live, that land in the blocks of the first `count` live quantities, and answers whether a bare sum is a
+// contradiction, in whichever block. The two rows are for the quantity's rules: their words are free.
+pub fn pair_up_to(
+    n: usize,
+    table: &mut [i64],
+    j: usize,
+    count: usize,
+    live: &[usize],
+    plus: &mut [i64],
+    minus: &mut [i64],
+) -> bool
+    requires { ⌜ StepReady n j (now live) (now table) (now plus) (now minus) × (count ≤ length (now live)) ⌝ }
+    ensures { λ r. ⌜ PairedUpTo (now (live .entry)) n j count (now (table .entry)) r (now (table .exit)) ⌝ }
+{
+    row::gather(n, table, j, live, plus, minus);
+    let start = 2 * (j * j);
+    let p = table[start];
+    let m = table[start + 1];
+    pair_blocks(n, table, count, live, plus, minus, p, m);
+    if word::is_bare_below(p, m) {
+        return true;
+    }
+    bare::is_any_bare_below(n, live, plus, minus)
+}
+
+// Does that in all blocks of live quantities.
 pub fn pair(
     n: usize,
     table: &mut [i64],
@@ -261,13 +286,5 @@ pub fn pair(
     requires { ⌜ StepReady n j (now live) (now table) (now plus) (now minus) ⌝ }
     ensures { λ r. ⌜ Paired (among (now (live .entry))) n j (now (table .entry)) r (now (table .exit)) ⌝ }
 {
-    row::gather(n, table, j, live, plus, minus);
-    let start = 2 * (j * j);
-    let p = table[start];
-    let m = table[start + 1];
-    pair_blocks(n, table, live, plus, minus, p, m);
-    if word::is_bare_below(p, m) {
-        return true;
-    }
-    bare::is_any_bare_below(n, live, plus, minus)
+    pair_up_to(n, table, j, live.len(), live, plus, minus)
 }

@@ -11,6 +11,7 @@ use Rattle.words.specs.Change.{wordAt}
 use Rattle.elimination.specs.Inner.{among, noneHeld}
 use Rattle.elimination.proofs.Addable.{none-tells}
 use Rattle.elimination.proofs.Blocks.{block-idle}
+use Rattle.elimination.proofs.BlockOrder.{block-worked}
 use Rattle.elimination.proofs.pair.pair_block.Statement.{statement}
 use Rattle.elimination.proofs.pair.pair_block.Tie as tie
 
@@ -74,7 +75,7 @@ returns c =
     )
     at (sym (a .are-none .ensures) ∙ c .if1 .taken) in
     let t = none-tells (plus y) (minus y) (plus (y + 1)) (minus (y + 1)) none in
-    record { table = block-idle (among live) plus minus (s .args .p) (s .args .m) b (now (s .args .table)) (t .0) (t .1) (t .2) (t .3) }
+    block-worked b live _ _ _ _ _ _ (s .pre .twos .room) (record { table = block-idle (among live) plus minus (s .args .p) (s .args .m) b (now (s .args .table)) (t .0) (t .1) (t .2) (t .3) })
 
 pair-places-requires : tie.Need-pair-places-requires
 pair-places-requires c κs = search needs
@@ -85,7 +86,7 @@ same-length c = search needs
 returns-2 : tie.Need-returns-2
 returns-2 c =
     let s = c .before .before .before .before .before .before .before .before .before .before .before in
-    rw (word-value (s .fits .p), word-value (s .fits .m)) at (c .before .pair-places .ensures)
+    block-worked _ _ _ _ _ _ _ _ (s .pre .twos .room) (rw (word-value (s .fits .p), word-value (s .fits .m)) at (c .before .pair-places .ensures))
 
 pub pair-block-spec : {M : Type 1} → statement M
 pair-block-spec =

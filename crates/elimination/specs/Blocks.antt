@@ -1,0 +1,48 @@
+-- The order of work of a hiding step (document 02, request 4): one block after another, by place, and then the clearing. What the step puts in is said in
+-- Hiding and in ByRules, apart from any order.
+use mathlib.Core.Bool.{true, false}
+use mathlib.Core.Path.{_≡_}
+use mathlib.Core.List.{List}
+use Prim.Native.Nat.{ℕ, suc, _≤_, _<_}
+use lib.IntN.{ℤ}
+use lib.ListN.{length}
+use lib.Signed.{_≤ℤ_}
+use Rattle.words.specs.Change.{wordAt}
+use Rattle.places.specs.declared.Place.the-variants.{At}
+use Rattle.places.specs.Numbering.{blockStart}
+use Rattle.rules.specs.declared.rule.Rule.{Rule}
+use Rattle.rules.specs.Meaning.{boundOf, names}
+use Rattle.tables.specs.Places.{findPlace}
+use Rattle.tables.specs.Tables.{cleared}
+use Rattle.tables.specs.Meaning.{ruleIn}
+use Rattle.elimination.specs.Hiding.{eliminated}
+use Rattle.elimination.specs.ByRules.{IsSum}
+
+-- place k lies in the block of quantity b + 1
+pub record InBlock (b k : ℕ) : Type 0 where
+  pub from : blockStart b ≤ k
+  pub below : k < blockStart (suc b)
+
+-- no word outside that block is changed, also none past the table
+pub record BlockAlone (b : ℕ) (before after : List ℤ) : Type 0 where
+  pub size : length after ≡ length before
+  pub outside : (k : ℕ) → (InBlock b k → ⊥) → wordAt after k ≡ wordAt before k
+
+-- the work on that block in the step that hides quantity j + 1 of n, `start` being the table where the step begins: 'changes no word outside it and leaves each of its words that does
+-- not name the hidden quantity as the whole step leaves it'. Those that name it stay until all blocks are done
+pub record BlockDone (n j b : ℕ) (start before after : List ℤ) : Type 0 where
+  pub alone : BlockAlone b before after
+  pub whole : (k : ℕ) → InBlock b k → names (suc j) (ruleIn start k) ≡ false → wordAt after k ≡ wordAt (eliminated n j start) k
+  pub named : (k : ℕ) → InBlock b k → names (suc j) (ruleIn start k) ≡ true → wordAt after k ≡ wordAt start k
+
+-- 'all sums that land in one block are put in before the next block is begun': the tables between, b blocks done in `tables b`, each by the work on the next block alone; in the end the places that name
+-- the quantity are cleared
+pub record HiddenByBlocks (n j : ℕ) (before after : List ℤ) : Type 0 where
+  pub tables : ℕ → List ℤ
+  pub first : tables 0 ≡ before
+  pub each : (b : ℕ) → b < n → BlockDone n j b before (tables b) (tables (suc b))
+  pub last : after ≡ cleared n (suc j) (tables n)
+  -- a sum is in when the work on the block of its place is done,
+  pub sums : (u : Rule) → IsSum n j before u → (b k : ℕ) → InBlock b k → findPlace u ≡ At k → wordAt (tables (suc b)) k ≤ℤ boundOf u
+  -- and until a block is begun it stands as at the start, as do those after it
+  pub waiting : (b k : ℕ) → blockStart b ≤ k → wordAt (tables b) k ≡ wordAt before k

@@ -30,7 +30,7 @@ use Rattle.tables.specs.Replies.{check}
 use Rattle.elimination.specs.Hiding.{every}
 use Rattle.keys.specs.Keys.{refuted, boundsInLimit, lentChecks, keyChecks, keyReply, assignmentReply}
 use Rattle.keys.specs.Inner.{Fits, KeyChecked, AssignmentChecked}
-use Rattle.keys.specs.Meaning.{NumbersWithin, keyNeeds, assignmentNeeds}
+use Rattle.keys.specs.Meaning.{NumbersWithin, keyNeedsThen, keyNeeds, assignmentNeeds}
 use Rattle.keys.proofs.Several.{refuted-false}
 use Rattle.keys.proofs.Fitting.{sheet-fits, hide-ample}
 use Rattle.keys.proofs.Deciding.{refuted-exactly}
@@ -121,12 +121,16 @@ lent-held n w m limit t r e d i c = rw (size-known n m (lent-tells n (length t) 
 
 -- ---- the calls are refused by the first need that is not met
 
+-- the key call's checks before any others,
+pub checks-tied : (n set : ℕ) (t : List ℤ) (w : ℕ) (rest : Needs) (next : Reply) → (TableSized n (length t) → BoundsWithin Sheet n set t → Tied rest next)
+    → Tied (keyNeedsThen n set t w rest) (keyChecks n set t w next)
+unfolding keyChecks
+checks-tied n set t w rest next more = lent-tied n (length t) w _ _ (λ s. tied-more _ _ _ _ _ (numbers n set t) (λ m. more s (m .1)))
+
+-- and before 5
 pub key-tied : (n set : ℕ) (t : List ℤ) (w : ℕ) → Tied (keyNeeds n set t w) (keyReply n set t w)
-unfolding keyReply keyChecks
-key-tied n set t w =
-    lent-tied n (length t) w _ _ (λ s.
-    tied-more _ _ _ _ _ (numbers n set t) (λ m.
-    tied-more _ _ _ _ _ (decided-some n set t s (m .1)) (λ x. tied-done)))
+unfolding keyReply
+key-tied n set t w = checks-tied n set t w _ _ (λ s b. tied-more _ _ _ _ _ (decided-some n set t s b) (λ x. tied-done))
 
 pub assignment-tied : (n : ℕ) (t : List ℤ) (w v : ℕ) → Tied (assignmentNeeds n t w v) (assignmentReply n t w v)
 unfolding assignmentReply
@@ -143,19 +147,21 @@ key-stops : (n set : ℕ) (t : List ℤ) (w : ℕ) (f : Refusal) → Refused f �
 key-stops n set t w f e = record { reply = e; passes = λ d. absurd (refused-done d); words = λ d. absurd (refused-done d) }
 
 module _ (n set : ℕ) (t : List ℤ) (w : ℕ) where
-  -- is the call's reply
-  pub key-stands : (r : Reply) (f : Refusal) → r ≡ keyChecks n set t w Done → r ≡ Refused f → r ≡ keyReply n set t w
-  unfolding keyReply keyChecks lentChecks
-  key-stands r f e d = d ∙ sym (before .stands f (sym e ∙ d) _)
+  -- stands whatever follows the checks
+  pub checks-before : Before (keyChecks n set t w)
+  unfolding keyChecks lentChecks
+  checks-before =
+      before-more (serves n (length t)) Size (λ next. check (leb (blockStart n) w) (TooShort (blockStart n)) (numbers-checked next))
+      (before-more (leb (blockStart n) w) (TooShort (blockStart n)) numbers-checked
+      (before-more (setWithin n set && boundsInLimit Sheet n set t) (OutOfLimit 0) (λ next. next) before-none))
     where
       numbers-checked : Reply → Reply
       numbers-checked next = check (setWithin n set && boundsInLimit Sheet n set t) (OutOfLimit 0) next
 
-      before : Before (λ next. check (serves n (length t)) Size (check (leb (blockStart n) w) (TooShort (blockStart n)) (numbers-checked next)))
-      before =
-          before-more (serves n (length t)) Size (λ next. check (leb (blockStart n) w) (TooShort (blockStart n)) (numbers-checked next))
-          (before-more (leb (blockStart n) w) (TooShort (blockStart n)) numbers-checked
-          (before-more (setWithin n set && boundsInLimit Sheet n set t) (OutOfLimit 0) (λ next. next) before-none))
+  -- and so is the call's reply
+  pub key-stands : (r : Reply) (f : Refusal) → r ≡ keyChecks n set t w Done → r ≡ Refused f → r ≡ keyReply n set t w
+  unfolding keyReply
+  key-stands r f e d = d ∙ sym (checks-before .stands f (sym e ∙ d) _)
 
   pub key-lent : (r : Reply) (f : Refusal) → r ≡ lentChecks n (length t) w Done → r ≡ Refused f → KeyChecked n set t w r
   unfolding keyChecks

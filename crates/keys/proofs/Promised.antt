@@ -62,7 +62,7 @@ key-late n set t w (s, (l, (m, u))) = rw (serves-sized n (length t) .1 s, le-leb
 pub key-fits : (n set : ℕ) (t : List ℤ) (w : ℕ) → AllMet (keyNeedsThen n set t w passed) → Fits n t
 key-fits n set t w (s, (l, (m, u))) = checked-fits n set t s (m .1)
 
-key-none : (n set : ℕ) (t : List ℤ) (w : ℕ) (r : Reply) → r ≡ keyReply n set t w → AllMet (keyNeedsThen n set t w passed)
+pub key-none : (n set : ℕ) (t : List ℤ) (w : ℕ) (r : Reply) → r ≡ keyReply n set t w → AllMet (keyNeedsThen n set t w passed)
     → (replyNumber r ≡ 5) ↔ Unsatisfiable n t
 key-none n set t w r e p = five-none n t r (e ∙ key-late n set t w p) (refuted-exactly n t (key-fits n set t w p))
 

@@ -160,6 +160,11 @@ module _ (n j : ℕ) (t : List ℤ) (l : blockStart n ≤ length t) (h : j < n) 
       in-block : (u : Rule) → IsSum n j t u → (b k : ℕ) → InBlock b k → findPlace u ≡ At k → wordAt (paired every (suc b) j t) k ≤ℤ boundOf u
       in-block u s b k i p = rw (reached (suc b) k (block-within b k i (sum-place n j t l h u s k p .0)) (i .below)) (sum-goes-in n j t l h u s k p)
 
+  -- the tables between being those of the sums that go to the first blocks
+  pub blocks-between : (v : List ℤ) (e : v ≡ eliminated n j t) (b : ℕ) → by-blocks v e .tables b ≡ paired every b j t
+  unfolding by-blocks
+  blocks-between v e b = refl
+
 -- where the list has ended, all sums are in
 pub paired-all : (live : List ℕ) (n j count : ℕ) (t u : List ℤ) (r : Bool) → length live ≤ count → PairedUpTo live n j count t r u → Paired (among live) n j t r u
 paired-all live n j count t u r h p = record {

@@ -37,7 +37,7 @@ hideUpTo-length hidden n (suc j) t = go (hideUpTo-length hidden n j t) (hidden (
     go ih false = ih
 
 -- words past the table's stay
-rest-eliminated : (n j : ℕ) (t : List ℤ) → drop (blockStart n) (eliminated n j t) ≡ drop (blockStart n) t
+pub rest-eliminated : (n j : ℕ) (t : List ℤ) → drop (blockStart n) (eliminated n j t) ≡ drop (blockStart n) t
 unfolding eliminated cleared paired
 rest-eliminated n j t = change-drop (blockStart n) _ _ ∙ change-drop (blockStart n) _ t
 

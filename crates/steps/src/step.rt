@@ -43,15 +43,7 @@ fn follow(n: usize, table: &mut [i64], j: usize, blocks: usize)
     let mut list = [0; room::LARGE];
     let mut plus = [0; room::LARGE_ROW];
     let mut minus = [0; room::LARGE_ROW];
-    follow_in(
-        n,
-        table,
-        j,
-        blocks,
-        &mut list,
-        &mut plus,
-        &mut minus,
-    );
+    follow_in(n, table, j, blocks, &mut list, &mut plus, &mut minus);
 }
 
 // The call's checks before 5: its first refusal, or done.
@@ -93,14 +85,7 @@ pub fn step(
 ) -> Reply
     ensures { λ r. ⌜ StepFollowed n before quantity blocks (now (table .entry)) (now (workspace .entry)) r (now (table .exit)) (now (workspace .exit)) ⌝ }
 {
-    let checked = check(
-        n,
-        before,
-        quantity,
-        blocks,
-        table,
-        workspace.len(),
-    );
+    let checked = check(n, before, quantity, blocks, table, workspace.len());
     let Reply::Done = checked else {
         return checked;
     };

@@ -1,0 +1,74 @@
+-- A step followed to a point: which of the tables between it is. Assumes nothing.
+use mathlib.Core.Path.{_≡_, refl, sym, _∙_, ap}
+use mathlib.Core.Bool.{Bool, true, false, cond}
+use mathlib.Core.List.{List}
+use Prim.Native.Nat.{ℕ, zero, suc, _+_, _-_, _*_, _≤_, _<_}
+use native.Mathlib.Omega.{arith}
+use lib.IntN.{ℤ}
+use lib.ListN.{length, take}
+use borrow.Author.Tests.{le-leb, lt-leb}
+use Rattle.places.specs.Numbering.{blockStart}
+use Rattle.rules.specs.Hidden.{hiddenIn}
+use Rattle.elimination.specs.Hiding.{every, paired, eliminated}
+use Rattle.elimination.specs.Inner.{Ready, StepReady, among}
+use Rattle.elimination.specs.Promises.{PairedUpTo, QuantityHidden}
+use Rattle.elimination.proofs.BlockOrder.{by-blocks, blocks-between}
+use Rattle.keys.specs.Keys.{hideUpTo, keyOf}
+use Rattle.steps.specs.Steps.{stepAt}
+use Rattle.steps.specs.Inner.{AllListed}
+use Rattle.steps.specs.Promises.{PointReached, KeyComesTo}
+use Rattle.steps.proofs.Listing.{all-listed, all-next, all-paired}
+
+-- ---- the blocks, and the end
+
+pub point-between : (n j blocks : ℕ) (t u : List ℤ) (out : List ℕ) (r : Bool) → AllListed n out → blocks ≤ n → PairedUpTo (take n out) n j blocks t r u → u ≡ stepAt n j blocks t
+unfolding stepAt
+point-between n j blocks t u out r a h p =
+    p .table ∙ ap (λ (b : ℕ). paired (among (take n out)) b j t) (all-next n out a blocks h) ∙ all-paired n out a blocks j t h
+    ∙ ap (λ (c : Bool). cond c (paired every blocks j t) (eliminated n j t)) (sym (le-leb blocks n h))
+
+pub point-end : (n j blocks : ℕ) (t u : List ℤ) (r : Bool) → n < blocks → QuantityHidden n j t r u → u ≡ stepAt n j blocks t
+unfolding stepAt
+point-end n j blocks t u r h q = q .table ∙ ap (λ (c : Bool). cond c (paired every blocks j t) (eliminated n j t)) (sym (lt-leb blocks n h))
+
+-- with list and rows lent the step is ready
+pub point-ready : (n j : ℕ) (t : List ℤ) (out : List ℕ) (plus minus : List ℤ) → AllListed n out → Ready n j t → 2 * n ≤ length plus → 2 * n ≤ length minus
+    → StepReady n j (take n out) t plus minus
+point-ready n j t out plus minus a r p m = record { ready = r; listed = all-listed n out a; plus-room = p; minus-room = m }
+
+-- what is reached is one of the tables between, or the end
+pub point-reached : (n j blocks : ℕ) (t : List ℤ) → blockStart n ≤ length t → j < n → PointReached n j blocks t (stepAt n j blocks t)
+unfolding stepAt
+point-reached n j blocks t l h = record {
+  step = by-blocks n j t l h (eliminated n j t) refl;
+  between = λ g. rw (le-leb blocks n g) (sym (blocks-between n j t l h (eliminated n j t) refl blocks));
+  end = λ g. rw (lt-leb blocks n g);
+}
+
+-- ---- the steps of a key
+
+-- where two sets agree on the first m quantities, these are hidden alike,
+same-hidden : (h g : ℕ → Bool) (n m : ℕ) (t : List ℤ) → ((i : ℕ) → i < suc m → h i ≡ g i) → hideUpTo h n m t ≡ hideUpTo g n m t
+unfolding hideUpTo
+same-hidden h g n zero t e = refl
+same-hidden h g n (suc m) t e = rw (same-hidden h g n m t (λ i l. e i (omega arith)), e (suc m) (omega arith))
+
+-- and where a set has none past them, nothing more is hidden
+one-more : (h : ℕ → Bool) (n m : ℕ) (t : List ℤ) → h (suc m) ≡ false → hideUpTo h n (suc m) t ≡ hideUpTo h n m t
+unfolding hideUpTo
+one-more h n m t e = rw e
+
+none-more : (h : ℕ → Bool) (n m d : ℕ) (t : List ℤ) → ((i : ℕ) → m < i → i ≤ m + d → h i ≡ false) → hideUpTo h n (m + d) t ≡ hideUpTo h n m t
+none-more h n m zero t e = ap (λ (i : ℕ). hideUpTo h n i t) (omega arith)
+none-more h n m (suc d) t e =
+    let next : m + suc d ≡ suc (m + d) = omega arith in
+    ap (λ (i : ℕ). hideUpTo h n i t) next ∙ one-more h n (m + d) t (e (suc (m + d)) (omega arith) (omega arith))
+    ∙ none-more h n m d t (λ i l g. e i l (omega arith))
+
+pub key-comes : (n set q : ℕ) (t : List ℤ) → 1 ≤ q → q ≤ n → KeyComesTo n set q t
+unfolding keyOf
+key-comes n set q t a b hidden same none =
+    let all : n ≡ (q - 1) + (n - (q - 1)) = omega arith in
+    ap (λ (i : ℕ). hideUpTo (hiddenIn set) n i t) all
+    ∙ none-more (hiddenIn set) n (q - 1) (n - (q - 1)) t (λ i l g. none i (omega arith) (omega arith))
+    ∙ sym (same-hidden hidden (hiddenIn set) n (q - 1) t (λ i l. same i (omega arith)))

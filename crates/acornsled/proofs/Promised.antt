@@ -13,6 +13,7 @@ use Rattle.tables.specs.declared.reply.Reply.{Reply}
 use Rattle.tables.specs.declared.reply.Reply.the-variants.{Done}
 use Rattle.tables.specs.declared.reply.Reply.the-variants.{Refused as NotDone}
 use Rattle.keys.specs.Promises.{Keyed, Assigned}
+use Rattle.steps.specs.Promises.{StepFollowed}
 use Rattle.tightening.specs.Promises.{TightKeyed}
 use Rattle.rules.specs.declared.refusal.Refusal.{Refusal}
 use Rattle.rules.specs.Hidden.{hiddenIn}
@@ -54,7 +55,7 @@ use Rattle.writing.specs.declared.write.Writing.the-variants.{Text}
 use Rattle.writing.specs.declared.write.Writing.the-variants.{Refused as NotWritten}
 use Rattle.writing.specs.Writing.{writingReturned, writingNumber, writingValue}
 use Rattle.writing.specs.Promises.{TextWritten}
-use Rattle.acornsled.specs.Promises.{TellsRefusal, KeyAnswer, TightKeyAnswer, AssignmentAnswer, ReadAnswer, WriteAnswer, RefusedWith, MarkAnswer, countRead, setRead, hostReply, countMarked, ruleMarked, Told, MarkTextsAnswer}
+use Rattle.acornsled.specs.Promises.{TellsRefusal, KeyAnswer, TightKeyAnswer, StepAnswer, AssignmentAnswer, ReadAnswer, WriteAnswer, RefusedWith, MarkAnswer, countRead, setRead, hostReply, countMarked, ruleMarked, Told, MarkTextsAnswer}
 
 -- ---- a reply by its number and value is a reply as it is returned
 
@@ -91,6 +92,15 @@ tight-answer n set t w t' w' reply r v k e d = record {
   value = d ∙ ap replyValue (k .keyed .reply);
   decided = rw (e, d) (decided-as (k .keyed .decided) (reply-told-as reply) Iff·rfl);
   call = rw (k .keyed .reply) at k;
+}
+
+pub step-answer : (n set q blocks : ℕ) (t w t' w' : List ℤ) (reply : Reply) (r v : ℕ) → StepFollowed n set q blocks t w reply t' w' → r ≡ replyNumber reply → v ≡ replyValue reply
+    → StepAnswer n set q blocks t w r v t' w'
+step-answer n set q blocks t w t' w' reply r v k e d = record {
+  number = e ∙ ap replyNumber (k .reply);
+  value = d ∙ ap replyValue (k .reply);
+  decided = rw (e, d) (decided-as (k .decided) (reply-told-as reply) Iff·rfl);
+  call = rw (k .reply) at k;
 }
 
 pub assignment-answer : (n : ℕ) (t w u w' u' : List ℤ) (reply : Reply) (r v : ℕ) → Assigned n t w u reply w' u' → r ≡ replyNumber reply

@@ -18,6 +18,9 @@ use Rattle.tables.specs.Meaning.{Satisfies, Unsatisfiable}
 use Rattle.keys.specs.Keys.{keyReply, assignmentReply}
 use Rattle.keys.specs.Meaning.{keyNeeds, assignmentNeeds}
 use Rattle.keys.specs.Promises.{Keyed, Assigned}
+use Rattle.steps.specs.Steps.{stepReply}
+use Rattle.steps.specs.Meaning.{stepNeeds}
+use Rattle.steps.specs.Promises.{StepFollowed}
 use Rattle.tightening.specs.Promises.{TightKeyed}
 use Rattle.questions.specs.Meaning.{askNeeds}
 use Rattle.questions.specs.Replies.{askedNumber, askedValue, answersAfter}
@@ -93,6 +96,13 @@ KeyAnswer n set table workspace r v table' workspace' = KeyAnswerBy Keyed n set 
 -- the tight key call's
 abbrev pub TightKeyAnswer : ℕ → ℕ → List ℤ → List ℤ → ℕ → ℕ → List ℤ → List ℤ → Type 0
 TightKeyAnswer n set table workspace r v table' workspace' = KeyAnswerBy TightKeyed n set table workspace r v table' workspace'
+
+-- that of following a hiding step
+pub record StepAnswer (n set q blocks : ℕ) (table workspace : List ℤ) (r v : ℕ) (table' workspace' : List ℤ) : Type 0 where
+  pub number : r ≡ replyNumber (stepReply n set q blocks table (length workspace))
+  pub value : v ≡ replyValue (stepReply n set q blocks table (length workspace))
+  pub decided : DecidedBy (stepNeeds n set q blocks table (length workspace)) (TellsRefusal r v) (r ≡ 0)
+  pub call : StepFollowed n set q blocks table workspace (stepReply n set q blocks table (length workspace)) table' workspace'
 
 -- the assignment call's
 pub record AssignmentAnswer (n : ℕ) (table workspace values : List ℤ) (r v : ℕ) (workspace' values' : List ℤ) : Type 0 where

@@ -10,7 +10,7 @@ use reading::read::Reading;
 use rules::sheet::Sheet;
 use scripts::own;
 use scripts::reply::TextMarking;
-ghost use Rattle.acornsled.specs.Promises.{ReadAnswer, WriteAnswer, KeyAnswer, TightKeyAnswer, AssignmentAnswer, AskAnswer, MarkAnswer, MarkTextsAnswer, MarkTablesAnswer};
+ghost use Rattle.acornsled.specs.Promises.{ReadAnswer, WriteAnswer, KeyAnswer, TightKeyAnswer, StepAnswer, AssignmentAnswer, AskAnswer, MarkAnswer, MarkTextsAnswer, MarkTablesAnswer};
 
 // Reads a text: where it answers 0, the table's first 2n² words hold its rules, and n and the hidden set are written to `quantities` and `hidden`.
 #[no_mangle]
@@ -81,6 +81,32 @@ pub extern "C" fn acornsled_tight_key(
     ensures { λ r. ⌜ TightKeyAnswer n hidden (now (table .entry)) (now (workspace .entry)) r (now (value .exit)) (now (table .exit)) (now (workspace .exit)) ⌝ }
 {
     let reply = tightening::key::tight_key(n, hidden, table, workspace);
+    *value = reply.value();
+    reply.number()
+}
+
+// Follows the step that hides `quantity`, those of the set `before` hidden before it: where it answers 0, the table's first 2n² words have become the table with the step's first blocks done, so many,
+// and, with n + 1 for their number, with the quantity's places cleared too. The workspace needs as many.
+#[no_mangle]
+pub extern "C" fn acornsled_step(
+    n: usize,
+    before: u32,
+    quantity: usize,
+    blocks: usize,
+    table: &mut [i64],
+    workspace: &mut [i64],
+    value: &mut usize,
+) -> u32
+    ensures { λ r. ⌜ StepAnswer n before quantity blocks (now (table .entry)) (now (workspace .entry)) r (now (value .exit)) (now (table .exit)) (now (workspace .exit)) ⌝ }
+{
+    let reply = steps::step::step(
+        n,
+        before,
+        quantity,
+        blocks,
+        table,
+        workspace,
+    );
     *value = reply.value();
     reply.number()
 }

@@ -45,14 +45,7 @@ pub fn tight_key(n: usize, hidden: u32, table: &mut [i64], workspace: &mut [i64]
     DONE
 }
 
-pub fn step(
-    n: usize,
-    before: u32,
-    quantity: usize,
-    blocks: usize,
-    table: &mut [i64],
-    workspace: &mut [i64],
-) -> Reply {
+pub fn step(n: usize, before: u32, quantity: usize, blocks: usize, table: &mut [i64], workspace: &mut [i64]) -> Reply {
     let (table, workspace) = match accepted(n, before, table, workspace) {
         Ok(lent) => lent,
         Err(refusal) => return refusal,

@@ -7,6 +7,7 @@ use judge::enums;
 use judge::linked::Linked;
 use judge::marking;
 use judge::run;
+use judge::stepping;
 use judge::table_marking;
 use judge::text;
 
@@ -22,6 +23,12 @@ fn the_linked_library_is_accepted_on_sheets() {
 fn the_linked_library_is_accepted_on_pairs_of_sheets() {
     // so many that every kind of pair has to be met
     alike::run::all(&Linked, 1, 2000).unwrap_or_else(|failure| panic!("{failure}"));
+}
+
+#[test]
+fn the_linked_library_is_accepted_on_hiding_steps() {
+    // so many that every kind of call has to be met
+    stepping::run::all(&Linked, 1, 5000).unwrap_or_else(|failure| panic!("{failure}"));
 }
 
 #[test]

@@ -57,10 +57,11 @@ impl Table {
 
     /// The table in the middle of a hiding step. The quantities of the set `before` are hidden first, as [`Table::key`] hides
     /// them; then the step that hides `quantity` is begun, and done on its first `blocks` blocks. The block of a quantity has the
-    /// terms of it and of those before it, and the work on it puts in the sums that have their place there and changes nothing
-    /// else. With 0 blocks nothing of the step is done, with as many as there are quantities all sums are in, and with one more
-    /// the rules that name `quantity` are gone too. The table's own hidden set does not count, and stays. A set, a quantity or a
-    /// number of blocks that the table does not have is refused with 3, and a table that no integers satisfy with 5.
+    /// terms of it alone and of it with each lower quantity; the work on it puts in the sums that have their place there and
+    /// changes nothing else. With 0 blocks nothing of the step is done, with as many as there are quantities all sums are in, and
+    /// with one more the rules that name `quantity` are gone too. The table's own hidden set does not count, and stays. A set, a
+    /// quantity or a number of blocks that the table does not have is refused with 3, and a table that no integers satisfy with
+    /// 5.
     pub fn step(mut self, before: u32, quantity: usize, blocks: usize) -> Result<Table, Refusal> {
         let mut workspace = vec![0; TABLE_WORDS];
         done(calls::step(self.quantities, before, quantity, blocks, &mut self.words, &mut workspace))?;

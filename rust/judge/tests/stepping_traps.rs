@@ -27,7 +27,7 @@ const TRAPS: [(Trap, &str); 70] = [
     // the sums
     (Trap::SumsOfSums, "the key with the quantity: place 18: word 220914214, due 9223372036854775807"),
     (Trap::LoneForgotten, "place 9: word 9223372036854775807, due -1"),
-    (Trap::BarePut, "place 0: word 0, due 9223372036854775807"),
+    (Trap::BarePut, "the key with the quantity: place 0: word 126976095, due 9223372036854775807"),
     (Trap::HalvesUp, "place 18: word 141, due 140"),
     (Trap::HalvesTowardZero, "the key with the quantity: place 2: word 0, due -1"),
     (Trap::NotHalved, "place 3: word -2, due -1"),
@@ -41,7 +41,7 @@ const TRAPS: [(Trap, &str); 70] = [
     (Trap::ClearedByBlock, "place 205: word 9223372036854775807, which was -402502561"),
     (Trap::ClearedAtOnce, "place 205 is changed with block 1"),
     (Trap::NeverCleared, "place 205: word -402502561 at the end, due 9223372036854775807"),
-    (Trap::LoneKept, "place 0: word -1 at the end, due 9223372036854775807"),
+    (Trap::LoneKept, "place 2: word 87398723 at the end, due 9223372036854775807"),
     (Trap::OwnBlockCleared, "place 205: word -402502561 at the end, due 9223372036854775807"),
     // the set before
     (Trap::BeforeIgnored, "place 37: word 1000000000, due 9223372036854775807"),

@@ -96,8 +96,8 @@ pub fn of_refused(given: &Given, enumerated: bool) -> Vec<String> {
         ],
         ["5"] => {
             let mut hidden = given.sheet().table;
-            let own = (1..=given.n).filter(|&q| is_in(before, q)).chain([quantity]);
-            let unseen = own.fold(true, |unseen, q| naive::hide(given.n, q, &mut hidden) && unseen);
+            let mut own = (1..=given.n).filter(|&q| is_in(before, q)).chain([quantity]);
+            let unseen = own.all(|q| naive::hide(given.n, q, &mut hidden));
             vec![
                 (enumerated, "5 enumerated"),
                 (blocks == 0, "5 with no block done"),

@@ -20,7 +20,7 @@ const ENOUGH: u64 = 5_000;
 const DAMAGED: usize = 2;
 
 /// Up to so many quantities the steps of all of them are followed; of more, that of one quantity on some sheets.
-const FEW: usize = 3;
+const FEW: usize = 4;
 const SHARE: u64 = 4;
 
 /// What was judged, or the first failure with its input.
@@ -62,7 +62,7 @@ fn numbered(library: &dyn Stepper, seed: u64, number: u64, counts: &mut Counts) 
     sheet.hidden = step.before;
     let followed = match sheet.n <= FEW {
         true => 1..=sheet.n,
-        false if number / 3 % SHARE == 0 => step.quantity..=step.quantity,
+        false if (number / 3).is_multiple_of(SHARE) => step.quantity..=step.quantity,
         false => return Ok(()),
     };
     for quantity in followed {

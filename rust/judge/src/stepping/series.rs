@@ -42,9 +42,9 @@ pub fn holds(sheet: &Sheet, quantity: usize, tables: &[Vec<i64>]) -> Result<(), 
 /// Has the work on this block changed words of it alone, and only to smaller ones?
 fn changed(block: usize, before: &[i64], after: &[i64]) -> Result<(), String> {
     let within = size(block - 1)..size(block);
-    match (0..after.len()).find(|&place| after[place] != before[place] && !within.contains(&place)) {
-        Some(place) => return Err(format!("place {place} is changed with block {block}")),
-        None => {}
+    let outside = (0..after.len()).find(|place| after[*place] != before[*place] && !within.contains(place));
+    if let Some(place) = outside {
+        return Err(format!("place {place} is changed with block {block}"));
     }
     match within.clone().find(|&place| after[place] > before[place]) {
         Some(place) => Err(format!("place {place}: word {}, which was {}", after[place], before[place])),

@@ -77,7 +77,7 @@ impl Wrong {
             Trap::OneMore => block <= blocks + 1,
             Trap::FromLast => block + blocks > n,
             // the two blocks of each pair are exchanged
-            Trap::LaterFirst => (if block % 2 == 0 { block - 1 } else { (block + 1).min(n) }) <= blocks,
+            Trap::LaterFirst => (if block.is_multiple_of(2) { block - 1 } else { (block + 1).min(n) }) <= blocks,
             Trap::LastAlone => block == blocks || blocks > n,
             Trap::PassedOver(passed) => block <= blocks && (block != passed || blocks > n),
             Trap::OwnNotCounted => block <= blocks + usize::from(quantity <= blocks),

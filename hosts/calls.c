@@ -265,6 +265,83 @@ static void keying_tight(void)
     due("tight_key", acornsled_tight_key(1, 0, table, 2, workspace, 2, &value), ACORNSLED_PAST_LIMIT, 0);
 }
 
+/* Sheet A in the middle of the step that hides quantity 2, with so many blocks done. */
+static void stepped(size_t blocks, const int64_t *words_due)
+{
+    lend(sheet_table, WORDS);
+    due("step", acornsled_step(N, 0, 2, blocks, table, LARGEST, workspace, LARGEST, &value), ACORNSLED_DONE, 0);
+    holds(held(words_due), "the words of sheet A in the middle of a hiding step");
+    holds(kept(workspace, WORDS), "a step leaves what is past its workspace");
+}
+
+/* A step on sheet A that is refused. */
+static void step_refused(size_t n, uint32_t before, size_t quantity, size_t blocks, size_t table_words,
+                         size_t workspace_words, uint32_t number, size_t value_due)
+{
+    lend(sheet_table, WORDS);
+    due("step", acornsled_step(n, before, quantity, blocks, table, table_words, workspace, workspace_words, &value), number,
+        value_due);
+    holds(held(sheet_table) && kept(workspace, 0), "a refused step changes nothing");
+}
+
+/* Document 02, request 4: a hiding step of sheet A block by block, and one after another. */
+static void stepping(void)
+{
+    enum { TWO = 8 }; /* the words of two quantities */
+    /* +1+1:7, halved, is of the first block, +1+3:5 of the third; no sum is of the second */
+    static const int64_t first_done[WORDS] = {
+        3, NONE,
+        NONE, NONE, 5, 2, NONE, NONE,
+        NONE, NONE, NONE, NONE, NONE, NONE, NONE, NONE, 0, NONE,
+    };
+    static const int64_t all_done[WORDS] = {
+        3, NONE,
+        NONE, NONE, 5, 2, NONE, NONE,
+        NONE, NONE, 5, NONE, NONE, NONE, NONE, NONE, 0, NONE,
+    };
+    static const int64_t none[] = {0, -1};                                                   /* +1:0 and -1:-1 */
+    static const int64_t past[] = {ACORNSLED_MOST_BOUND + 1, NONE};                          /* +1 */
+    static const int64_t chain[TWO] = {NONE, 4, NONE, NONE, 1, NONE, NONE, NONE};            /* -1:4, +1+2:1 */
+    static const int64_t added[TWO] = {NONE, NONE, 5, NONE, NONE, NONE, NONE, NONE};         /* +2:5 */
+    static const int64_t nothing[TWO] = {NONE, NONE, NONE, NONE, NONE, NONE, NONE, NONE};
+
+    stepped(0, sheet_table);
+    stepped(1, first_done);
+    stepped(2, first_done);
+    stepped(3, all_done);
+    stepped(4, key_table);
+
+    /* a quantity that is hidden before has nothing left to be added */
+    lend(sheet_table, WORDS);
+    due("step", acornsled_step(N, HIDDEN, 2, N, table, WORDS, workspace, WORDS, &value), ACORNSLED_DONE, 0);
+    holds(held(key_table), "quantity 2 is hidden once");
+    lend(chain, TWO);
+    due("step", acornsled_step(2, 1, 2, 0, table, TWO, workspace, TWO, &value), ACORNSLED_DONE, 0);
+    holds(memcmp(table, added, sizeof added) == 0 && kept(table, TWO), "quantity 1 is hidden before quantity 2");
+    lend(chain, TWO);
+    due("step", acornsled_step(2, 1, 2, 3, table, TWO, workspace, TWO, &value), ACORNSLED_DONE, 0);
+    holds(memcmp(table, nothing, sizeof nothing) == 0, "then quantity 2 is hidden as well");
+
+    step_refused(0, 0, 1, 0, LARGEST, LARGEST, ACORNSLED_SIZE, 0);
+    step_refused(ACORNSLED_MOST_QUANTITIES + 1, 0, 1, 0, LARGEST, LARGEST, ACORNSLED_SIZE, 0);
+    step_refused(N, 0, 2, 0, WORDS - 1, 0, ACORNSLED_SIZE, 0);
+    step_refused(N, 1 << N, 0, N + 2, WORDS, WORDS - 1, ACORNSLED_TOO_SHORT, WORDS);
+    step_refused(N, 1 << N, 2, 0, WORDS, WORDS, ACORNSLED_PAST_LIMIT, 0);
+    step_refused(N, 0, 0, 0, WORDS, WORDS, ACORNSLED_PAST_LIMIT, 0);
+    step_refused(N, 0, N + 1, 0, WORDS, WORDS, ACORNSLED_PAST_LIMIT, 0);
+    step_refused(N, 0, 2, N + 2, WORDS, WORDS, ACORNSLED_PAST_LIMIT, 0);
+    step_refused(N, 0, SIZE_MAX, 0, WORDS, WORDS, ACORNSLED_PAST_LIMIT, 0);
+    step_refused(N, 0, 2, SIZE_MAX, WORDS, WORDS, ACORNSLED_PAST_LIMIT, 0);
+    lend(past, 2);
+    due("step", acornsled_step(1, 0, 1, 0, table, 2, workspace, 2, &value), ACORNSLED_PAST_LIMIT, 0);
+    /* 3 before 5, which comes also where nothing of the step is done */
+    lend(none, 2);
+    due("step", acornsled_step(1, 0, 2, 0, table, 2, workspace, 2, &value), ACORNSLED_PAST_LIMIT, 0);
+    holds(kept(workspace, 0), "a refused step changes nothing");
+    due("step", acornsled_step(1, 0, 1, 0, table, 2, workspace, LARGEST, &value), ACORNSLED_NO_ASSIGNMENT, 0);
+    holds(memcmp(table, none, sizeof none) == 0 && kept(table, 2) && kept(workspace, 2), "a table without an assignment stays");
+}
+
 /* Puts questions of so many words to sheet A, with so many words of workspace. The answers are BEFORE where they stay. */
 static void asked(const int64_t *questions, size_t words, size_t workspace_words, uint32_t number, size_t value_due,
                   uint64_t answers_due)
@@ -503,6 +580,7 @@ int main(void)
     assigning();
     keying();
     keying_tight();
+    stepping();
     asking();
     writing();
     marking();

@@ -62,6 +62,12 @@ static void *call_tight_key(void *unused)
     return unused;
 }
 
+static void *call_step(void *unused)
+{
+    answer = acornsled_step(N, hidden, N, N + 1, table, WORDS, workspace, WORDS, &value);
+    return unused;
+}
+
 static void *call_ask(void *unused)
 {
     answer = acornsled_ask(N, table, WORDS, questions, ACORNSLED_QUESTIONS_WORDS, workspace, WORDS, &answers, &value);
@@ -164,9 +170,11 @@ int main(void)
     /* the sheet's table has become the key */
     acornsled_read((uint8_t *)sheet, sheet_length, table, WORDS, &quantities, &hidden, &value);
     measure("acornsled_tight_key", call_tight_key, ACORNSLED_DONE);
+    /* and again, also below */
+    acornsled_read((uint8_t *)sheet, sheet_length, table, WORDS, &quantities, &hidden, &value);
+    measure("acornsled_step", call_step, ACORNSLED_DONE);
     measure("acornsled_mark", call_mark, ACORNSLED_TIGHT);
     measure("acornsled_mark_texts", call_mark_texts, ACORNSLED_TIGHT);
-    /* and again */
     acornsled_read((uint8_t *)sheet, sheet_length, table, WORDS, &quantities, &hidden, &value);
     acornsled_read((uint8_t *)script, script_length, script_table, WORDS, &quantities, &hidden, &value);
     measure("acornsled_mark_tables", call_mark_tables, ACORNSLED_TIGHT);

@@ -29,8 +29,8 @@
  * too. A script's other limits are the same; for its bounds ACORNSLED_MOST_BOUND is doubled once for each quantity that is
  * hidden, in a text by its own hidden list. The bounds of acornsled_key's key are never past that: handed in as the script of
  * its sheet, it is equal. Those of acornsled_tight_key's may be; where none is, that is equal too. acornsled_read,
- * acornsled_key, acornsled_tight_key, acornsled_assignment and acornsled_ask hold what they are given to a sheet's limits, so
- * that a key may be past them (3); acornsled_write writes any bound.
+ * acornsled_key, acornsled_tight_key, acornsled_step, acornsled_assignment and acornsled_ask hold what they are given to a
+ * sheet's limits, so that a key may be past them (3); acornsled_write writes any bound.
  */
 #define ACORNSLED_MOST_QUANTITIES 32
 #define ACORNSLED_MOST_BOUND INT64_C(1000000000)
@@ -41,9 +41,9 @@
 /* The most questions that can be put to a sheet in one call. */
 #define ACORNSLED_MOST_QUESTIONS 64
 
-/* Lengths that are enough for every sheet: words of a table, and of a workspace for a key, for an assignment and for questions;
- * words of a workspace for marking two tables; bytes of a text written, words of an assignment, words of a rule or of a
- * question, words of the longest list of questions. */
+/* Lengths that are enough for every sheet: words of a table, and of a workspace for a key, for a hiding step, for an assignment
+ * and for questions; words of a workspace for marking two tables; bytes of a text written, words of an assignment, words of a
+ * rule or of a question, words of the longest list of questions. */
 #define ACORNSLED_TABLE_WORDS 2048
 #define ACORNSLED_MARKING_WORDS 4096
 #define ACORNSLED_TEXT_BYTES 67703
@@ -56,7 +56,7 @@ enum {
     ACORNSLED_DONE = 0,
     ACORNSLED_SIZE = 1,          /* a call's n outside 1 to 32, a table shorter than 2n^2 words, a text over 65,536 bytes */
     ACORNSLED_MALFORMED = 2,     /* a line of a text is malformed or missing, or bytes follow the last rule */
-    ACORNSLED_PAST_LIMIT = 3,    /* a number is outside its limit, in a text, a hidden set, a table or a question */
+    ACORNSLED_PAST_LIMIT = 3,    /* a number is outside its limit, in a text, a hidden set, a table, a question or a step */
     ACORNSLED_CANCELLING = 4,    /* a rule of a text, or a question, is +q-q or -q+q */
     ACORNSLED_NO_ASSIGNMENT = 5, /* no integers satisfy the table */
     ACORNSLED_TOO_SHORT = 6,     /* what is lent to be written to is too short */
@@ -80,7 +80,7 @@ extern "C" {
 #endif
 
 /*
- * The first six calls write to `value` what stands beside their number: with 2, 3 and 4 of a text the line, with 6 the
+ * The first seven calls write to `value` what stands beside their number: with 2, 3 and 4 of a text the line, with 6 the
  * length needed, with 0 of acornsled_write the text's length, and 0 with all others. A refusal changes nothing else, but 5
  * leaves the first 2n^2 words of the workspace free.
  */
@@ -117,6 +117,23 @@ uint32_t acornsled_key(size_t n, uint32_t hidden, int64_t *table, size_t table_l
  */
 uint32_t acornsled_tight_key(size_t n, uint32_t hidden, int64_t *table, size_t table_length, int64_t *workspace,
                              size_t workspace_length, size_t *value);
+
+/*
+ * Makes the table as it stands in the middle of a hiding step of document 01: 0, or 1, 3, 5, 6, with the workspace of
+ * acornsled_key. The quantities of the set `before` are hidden first, as acornsled_key hides them. Then the step that hides
+ * `quantity`, from 1 to n, is begun, and done on its first `blocks` blocks, from 0 to n + 1. The block of q begins at word
+ * 2(q - 1)^2 and ends before word 2q^2. The work on it puts in every sum that has its place there, of a rule with +quantity and
+ * a rule with -quantity, by minimum, and changes no word outside of it: each word of it that does not name `quantity` is then as
+ * the whole step leaves it. Words that name `quantity` stay until all blocks are done. With n blocks all sums are in, and with
+ * n + 1 these words have become ACORNSLED_NO_RULE too: the step is at its end. Where `quantity` is higher than all of `before`,
+ * that is acornsled_key's key for both together; where it is one of them, the step changes nothing.
+ *
+ * 1 comes first, then 6, 3 for a set, a bound, a `quantity` or a number of `blocks` outside its limits, and 5. With 0 the table's
+ * first 2n^2 words have become that table, and the workspace's are free. The next table is had from the sheet's again, and not
+ * from this one.
+ */
+uint32_t acornsled_step(size_t n, uint32_t before, size_t quantity, size_t blocks, int64_t *table, size_t table_length,
+                        int64_t *workspace, size_t workspace_length, size_t *value);
 
 /*
  * Finds an assignment of a sheet: 0, or 1, 3, 5, 6. The workspace needs 2n^2 words and `values` n. With 0 the first n words of

@@ -99,14 +99,7 @@ pub extern "C" fn acornsled_step(
 ) -> u32
     ensures { λ r. ⌜ StepAnswer n before quantity blocks (now (table .entry)) (now (workspace .entry)) r (now (value .exit)) (now (table .exit)) (now (workspace .exit)) ⌝ }
 {
-    let reply = steps::step::step(
-        n,
-        before,
-        quantity,
-        blocks,
-        table,
-        workspace,
-    );
+    let reply = steps::step::step(n, before, quantity, blocks, table, workspace);
     *value = reply.value();
     reply.number()
 }

@@ -2,8 +2,9 @@
 //!
 //! A *sheet* is a list of rules "one or two integer quantities, each with a sign, are together at most a bound" (UTVPI
 //! inequalities); some quantities are hidden. [`key`] gives what a sheet implies for the visible ones alone, [`tight_key`] the
-//! same with every rule that follows, each at its least bound, [`mark`] the verdict on a candidate's script, and [`ask`] says of
-//! each of some rules whether the sheet implies it. All work on texts held as bytes; [`Table`] has the calls on tables.
+//! same with every rule that follows, each at its least bound, [`step`] the way to the first, block by block, [`mark`] the verdict
+//! on a candidate's script, and [`ask`] says of each of some rules whether the sheet implies it. All work on texts held as bytes;
+//! [`Table`] has the calls on tables.
 //!
 //! ```no_run
 //! let sheet = b"quantities=3\nhidden=2\nrules=3\nrule=+1+2:5\nrule=+1-2:2\nrule=+3-2:0\n";
@@ -28,4 +29,4 @@ mod table;
 pub use marking::{mark, Paper, Refused, Verdict};
 pub use refusal::Refusal;
 pub use rule::Rule;
-pub use table::{ask, key, tight_key, Table};
+pub use table::{ask, key, step, tight_key, Table};

@@ -10,7 +10,8 @@ pub const MOST_RULES: usize = 2_048;
 pub const MOST_BYTES: usize = 65_536;
 /// The most questions that can be put to a sheet in one call.
 pub const MOST_QUESTIONS: usize = 64;
-/// Words enough for every table, and for every workspace of a key, of a tightest key, of an assignment or of questions.
+/// Words enough for every table, and for every workspace of a key, of a tightest key, of a hiding step, of an assignment or of
+/// questions.
 pub const TABLE_WORDS: usize = 2_048;
 /// Words enough for every workspace of marking two tables.
 pub const MARKING_WORDS: usize = 4_096;

@@ -42,6 +42,18 @@ extern "C" {
         value: *mut usize,
     ) -> u32;
 
+    pub fn acornsled_step(
+        n: usize,
+        before: u32,
+        quantity: usize,
+        blocks: usize,
+        table: *mut i64,
+        table_length: usize,
+        workspace: *mut i64,
+        workspace_length: usize,
+        value: *mut usize,
+    ) -> u32;
+
     pub fn acornsled_assignment(
         n: usize,
         table: *const i64,

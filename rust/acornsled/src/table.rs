@@ -1,4 +1,4 @@
-//! Tables that hold their own words, the keys of a text, and questions to it.
+//! Tables that hold their own words, the keys of a text, the steps to them, and questions to it.
 
 use crate::calls::{self, Header, Reply};
 use crate::limits::{MARKING_WORDS, MOST_QUANTITIES, TABLE_WORDS, TEXT_BYTES};
@@ -52,6 +52,19 @@ impl Table {
     pub fn tight_key(mut self) -> Result<Table, Refusal> {
         let mut workspace = vec![0; TABLE_WORDS];
         done(calls::tight_key(self.quantities, self.hidden, &mut self.words, &mut workspace))?;
+        Ok(self)
+    }
+
+    /// The table in the middle of a hiding step. The quantities of the set `before` are hidden first, as [`Table::key`] hides
+    /// them; then the step that hides `quantity` is begun, and done on its first `blocks` blocks. The block of a quantity has the
+    /// terms of it alone and of it with each lower quantity; the work on it puts in the sums that have their place there and
+    /// changes nothing else. With 0 blocks nothing of the step is done, with as many as there are quantities all sums are in, and
+    /// with one more the rules that name `quantity` are gone too. The table's own hidden set does not count, and stays. A set, a
+    /// quantity or a number of blocks that the table does not have is refused with 3, and a table that no integers satisfy with
+    /// 5.
+    pub fn step(mut self, before: u32, quantity: usize, blocks: usize) -> Result<Table, Refusal> {
+        let mut workspace = vec![0; TABLE_WORDS];
+        done(calls::step(self.quantities, before, quantity, blocks, &mut self.words, &mut workspace))?;
         Ok(self)
     }
 
@@ -116,6 +129,29 @@ pub fn key(sheet: &[u8]) -> Result<Vec<u8>, Refusal> {
 /// As the functions of [`Table`].
 pub fn tight_key(sheet: &[u8]) -> Result<Vec<u8>, Refusal> {
     Table::read(sheet)?.tight_key()?.text()
+}
+
+/// The text of a sheet's table in the middle of the step that hides `quantity`, as its key is made: those of its hidden
+/// quantities that are lower are hidden before, and the step is done on its first `blocks` blocks, as by [`Table::step`].
+///
+/// ```no_run
+/// let sheet = b"quantities=3\nhidden=2\nrules=3\nrule=+1+2:5\nrule=+1-2:2\nrule=+3-2:0\n";
+/// // one block is done, and has the sum of the first two rules, halved
+/// let begun = b"quantities=3\nhidden=2\nrules=4\nrule=+1:3\nrule=+1+2:5\nrule=+1-2:2\nrule=-2+3:0\n";
+/// assert_eq!(acornsled::step(sheet, 2, 1), Ok(begun.to_vec()));
+/// // three blocks, and then the rules that name quantity 2 are taken away
+/// assert_eq!(acornsled::step(sheet, 2, 4), acornsled::key(sheet));
+/// ```
+///
+/// # Panics
+///
+/// As the functions of [`Table`].
+pub fn step(sheet: &[u8], quantity: usize, blocks: usize) -> Result<Vec<u8>, Refusal> {
+    let table = Table::read(sheet)?;
+    // of a quantity that is none the call is refused, whatever comes before it
+    let lower = (1_u64 << (quantity.clamp(1, MOST_QUANTITIES + 1) - 1)) - 1;
+    let before = table.hidden & lower as u32;
+    table.step(before, quantity, blocks)?.text()
 }
 
 /// The answers to questions that are put to a sheet's text, as [`Table::ask`] gives them; a refusal of the text has its line.

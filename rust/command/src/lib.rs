@@ -13,6 +13,7 @@ pub mod shown;
 pub mod sitting;
 pub mod source;
 pub mod status;
+pub mod steps;
 pub mod threads;
 pub mod usage;
 pub mod visible;
@@ -43,6 +44,7 @@ fn named(name: &OsStr, rest: &[OsString]) -> Option<Status> {
         Some("mark") => Some(mark::run(rest)),
         Some("sitting") => Some(sitting::run(rest)),
         Some("ask") => Some(ask::run(rest)),
+        Some("steps") => Some(steps::run(rest)),
         Some("explain") => Some(explain::run(rest)),
         _ => None,
     }

@@ -10,6 +10,7 @@ usage: acornsled key [FILE]
        acornsled mark SHEET SCRIPT
        acornsled sitting SHEET FOLDER
        acornsled ask SHEET QUESTIONS
+       acornsled steps SHEET [QUANTITY]
        acornsled explain [FILE]
        acornsled --help | --version
 ";
@@ -28,6 +29,8 @@ pub struct Page {
 pub const KEY: Page = Page { usage: "usage: acornsled key [FILE]\n", help: include_str!("usage/key.txt") };
 pub const MARK: Page = Page { usage: "usage: acornsled mark SHEET SCRIPT\n", help: include_str!("usage/mark.txt") };
 pub const ASK: Page = Page { usage: "usage: acornsled ask SHEET QUESTIONS\n", help: include_str!("usage/ask.txt") };
+pub const STEPS: Page =
+    Page { usage: "usage: acornsled steps SHEET [QUANTITY]\n", help: include_str!("usage/steps.txt") };
 pub const EXPLAIN: Page = Page { usage: "usage: acornsled explain [FILE]\n", help: include_str!("usage/explain.txt") };
 
 /// Tells what is wrong with the arguments, and how the command is used.

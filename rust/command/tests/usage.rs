@@ -26,6 +26,9 @@ fn help_goes_to_standard_output() {
         (&["ask", "--help"], "acornsled ask - "),
         (&["ask", "a", "b", "-h"], "acornsled ask - "),
         (&["help", "ask"], "acornsled ask - "),
+        (&["steps", "--help"], "acornsled steps - "),
+        (&["steps", "a", "2", "-h"], "acornsled steps - "),
+        (&["help", "steps"], "acornsled steps - "),
         (&["explain", "--help"], "acornsled explain - "),
         (&["help", "explain"], "acornsled explain - "),
     ];
@@ -47,6 +50,7 @@ fn the_version_goes_to_standard_output() {
         &["key", "--version"],
         &["mark", "-V"],
         &["ask", "-V"],
+        &["steps", "-V"],
         &["explain", "--version"],
     ];
     for arguments in asked {
@@ -72,6 +76,7 @@ fn the_examples_of_the_help_hold() {
     let lines = after.lines().take_while(|line| !line.contains('$')).map(|line| format!("{}\n", line.trim_start()));
     let questions = room.file("questions.txt", lines.collect::<String>());
     assert_eq!(ran(acornsled(["ask"]).arg(&sheet).arg(questions)).output, shown("ask"));
+    assert_eq!(ran(acornsled(["steps"]).arg(&sheet)).output, shown("steps"));
     assert_eq!(ran(acornsled(["explain"]).arg(&sheet)).output, shown("explain"));
 
     let page = called(&["--help"]).output;
@@ -105,6 +110,17 @@ fn wrong_use_is_told_with_the_usage_and_status_2() {
         (&["ask", "a"], "2 files are due, and 1 is given", "ask SHEET QUESTIONS"),
         (&["ask", "a", "b", "c"], "2 files are due, and 3 are given", "ask SHEET QUESTIONS"),
         (&["ask", "a", "-x"], "there is no option -x; a file of that name is given after --", "ask SHEET QUESTIONS"),
+        (&["steps"], "no sheet is named", "steps SHEET [QUANTITY]"),
+        (
+            &["steps", "a", "2", "5"],
+            "a sheet and at most one quantity are due, and 3 arguments are given",
+            "steps SHEET [QUANTITY]",
+        ),
+        (
+            &["steps", "a", "-2"],
+            "there is no option -2; a file of that name is given after --",
+            "steps SHEET [QUANTITY]",
+        ),
         (&["explain", "a", "b"], "at most 1 file is due, and 2 are given", "explain [FILE]"),
         (
             &["key", "--\n\x1b[2J"],

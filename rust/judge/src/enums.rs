@@ -1,8 +1,9 @@
 //! The crate `acornsled` as hosts in Rust use it: what its functions answer by enums, held against the numbers that its
-//! calls give for the same texts and tables. The numbers are judged by `marking`, `text`, `check` and `asking`.
+//! calls give for the same texts and tables. The numbers are judged by `marking`, `text`, `check`, `stepping` and `asking`.
 
 pub mod ask;
 pub mod mark;
 pub mod pair;
 pub mod run;
+pub mod step;
 pub mod table;

@@ -5,8 +5,9 @@
 //! neither eliminates a quantity. How far they are independent of the fact that hiding rests on, `graph` says. The key's
 //! words are compared with document 01's steps, written by its own words (`naive`), and those of the tightest key with the
 //! least bounds that both ways find; so is what the benchmark measures against, the library's design in ordinary Rust
-//! (`plain`). Two sheets have one tightest key exactly where they mean the same (`alike`). The answers to questions are decided
-//! by the same two ways, on the questions as they are written (`asking`).
+//! (`plain`). Two sheets have one tightest key exactly where they mean the same (`alike`). The tables in the middle of a hiding
+//! step are decided by the same sums, one block after another, and by what is to hold between them (`stepping`). The answers to
+//! questions are decided by the same two ways as a sheet, on the questions as they are written (`asking`).
 //!
 //! What a text says is decided by spelling (`text`), and held against a parser in ordinary Rust (`plain_text`).
 //!
@@ -53,6 +54,7 @@ pub mod sheets;
 #[cfg(feature = "plain")]
 mod stand_in;
 pub mod state;
+pub mod stepping;
 pub mod table_marking;
 pub mod text;
 pub mod wrong;

@@ -1,6 +1,7 @@
-//! The nine calls of the library, and their replies. The judge knows the calls as traits, so that it can be tried on
-//! wrong answers too: one for the keys and the assignment of a table, one for the call that puts questions to it, one for the
-//! calls on texts, one for the two that mark two texts, one for the call that marks two tables.
+//! The ten calls of the library, and their replies. The judge knows the calls as traits, so that it can be tried on
+//! wrong answers too: one for the keys and the assignment of a table, one for the call that begins to hide a quantity, one for the
+//! call that puts questions to a table, one for the calls on texts, one for the two that mark two texts, one for the call that
+//! marks two tables.
 
 pub use acornsled::calls::{Header, Reply, Told};
 
@@ -77,6 +78,23 @@ pub trait Library: Sync {
 
     /// Writes n integers that satisfy the table's rules to the first n words of `values`.
     fn assignment(&self, n: usize, table: &[i64], workspace: &mut [i64], values: &mut [i64]) -> Reply;
+}
+
+/// Which table in the middle of a hiding step is asked for.
+#[derive(Clone, Copy, PartialEq, Eq, Debug)]
+pub struct Step {
+    /// the set that is hidden before
+    pub before: u32,
+    /// the quantity whose step it is, from 1
+    pub quantity: usize,
+    /// how many blocks are done, n + 1 where the step is at its end
+    pub blocks: usize,
+}
+
+/// Shared by threads, as above.
+pub trait Stepper: Sync {
+    /// Replaces the table's first 2n² words by those that it has in the middle of the step.
+    fn step(&self, n: usize, step: Step, table: &mut [i64], workspace: &mut [i64]) -> Reply;
 }
 
 /// Shared by threads, as above.

@@ -1,7 +1,7 @@
 //! The library that this program is linked with, by the numbers that C gets: the calls of the crate `acornsled`, which are
 //! judged here with the library.
 
-use crate::library::{Asker, Header, Library, Marker, Papers, Reply, TableMarker, Texts, Told};
+use crate::library::{Asker, Header, Library, Marker, Papers, Reply, Step, Stepper, TableMarker, Texts, Told};
 use acornsled::calls;
 
 pub struct Linked;
@@ -17,6 +17,13 @@ impl Library for Linked {
 
     fn assignment(&self, n: usize, table: &[i64], workspace: &mut [i64], values: &mut [i64]) -> Reply {
         calls::assignment(n, table, workspace, values)
+    }
+}
+
+impl Stepper for Linked {
+    fn step(&self, n: usize, step: Step, table: &mut [i64], workspace: &mut [i64]) -> Reply {
+        let Step { before, quantity, blocks } = step;
+        calls::step(n, before, quantity, blocks, table, workspace)
     }
 }
 

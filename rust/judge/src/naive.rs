@@ -33,6 +33,23 @@ pub fn hide(n: usize, q: usize, table: &mut [i64]) -> bool {
     possible
 }
 
+/// The table in the middle of the step that hides q: the sums whose place lies in one of the first `blocks` blocks are in, and with
+/// n + 1 the places that name q have become no rule too.
+pub fn begun(n: usize, q: usize, blocks: usize, table: &[i64]) -> Vec<i64> {
+    let mut begun = table.to_vec();
+    if blocks > n {
+        // a contradiction is looked for elsewhere
+        _ = hide(n, q, &mut begun);
+        return begun;
+    }
+    for sum in sums(q, &rules(n, table)) {
+        if let Some((place, bound)) = sum.place_and_bound().filter(|_| sum.block() <= blocks) {
+            begun[place] = begun[place].min(bound);
+        }
+    }
+    begun
+}
+
 /// A rule with +q and a rule with -q, added.
 pub struct Sum {
     /// what is left of the two terms
@@ -61,6 +78,11 @@ fn without(rule: &Rule, literal: Literal) -> Option<(Option<Literal>, i64)> {
 }
 
 impl Sum {
+    /// The block that it goes into, which is that of its higher quantity; 0 where nothing remains of its terms.
+    pub fn block(&self) -> usize {
+        self.rest.iter().flatten().map(|left| left.quantity).max().unwrap_or(0)
+    }
+
     /// Where the sum goes in and with which bound; none where it is bare.
     pub fn place_and_bound(&self) -> Option<(usize, i64)> {
         match self.rest {

@@ -1,8 +1,9 @@
-//! The four calls on one table in ordinary Rust, as the library makes them: what its times are measured against. Hiding is
+//! The five calls on one table in ordinary Rust, as the library makes them: what its times are measured against. Hiding is
 //! document 01's step. 'No assignment' is decided by a device of the program's own: each quantity is eliminated among the
 //! later ones alone, which is less work and leaves what the choice of integers needs. A tightest key is the same in whatever
 //! order it is made, so that there the hidden quantities are put first and eliminated in that way, and the decision needs no
-//! work of its own. Questions are answered from the tightest table with nothing hidden, each by one word.
+//! work of its own. A hiding step is begun as hiding is, and its walk ends after some of the blocks. Questions are answered from
+//! the tightest table with nothing hidden, each by one word.
 //!
 //! A quantity has a number from 0 here, and quantity k the literals 2k, for plus, and 2k + 1. One literal x stands at place
 //! 2 (x/2)² + x%2; two literals x < y of different quantities stand at 2 (y/2)² + 2 + 2x + y%2.
@@ -41,6 +42,23 @@ pub fn tight_key(n: usize, hidden: u32, table: &mut [i64], workspace: &mut [i64]
         return NO_ASSIGNMENT;
     }
     order.restore(workspace, table);
+    DONE
+}
+
+pub fn step(n: usize, before: u32, quantity: usize, blocks: usize, table: &mut [i64], workspace: &mut [i64]) -> Reply {
+    let (table, workspace) = match accepted(n, before, table, workspace) {
+        Ok(lent) => lent,
+        Err(refusal) => return refusal,
+    };
+    if !(1..=n).contains(&quantity) || blocks > n + 1 {
+        return PAST_LIMIT;
+    }
+    workspace.copy_from_slice(table);
+    if !step::eliminate(n, workspace) {
+        return NO_ASSIGNMENT;
+    }
+    step::hide(n, table, (0..n).filter(|k| (before >> k) & 1 == 1));
+    step::begin(n, table, quantity - 1, blocks);
     DONE
 }
 

@@ -1,4 +1,4 @@
-//! The static library's nine functions over `plain`, `plain_text`, `plain_mark`, `plain_reasons` and `plain_tables`, under
+//! The static library's ten functions over `plain`, `plain_text`, `plain_mark`, `plain_reasons` and `plain_tables`, under
 //! the same names: with the feature `plain` the declarations of the crate `acornsled` are tried where no archive is built
 //! (`tests/linked.rs`).
 
@@ -42,6 +42,26 @@ unsafe extern "C" fn acornsled_tight_key(
     let (table, workspace, value) =
         unsafe { (from_raw_parts_mut(table, table_len), from_raw_parts_mut(workspace, workspace_len), &mut *value) };
     let reply = plain::tight_key(n, hidden, table, workspace);
+    *value = reply.value;
+    reply.number
+}
+
+#[no_mangle]
+unsafe extern "C" fn acornsled_step(
+    n: usize,
+    before: u32,
+    quantity: usize,
+    blocks: usize,
+    table: *mut i64,
+    table_len: usize,
+    workspace: *mut i64,
+    workspace_len: usize,
+    value: *mut usize,
+) -> u32 {
+    // SAFETY: as above.
+    let (table, workspace, value) =
+        unsafe { (from_raw_parts_mut(table, table_len), from_raw_parts_mut(workspace, workspace_len), &mut *value) };
+    let reply = plain::step(n, before, quantity, blocks, table, workspace);
     *value = reply.value;
     reply.number
 }

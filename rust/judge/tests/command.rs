@@ -2,6 +2,7 @@
 
 use judge::command::answer::{judged, Kind, Said};
 use judge::command::ask;
+use judge::command::steps::{self, Due};
 use std::fs;
 use std::path::Path;
 
@@ -59,5 +60,54 @@ fn questions_are_answered_as_it_is_stored() {
         let [sheet, questions] = ["sheet", "questions"].map(|name| fs::read(case.join(name)).unwrap_or_default());
         let stored = fs::read_to_string(case.join("stdout")).expect("what is printed is stored");
         assert_eq!(ask::printed(&sheet, &questions), Ok(stored), "{}", case.display());
+    }
+}
+
+/// What is stored for steps was written by hand as well.
+#[test]
+fn steps_are_printed_as_it_is_stored() {
+    let folder = Path::new(env!("CARGO_MANIFEST_DIR")).join("../../tests/steps");
+    let cases: Vec<_> = fs::read_dir(folder).expect("the cases are there").map(|case| case.unwrap().path()).collect();
+    assert!(cases.len() > 20, "{} cases", cases.len());
+    for case in cases {
+        let sheet = fs::read(case.join("sheet")).unwrap_or_default();
+        let quantity = fs::read_to_string(case.join("quantity")).ok();
+        let quantity = quantity.as_deref().map(str::trim_end);
+        let stored = fs::read_to_string(case.join("stdout")).expect("what is printed is stored");
+        let due = match (stored.is_empty(), quantity) {
+            (false, _) => Due::Lines(stored),
+            (true, None) => Due::Nothing,
+            (true, Some(_)) => Due::Misused,
+        };
+        assert_eq!(steps::due(&sheet, quantity), Ok(due), "{}", case.display());
+    }
+}
+
+#[test]
+fn steps_that_are_not_due_are_refused() {
+    let step = Due::Lines("hide=1\nbefore=block 1\nafter=block 1\nafter=clearing\n".into());
+    let usage = "acornsled: 2 is no quantity that is hidden\nusage: acornsled steps SHEET [QUANTITY]\n";
+    let none = "acornsled: sheet: no quantity is hidden\n";
+    let right = [
+        (&step, said(Some(0), "hide=1\nbefore=block 1\nafter=block 1\nafter=clearing\n", ""), Kind::Answer),
+        (&Due::Nothing, said(Some(0), "", none), Kind::Answer),
+        (&Due::Misused, said(Some(2), "", usage), Kind::Misuse),
+    ];
+    for (due, said, kind) in right {
+        assert_eq!(steps::judged(due, &said, false), Ok(kind));
+    }
+    let wrong = [
+        (&step, said(Some(0), "hide=1\nbefore=block 1\nafter=clearing\n", "")),
+        (&step, said(Some(0), "", none)),
+        (&step, said(Some(2), "", usage)),
+        (&Due::Nothing, said(Some(0), "", "")),
+        (&Due::Nothing, said(Some(1), "", none)),
+        (&Due::Nothing, said(Some(0), "\n", none)),
+        (&Due::Misused, said(Some(1), "", usage)),
+        (&Due::Misused, said(Some(2), "", none)),
+        (&Due::Misused, said(Some(2), "refused=3\nline=0\n", usage)),
+    ];
+    for (due, said) in wrong {
+        assert!(steps::judged(due, &said, false).is_err(), "{due:?}");
     }
 }

@@ -7,6 +7,7 @@ use judge::enums;
 use judge::linked::Linked;
 use judge::marking;
 use judge::run;
+use judge::stepping;
 use judge::table_marking;
 use judge::text;
 
@@ -22,6 +23,12 @@ fn the_linked_library_is_accepted_on_sheets() {
 fn the_linked_library_is_accepted_on_pairs_of_sheets() {
     // so many that every kind of pair has to be met
     alike::run::all(&Linked, 1, 2000).unwrap_or_else(|failure| panic!("{failure}"));
+}
+
+#[test]
+fn the_linked_library_is_accepted_on_hiding_steps() {
+    // so many that every kind of call has to be met
+    stepping::run::all(&Linked, 1, 5000).unwrap_or_else(|failure| panic!("{failure}"));
 }
 
 #[test]
@@ -54,6 +61,8 @@ fn the_crates_enums_say_what_the_numbers_say() {
     assert!(counts.table_pairs > 0);
     let numbers: Vec<u32> = counts.numbers.keys().copied().collect();
     assert_eq!(numbers, [1, 2, 3, 4, 7, 100, 101, 102]);
+    let steps: Vec<u32> = counts.steps.keys().copied().collect();
+    assert_eq!(steps, [0, 1, 3, 5]);
     let lists: Vec<u32> = counts.lists.keys().copied().collect();
     assert_eq!(lists, [0, 1, 3, 4, 5, 8]);
 }

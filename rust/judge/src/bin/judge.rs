@@ -1,5 +1,5 @@
-//! judge [SEED [COUNT]]: judges the linked library on COUNT random sheets, then on a quarter as many pairs of sheets and lists of
-//! questions, on COUNT random texts, on as many random pairs of texts, on which the crate's enums are judged too, and on a
+//! judge [SEED [COUNT]]: judges the linked library on COUNT random sheets, then on a quarter as many pairs of sheets, hiding steps
+//! and lists of questions, on COUNT random texts, on as many random pairs of texts, on which the crate's enums are judged too, and on a
 //! quarter as many random pairs of tables; what the built programs print on a tenth as many sheets and pairs, and what the
 //! command `acornsled` says on these. Prints a line for each; at the first failure it prints what failed and the input, and
 //! exits with 1.
@@ -14,6 +14,7 @@ use judge::marking;
 use judge::printed;
 use judge::printed::programs::Built;
 use judge::run;
+use judge::stepping;
 use judge::table_marking;
 use judge::text;
 use std::env;
@@ -25,6 +26,9 @@ const COUNT: u64 = 20_000;
 
 /// Keys of pairs of sheets are made as those of one sheet, so that fewer of them are enough.
 const ALIKE_SHARE: u64 = 4;
+
+/// A step is tried with several numbers of blocks.
+const STEPPING_SHARE: u64 = 4;
 
 /// A list has up to 64 questions, and is asked in several ways.
 const ASKING_SHARE: u64 = 4;
@@ -47,6 +51,7 @@ fn main() {
     let acornsled = Acornsled::found().unwrap_or_else(|failure| failed(&failure));
     report(seed, run::all(&Linked, seed, count));
     report(seed, alike::run::all(&Linked, seed, count / ALIKE_SHARE));
+    report(seed, stepping::run::all(&Linked, seed, count / STEPPING_SHARE));
     report(seed, asking::run::all(&Linked, seed, count / ASKING_SHARE));
     report(seed, text::run::all(&Linked, seed, count));
     report(seed, marking::run::all(&Linked, seed, count));

@@ -16,6 +16,8 @@ pub enum Kind {
     Refusal,
     /// a refusal for a file that cannot be read, which counts as an empty text
     Unread,
+    /// nothing, for the use is wrong
+    Misuse,
 }
 
 /// Is standard output what the program prints, and are the exit status and standard error those that belong to it? The number

@@ -62,6 +62,20 @@ impl Acornsled {
         said(self.with(&["ask", "sheet", "questions"]).current_dir(folder).stdin(Stdio::null()).output())
     }
 
+    /// The steps of a text in a file or on standard input, of one quantity or of all that are hidden.
+    pub fn steps(&self, sheet: &[u8], quantity: Option<&str>, fed_with_sheet: bool) -> Result<Said, String> {
+        if fed_with_sheet {
+            return said(fed(self.with(&["steps", "-"]).args(quantity), sheet));
+        }
+        let folder = Folder::holding(&[("sheet", sheet)]).map_err(|e| format!("no folder is made: {e}"))?;
+        self.steps_in(folder.path(), quantity)
+    }
+
+    /// The same of the file `sheet` of a folder, be it there or not.
+    pub fn steps_in(&self, folder: &Path, quantity: Option<&str>) -> Result<Said, String> {
+        said(self.with(&["steps", "sheet"]).args(quantity).current_dir(folder).stdin(Stdio::null()).output())
+    }
+
     fn with(&self, given: &[&str]) -> Command {
         let mut command = Command::new(&self.path);
         command.args(given);

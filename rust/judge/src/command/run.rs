@@ -1,10 +1,10 @@
 //! A whole run over the command: the stored cases, then the inputs that the programs are judged on, for the same seed, and lists of
-//! questions, of which no program prints the answers.
+//! questions and hiding steps, which no program prints.
 
 use super::answer::{judged, Kind};
 use super::ask;
 use super::program::Acornsled;
-use super::stored;
+use super::{steps, stored};
 use crate::halves::{self, Tally};
 use crate::printed::inputs::{drawn, Input};
 use crate::printed::programs::Printer;
@@ -20,15 +20,16 @@ pub struct Counts {
     /// answers and refusals of *key*, and of *mark*
     key: [usize; 2],
     mark: [usize; 2],
-    /// the same of `ask`
+    /// the same of `ask`, and of `steps`, wrong use among what is no answer
     ask: [usize; 2],
+    steps: [usize; 2],
 }
 
 /// What was judged, or the first failure with its input.
 pub fn all(printer: &dyn Printer, command: &Acornsled, seed: u64, count: u64) -> Result<Counts, String> {
     let stored = stored::all(printer, command)?.len();
     let counts = Counts { stored, ..random(printer, command, seed, count)? };
-    if count >= ENOUGH && [counts.key, counts.mark, counts.ask].concat().contains(&0) {
+    if count >= ENOUGH && [counts.key, counts.mark, counts.ask, counts.steps].concat().contains(&0) {
         return Err(format!("not all is met: {counts}"));
     }
     Ok(counts)
@@ -37,7 +38,8 @@ pub fn all(printer: &dyn Printer, command: &Acornsled, seed: u64, count: u64) ->
 fn random(printer: &dyn Printer, command: &Acornsled, seed: u64, count: u64) -> Result<Counts, String> {
     halves::both(count, |number, counts| {
         numbered(printer, command, seed, number, counts)?;
-        asked(command, seed, number, counts)
+        asked(command, seed, number, counts)?;
+        stepped(command, seed, number, counts)
     })
 }
 
@@ -51,6 +53,19 @@ fn asked(command: &Acornsled, seed: u64, number: u64, counts: &mut Counts) -> Re
             format!("seed {seed}, command's questions {number}: {e}\n{texts}")
         })?;
         counts.ask[at(kind)] += 1;
+    }
+    Ok(())
+}
+
+/// The steps with this number.
+fn stepped(command: &Acornsled, seed: u64, number: u64, counts: &mut Counts) -> Result<(), String> {
+    for (sheet, quantity) in steps::drawn(seed, number) {
+        let due = steps::due(&sheet, quantity.as_deref())?;
+        let said = command.steps(&sheet, quantity.as_deref(), number % 4 < 2)?;
+        let kind = steps::judged(&due, &said, false).map_err(|e| {
+            format!("seed {seed}, command's steps {number}: {e}\nquantity {quantity:?}, sheet, {}", shown(&sheet))
+        })?;
+        counts.steps[at(kind)] += 1;
     }
     Ok(())
 }
@@ -98,14 +113,17 @@ impl Tally for Counts {
             self.key[kind] += other.key[kind];
             self.mark[kind] += other.mark[kind];
             self.ask[kind] += other.ask[kind];
+            self.steps[kind] += other.steps[kind];
         }
     }
 }
 
 impl fmt::Display for Counts {
     fn fmt(&self, f: &mut fmt::Formatter) -> fmt::Result {
-        let Counts { stored, key: [keys, no_keys], mark: [verdicts, refusals], ask: [answered, unanswered] } = self;
+        let Counts { stored, key: [keys, no_keys], mark: [verdicts, refusals], .. } = self;
+        let Counts { ask: [answered, unanswered], steps: [steps, no_steps], .. } = self;
         write!(f, "command-stored={stored} command-key={keys} refused={no_keys}")?;
-        write!(f, " command-mark={verdicts} refused={refusals} command-ask={answered} refused={unanswered}")
+        write!(f, " command-mark={verdicts} refused={refusals} command-ask={answered} refused={unanswered}")?;
+        write!(f, " command-steps={steps} refused={no_steps}")
     }
 }

@@ -1,9 +1,11 @@
 //! The stored cases: in each folder of tests/mark a sheet, a script, either of which may be missing, and what *mark* prints; in
 //! each of tests/key a sheet and what *key* prints; in each of tests/ask a sheet, questions, either of which may be missing, and
-//! what `acornsled ask` prints; and the sample sheets, whose keys *key* prints.
+//! what `acornsled ask` prints; in each of tests/steps a sheet and a quantity, which may be missing too, and what `acornsled steps`
+//! prints; and the sample sheets, whose keys *key* prints.
 
 use super::answer::{judged, Kind};
 use super::program::Acornsled;
+use super::steps::{self, Due};
 use crate::printed::programs::Printer;
 use std::fs;
 use std::path::{Path, PathBuf};
@@ -19,6 +21,9 @@ pub fn all(printer: &dyn Printer, command: &Acornsled) -> Result<Vec<Kind>, Stri
         kinds.push(keyed(command, &folder).map_err(|e| format!("{}: {e}", folder.display()))?);
     }
     kinds.extend(asked(command)?);
+    for folder in listed(&root.join("tests/steps"))? {
+        kinds.push(stepped(command, &folder).map_err(|e| format!("{}: {e}", folder.display()))?);
+    }
     for path in listed(&root.join("sheets"))?.iter().filter(|path| path.is_file()) {
         let text = fs::read(path).map_err(|e| format!("{}: {e}", path.display()))?;
         let said = command.key_of_file(&text)?;
@@ -37,6 +42,19 @@ fn asked(command: &Acornsled) -> Result<Vec<Kind>, String> {
         judged(&printed, &command.ask_in(folder)?, unread)
     };
     folders.iter().map(|folder| judged_in(folder).map_err(|e| format!("{}: {e}", folder.display()))).collect()
+}
+
+/// Judges the command on a stored step. Nothing is stored where nothing is hidden, or where the quantity is not.
+fn stepped(command: &Acornsled, folder: &Path) -> Result<Kind, String> {
+    let quantity = fs::read_to_string(folder.join("quantity")).ok();
+    let quantity = quantity.as_deref().map(str::trim_end);
+    let due = match (fs::read_to_string(folder.join("stdout")).map_err(|e| format!("stdout: {e}"))?, quantity) {
+        (printed, None) if printed.is_empty() => Due::Nothing,
+        (printed, Some(_)) if printed.is_empty() => Due::Misused,
+        (printed, _) => Due::Lines(printed),
+    };
+    let unread = fs::read(folder.join("sheet")).is_err();
+    steps::judged(&due, &command.steps_in(folder, quantity)?, unread)
 }
 
 fn marked(command: &Acornsled, folder: &Path) -> Result<Kind, String> {

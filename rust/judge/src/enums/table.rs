@@ -62,7 +62,7 @@ fn keyed(key: Key, table: &Table) -> (Reply, Vec<u8>) {
     }
 }
 
-fn written(table: &Table) -> (Reply, Vec<u8>) {
+pub(super) fn written(table: &Table) -> (Reply, Vec<u8>) {
     let mut out = vec![0; TEXT_BYTES];
     let reply = Linked.write(table.quantities, table.hidden, &table.words, &mut out);
     out.truncate(reply.value);

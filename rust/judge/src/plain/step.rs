@@ -100,10 +100,25 @@ pub fn hide(n: usize, table: &mut [i64], hidden: impl Iterator<Item = usize>) {
     for k in hidden {
         rows.gather(n, table, k, 0);
         rows.add(n, table, 0);
-        table[2 * k * k..2 * (k + 1) * (k + 1)].fill(NO_RULE);
-        for r in k + 1..n {
-            table[2 * r * r + 2 + 4 * k..][..4].fill(NO_RULE);
-        }
+        empty(n, table, k);
+    }
+}
+
+/// Hides quantity k as far as its first `blocks` blocks; n + 1 is to the end.
+pub fn begin(n: usize, table: &mut [i64], k: usize, blocks: usize) {
+    let mut rows = Rows::EMPTY;
+    rows.gather(n, table, k, 0);
+    rows.add(blocks.min(n), table, 0);
+    if blocks > n {
+        empty(n, table, k);
+    }
+}
+
+/// Takes every rule on quantity k away.
+fn empty(n: usize, table: &mut [i64], k: usize) {
+    table[2 * k * k..2 * (k + 1) * (k + 1)].fill(NO_RULE);
+    for r in k + 1..n {
+        table[2 * r * r + 2 + 4 * k..][..4].fill(NO_RULE);
     }
 }
 

@@ -123,9 +123,8 @@ pub record BlockPaired (b : ℕ) (live : List ℕ) (plus minus : List ℤ) (p m 
 pub record TwosPaired (b : ℕ) (live : List ℕ) (plus minus before after : List ℤ) : Type 0 where
   pub table : (p m : ℤ) → after ≡ change (blockStart (suc b)) (startingAt (blockStart b + 2) (pairing (among live) (wordAt plus) (wordAt minus) p m)) before
 
--- the same of the first `count` listed quantities of n
-pub record BlocksReady (n count : ℕ) (live : List ℕ) (table plus minus : List ℤ) (p m : ℤ) : Type 0 where
-  pub most : count ≤ length live
+-- the same of all blocks of n quantities
+pub record BlocksReady (n : ℕ) (live : List ℕ) (table plus minus : List ℤ) (p m : ℤ) : Type 0 where
   pub listed : Listed n live
   pub room : blockStart n ≤ length table
   pub plus-row : Row n live plus
@@ -133,12 +132,12 @@ pub record BlocksReady (n count : ℕ) (live : List ℕ) (table plus minus : Lis
   pub plus-alone : Addable p
   pub minus-alone : Addable m
 
+pub record BlocksPaired (n : ℕ) (live : List ℕ) (plus minus : List ℤ) (p m : ℤ) (before after : List ℤ) : Type 0 where
+  pub table : after ≡ change (blockStart n) (pairing (among live) (wordAt plus) (wordAt minus) p m) before
+
 -- the first quantity whose block is not begun when those of the first `count` listed ones are done, by its number less one; n where all are
 abbrev pub nextBlock : ℕ → List ℕ → ℕ → ℕ
 nextBlock n live count = getD live count n
-
-pub record BlocksPaired (n count : ℕ) (live : List ℕ) (plus minus : List ℤ) (p m : ℤ) (before after : List ℤ) : Type 0 where
-  pub table : after ≡ change (blockStart (nextBlock n live count)) (pairing (among live) (wordAt plus) (wordAt minus) p m) before
 
 -- the sums put in at the place of two literals x and y, given the bounds of each with + and - of the paired quantity
 abbrev pub twoPaired : List ℤ → ℕ → ℤ → ℤ → ℤ → ℤ → List ℤ

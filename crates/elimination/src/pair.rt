@@ -228,22 +228,21 @@ pub fn pair_block(
     pair_places(table, i, live, plus, minus, p, m);
 }
 
-// Puts in, at the places of live quantities of `n`, the sums of the rows `plus` and `minus` and of the bounds `p` and `m`: one block after another, those of the first `count` live quantities.
+// Puts in, at the places of live quantities of `n`, every sum of the rows `plus` and `minus` and of the bounds `p` and `m`, one block after another.
 pub fn pair_blocks(
     n: usize,
     table: &mut [i64],
-    count: usize,
     live: &[usize],
     plus: &[i64],
     minus: &[i64],
     p: i64,
     m: i64,
 )
-    requires { ⌜ BlocksReady n count (now live) (now table) (now plus) (now minus) p m ⌝ }
-    ensures { λ _. ⌜ BlocksPaired n count (now (live .entry)) (now (plus .entry)) (now (minus .entry)) p m (now (table .entry)) (now (table .exit)) ⌝ }
+    requires { ⌜ BlocksReady n (now live) (now table) (now plus) (now minus) p m ⌝ }
+    ensures { λ _. ⌜ BlocksPaired n (now (live .entry)) (now (plus .entry)) (now (minus .entry)) p m (now (table .entry)) (now (table .exit)) ⌝ }
 {
     let mut i = 0;
-    while i < count {
+    while i < live.len() {
         pair_block(table, i, live, plus, minus, p, m);
         i = i + 1;
     }
@@ -267,7 +266,7 @@ pub fn pair_up_to(
     let start = 2 * (j * j);
     let p = table[start];
     let m = table[start + 1];
-    pair_blocks(n, table, count, live, plus, minus, p, m);
+    pair_blocks(n, table, &live[..count], plus, minus, p, m);
     if word::is_bare_below(p, m) {
         return true;
     }

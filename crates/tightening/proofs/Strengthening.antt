@@ -9,7 +9,7 @@ use lib.ListN.{length}
 use lib.Signed.{ltZ}
 use Rattle.integers.specs.Bound.{half, smaller}
 use Rattle.integers.proofs.Parts.{linear, parts-add, parts-half}
-use Rattle.words.specs.Change.{wordAt, change}
+use Rattle.words.specs.Change.{wordAt}
 use Rattle.words.proofs.Change.{change-same}
 use Rattle.places.specs.Numbering.{blockStart, placeOfOne, placeOfPair, isOne, higherAt, lowerAt}
 use Rattle.places.proofs.Numbering.{blockStart-suc, blockStart-mono, at-one, at-lower, at-pair, at-below}
@@ -19,7 +19,6 @@ use Rattle.tables.proofs.Sizes.{small-square}
 use Rattle.elimination.specs.Hiding.{withSum, withHalf, loneWord, onOne, onTwo, pairing}
 use Rattle.elimination.specs.Magnitude.{addLimit}
 use Rattle.elimination.specs.Inner.{among, Row, BlocksPaired}
-use Rattle.elimination.proofs.Blocks.{next-all}
 use Rattle.elimination.proofs.TermWords.{lone-within}
 use Rattle.elimination.proofs.SumWords.{withSum-left, withSum-right}
 use Rattle.elimination.proofs.PairedWords.{live-one, live-pair, pairing-one, pairing-two, pairing-dead}
@@ -109,11 +108,10 @@ two-summed row x y w = sum-again (row x) (row y) w
 
 -- so it strengthens the table: literals that are not live have no bound alone
 pub strengthening-paired : (n : ℕ) (live : List ℕ) (t row u : List ℤ) → blockStart n ≤ length t → LiveAlone n live t → LoneGathered n live t row
-    → BlocksPaired n (length live) live row row noRule noRule t u → u ≡ strengthened n t
+    → BlocksPaired n live row row noRule noRule t u → u ≡ strengthened n t
 unfolding strengthened strengthening
 strengthening-paired n live t row u l a g p =
-    p .table ∙ ap (λ (b : ℕ). change (blockStart b) (pairing (among live) f f noRule noRule) t) (next-all n (length live) live (omega arith))
-    ∙ change-same (blockStart n) (pairing (among live) f f noRule noRule) (strengthening t) t (λ k h. go k h (isOne k) refl)
+    p .table ∙ change-same (blockStart n) (pairing (among live) f f noRule noRule) (strengthening t) t (λ k h. go k h (isOne k) refl)
   where
     f : ℕ → ℤ
     f = wordAt row

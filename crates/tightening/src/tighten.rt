@@ -55,16 +55,7 @@ fn strengthen(n: usize, table: &mut [i64], live: &[usize], row: &mut [i64])
     ensures { λ _. ⌜ now (table .exit) ≡ strengthened n (now (table .entry)) ⌝ }
 {
     gather_lone(n, table, live, row);
-    pair::pair_blocks(
-        n,
-        table,
-        live.len(),
-        live,
-        row,
-        row,
-        Sheet::NO_RULE,
-        Sheet::NO_RULE,
-    );
+    pair::pair_blocks(n, table, live, row, row, Sheet::NO_RULE, Sheet::NO_RULE);
 }
 
 // Tightens the table with two rows lent: their words are free.

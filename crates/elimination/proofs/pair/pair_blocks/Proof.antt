@@ -4,7 +4,7 @@ use mathlib.Core.Path.{_≡_, refl, _∙_}
 use Prim.Native.Nat.{suc, _-_, _≤_, _<_}
 use native.Mathlib.Numerals.{add-one}
 use native.Mathlib.Omega.{arith}
-use lib.ListN.{length, getD}
+use lib.ListN.{length, getD, List·getD-eq-default}
 use mir.Syntax.{w64}
 use mir.Val.{toZ, ofZ}
 use denote.Ref.{now}
@@ -14,7 +14,7 @@ use Rattle.words.proofs.Change.{change-on}
 use Rattle.places.specs.Numbering.{blockStart}
 use Rattle.places.proofs.Numbering.{blockStart-mono}
 use Rattle.elimination.specs.Hiding.{pairing}
-use Rattle.elimination.specs.Inner.{among, nextBlock}
+use Rattle.elimination.specs.Inner.{among}
 use Rattle.elimination.proofs.Addable.{adds-held}
 use Rattle.elimination.proofs.Rows.{row-part}
 use Rattle.elimination.proofs.Blocks.{inside-same, blocks-first, blocks-next}
@@ -22,12 +22,12 @@ use Rattle.elimination.proofs.pair.pair_blocks.Statement.{statement}
 use Rattle.elimination.proofs.pair.pair_blocks.Tie as tie
 
 abbrev Inv-loop : tie.InvT-loop
-Inv-loop n table₀ count live plus minus p m i₀ table i =
-    (i ≤ count) × (length table ≡ length table₀)
-    × (table ≡ change (blockStart (nextBlock n live i)) (pairing (among live) (wordAt plus) (wordAt minus) (toZ w64 p) (toZ w64 m)) table₀)
+Inv-loop n table₀ live plus minus p m i₀ table i =
+    (i ≤ length live) × (length table ≡ length table₀)
+    × (table ≡ change (blockStart (getD live i n)) (pairing (among live) (wordAt plus) (wordAt minus) (toZ w64 p) (toZ w64 m)) table₀)
 
 abbrev μ-loop : tie.MeasureT-loop
-μ-loop n table₀ count live plus minus p m i₀ table i = count - i
+μ-loop n table₀ live plus minus p m i₀ table i = length live - i
 
 loop-holds : tie.Need-loop-holds Inv-loop μ-loop
 loop-holds c = let s = c .before in (omega arith, refl, blocks-first (now (s .args .live)) (s .pre .listed .rising) _ _ _ _ _ _)
@@ -89,7 +89,7 @@ returns : tie.Need-returns Inv-loop μ-loop
 returns c =
     let s = c .before .before .before in
     let l = c .before .loop in
-    let e : l .i ≡ s .args .count = omega arith in
+    let e : getD (now (s .args .live)) (l .i) (s .args .n) ≡ s .args .n = List·getD-eq-default (now (s .args .live)) (s .args .n) {n = l .i} (omega arith) in
     record { table = l .inv .2 ∙ rw (e, word-value (s .fits .p), word-value (s .fits .m)) }
 
 pub pair-blocks-spec : {M : Type 1} → statement M

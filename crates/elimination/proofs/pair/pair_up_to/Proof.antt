@@ -16,7 +16,8 @@ use Rattle.elimination.specs.Hiding.{loneWord, bareBelow, paired}
 use Rattle.elimination.specs.Inner.{Addable, among, nextBlock, Row}
 use Rattle.elimination.proofs.Rows.{table-adds, gathered-row}
 use Rattle.elimination.proofs.BareSums.{contradicts-rows}
-use Rattle.elimination.proofs.Blocks.{one-plus, one-minus, paired-rows, next-most}
+use Rattle.elimination.proofs.Blocks.{one-plus, one-minus}
+use Rattle.elimination.proofs.Begun.{begun-size, begun-listed, begun-row, begun-paired}
 use Rattle.elimination.proofs.pair.pair_up_to.Statement.{statement}
 use Rattle.elimination.proofs.pair.pair_up_to.Tie as tie
 
@@ -84,39 +85,44 @@ adds c =
       rw (held-value {z = wordAt t (k + 1)} (c .m .given)) (table-adds (s .args .n) (s .args .j) t (k + 1) (s .pre .0 .ready) (omega arith)),
     )
 
+slice-aggregate-pair-blocks : tie.Need-slice-aggregate-pair-blocks
+slice-aggregate-pair-blocks c = let s = c .before .before .before .before .before .before .before .before .before .before .before in
+    begun-size (s .args .n) (s .args .count) (now (s .args .live)) (s .pre .0 .listed) (s .pre .1)
+
 pair-blocks-requires : tie.Need-pair-blocks-requires
 pair-blocks-requires c κs =
-    let m = c .before .before .before in
+    let m = c .before .before .before .before in
     let g = m .before .before .before .before in
     let s = g .before .before .before .before .before in
+    let n = s .args .n in
+    let count = s .args .count in
+    let live = now (s .args .live) in
     record {
-      most = s .pre .1;
-      listed = s .pre .0 .listed;
+      listed = begun-listed n count live (s .pre .0 .listed) (s .pre .1);
       room = s .pre .0 .ready .room;
-      plus-row = rows g .0;
-      minus-row = rows g .1;
+      plus-row = begun-row n count live (s .pre .0 .listed) (s .pre .1) _ (rows g .0);
+      minus-row = begun-row n count live (s .pre .0 .listed) (s .pre .1) _ (rows g .1);
       plus-alone = adds m .0;
       minus-alone = adds m .1;
     }
 
 is-bare-below-requires : tie.Need-is-bare-below-requires
-is-bare-below-requires c κs = adds (c .before .before .before .before .before)
+is-bare-below-requires c κs = adds (c .before .before .before .before .before .before)
 
 -- the table after
-table-after : (c : tie.After-pair-blocks) → let s = c .before .before .before .before .before .before .before .before .before .before .before .before .before in
+table-after : (c : tie.After-pair-blocks) → let s = c .before .before .before .before .before .before .before .before .before .before .before .before .before .before in
     c .pair-blocks .last .1 .0 ≡ paired (among (now (s .args .live))) (nextBlock (s .args .n) (now (s .args .live)) (s .args .count)) (s .args .j) (now (s .args .table))
 table-after c =
-    let m = c .before .before .before .before in
+    let m = c .before .before .before .before .before in
     let g = m .before .before .before .before in
     let s = g .before .before .before .before .before in
     c .pair-blocks .ensures .table
-    ∙ paired-rows (s .args .n) (s .args .j) (nextBlock (s .args .n) (now (s .args .live)) (s .args .count)) (now (s .args .live)) (now (s .args .table)) _ _ _ _
-    (next-most (s .args .n) (s .args .count) (now (s .args .live)) (s .pre .0 .listed)) (g .gather .ensures) (lone-plus (m .before)) (lone-minus m)
+    ∙ begun-paired (s .args .n) (s .args .count) (now (s .args .live)) (s .pre .0 .listed) (s .pre .1) (s .args .j) (now (s .args .table)) _ _ _ _ (g .gather .ensures) (lone-plus (m .before)) (lone-minus m)
 
 -- the answer of the quantity's own two literals
-own : (c : tie.After-is-bare-below) → let s = c .before .before .before .before .before .before .before .before .before .before .before .before .before .before .before in let t = now (s .args .table) in
+own : (c : tie.After-is-bare-below) → let s = c .before .before .before .before .before .before .before .before .before .before .before .before .before .before .before .before in let t = now (s .args .table) in
     c .is-bare-below .result ≡ bareBelow (loneWord t (2 * s .args .j)) (loneWord t (2 * s .args .j + 1))
-own c = let m = c .before .before .before .before .before .before in rw (lone-plus (m .before), lone-minus m) at (c .is-bare-below .ensures)
+own c = let m = c .before .before .before .before .before .before .before in rw (lone-plus (m .before), lone-minus m) at (c .is-bare-below .ensures)
 
 same-length : tie.Need-same-length
 same-length c = search needs
@@ -130,7 +136,7 @@ same-length-3 c = search needs
 returns : tie.Need-returns
 returns c =
     let b = c .before in
-    let g = b .before .before .before .before .before .before .before .before .before .before in
+    let g = b .before .before .before .before .before .before .before .before .before .before .before in
     let s = g .before .before .before .before .before in
     record {
       reply = contradicts-rows (s .args .n) (s .args .j) (now (s .args .live)) (now (s .args .table)) _ _ true (g .gather .ensures) (sym (c .if1 .taken) ∙ own b);
@@ -139,7 +145,7 @@ returns c =
 
 is-any-bare-below-requires : tie.Need-is-any-bare-below-requires
 is-any-bare-below-requires c κs =
-    let g = c .before .before .before .before .before .before .before .before .before .before .before .before .before in
+    let g = c .before .before .before .before .before .before .before .before .before .before .before .before .before .before in
     let s = g .before .before .before .before .before in
     (s .pre .0 .listed, rows g .0, rows g .1)
 
@@ -156,7 +162,7 @@ returns-2 : tie.Need-returns-2
 returns-2 c =
     let e = c .before .before .before in
     let b = e .before in
-    let g = b .before .before .before .before .before .before .before .before .before .before in
+    let g = b .before .before .before .before .before .before .before .before .before .before .before in
     let s = g .before .before .before .before .before in
     record {
       reply = c .is-any-bare-below .ensures
@@ -176,6 +182,7 @@ pair-up-to-spec =
     add-m
     mul-m
     slice-copy-out-m
+    slice-aggregate-pair-blocks
     pair-blocks-requires
     is-bare-below-requires
     same-length

@@ -24,7 +24,6 @@ pair-blocks-requires c κs =
     let g = c .before .before .before in
     let s = g .before .before .before .before in
     record {
-      most = omega arith;
       listed = s .pre .1 .listed;
       room = s .pre .0 .room;
       plus-row = row g;

@@ -23,11 +23,11 @@ use Rattle.elimination.specs.Hiding.{every, pairWord, loneWord, pairing,
 use Rattle.elimination.specs.ByRules.{IsSum}
 use Rattle.elimination.specs.Blocks.{InBlock, BlockAlone, BlockDone, HiddenByBlocks}
 use Rattle.elimination.specs.Inner.{among, Ready, StepBegun, BlockPaired}
-use Rattle.elimination.specs.Promises.{BlockWorked, PairedUpTo, Paired}
+use Rattle.elimination.specs.Promises.{BlockWorked}
 use Rattle.elimination.proofs.PairedWords.{paired-at}
 use Rattle.elimination.proofs.Step.{paired-length}
 use Rattle.elimination.proofs.Fewer.{fewer-paired}
-use Rattle.elimination.proofs.Blocks.{paired-rows, next-all}
+use Rattle.elimination.proofs.Blocks.{paired-rows}
 use Rattle.elimination.proofs.Document.{hidden-word, named-word, sum-goes-in, sum-place}
 
 -- a place outside a block is before it or after it
@@ -83,7 +83,7 @@ module _ (b : ℕ) (live : List ℕ) (plus minus : List ℤ) (p m : ℤ) (before
     -- the whole step's sums are those of the rows
     rows : change (blockStart n) (pairing (among live) (wordAt plus) (wordAt minus) p m) start ≡ paired every n j start
     rows =
-        paired-rows n j n live start plus minus p m (omega arith) (s .rows) (s .plus-alone) (s .minus-alone)
+        paired-rows n j live start plus minus p m (s .rows) (s .plus-alone) (s .minus-alone)
         ∙ sym (fewer-paired every (among live) n j start (s .ready .room) (s .ready .one) (λ a c g. refl) (λ a c g o q. s .alone a c g q))
 
     -- so it is changed as by the whole step
@@ -164,10 +164,3 @@ module _ (n j : ℕ) (t : List ℤ) (l : blockStart n ≤ length t) (h : j < n) 
   pub blocks-between : (v : List ℤ) (e : v ≡ eliminated n j t) (b : ℕ) → by-blocks v e .tables b ≡ paired every b j t
   unfolding by-blocks
   blocks-between v e b = refl
-
--- where the list has ended, all sums are in
-pub paired-all : (live : List ℕ) (n j count : ℕ) (t u : List ℤ) (r : Bool) → length live ≤ count → PairedUpTo live n j count t r u → Paired (among live) n j t r u
-paired-all live n j count t u r h p = record {
-  reply = p .reply;
-  table = p .table ∙ ap (λ (b : ℕ). paired (among live) b j t) (next-all n count live h);
-}

@@ -15,7 +15,7 @@ use Rattle.places.specs.Numbering.{blockStart, placeOfOne, placeOfPair, blockOf
 use Rattle.places.proofs.Numbering.{blockStart-suc, blockStart-mono, block-order, block-ends, block-below, block-unique, offset-place, higher-half, at-lower, at-below}
 use Rattle.tables.specs.Tables.{hasRule}
 use Rattle.elimination.specs.Hiding.{pairWord, loneWord, onOne, onTwo, liveAt, pairing, paired}
-use Rattle.elimination.specs.Inner.{among, Rising, Listed, Gathered, nextBlock, fourPaired}
+use Rattle.elimination.specs.Inner.{among, Rising, Gathered, fourPaired}
 use Rattle.elimination.proofs.Lists.{StandsAt, listed-place, rising-above}
 use Rattle.elimination.proofs.PairedWords.{pairing-one, pairing-two, pairing-dead}
 use Rattle.elimination.proofs.Fewer.{one-silent, high-silent}
@@ -193,10 +193,6 @@ module _ (live : ℕ → Bool) (plus minus : ℕ → ℤ) (p m : ℤ) where
 
 -- ---- the walk over a list of live quantities
 
--- past the end of the list all n quantities are done
-pub next-all : (n count : ℕ) (live : List ℕ) → length live ≤ count → nextBlock n live count ≡ n
-next-all n count live h = List·getD-eq-default live n {n = count} h
-
 -- inside a list it does not matter what is read past its end
 pub inside-same : (list : List ℕ) (i a b : ℕ) → i < length list → getD list i a ≡ getD list i b
 inside-same [] i a b h = let z : ⊥ = omega arith in absurd z
@@ -239,7 +235,7 @@ module _ (list : List ℕ) (r : Rising list) where
     where
       go : (b : Bool) → ltb (suc i) (length list) ≡ b → getD list i 0 < getD list (suc i) n
       go true e = let g = ltb-true (suc i) (length list) e in omega (arith, r .rises i g, inside-same list (suc i) n 0 g)
-      go false e = omega (arith, next-all n (suc i) list (ltb-false (suc i) (length list) e))
+      go false e = omega (arith, List·getD-eq-default list n {n = suc i} (ltb-false (suc i) (length list) e))
 
   module _ (plus minus : ℕ → ℤ) (p m : ℤ) where
     -- in a block: up to the first lower one,
@@ -289,26 +285,18 @@ pairing-same live n plus minus plus' minus' p m k w e d h = go (isOne k) refl (l
         let low : lowerAt k < 2 * n = omega (arith, at-lower k i, high) in
         rw (e (higherAt k) high g, d (higherAt k) high g, e (lowerAt k) low l, d (lowerAt k) low l)
 
--- so with gathered rows it is what the step puts in, as far as the block of quantity b + 1
-pub paired-rows : (n j b : ℕ) (live : List ℕ) (t plus minus : List ℤ) (p m : ℤ) → b ≤ n
+-- so with gathered rows it is what the step puts in
+pub paired-rows : (n j : ℕ) (live : List ℕ) (t plus minus : List ℤ) (p m : ℤ)
     → Gathered n j live t plus minus → p ≡ loneWord t (2 * j) → m ≡ loneWord t (2 * j + 1)
-    → change (blockStart b) (pairing (among live) (wordAt plus) (wordAt minus) p m) t ≡ paired (among live) b j t
+    → change (blockStart n) (pairing (among live) (wordAt plus) (wordAt minus) p m) t ≡ paired (among live) n j t
 unfolding paired
-paired-rows n j b live t plus minus p m h g e d = rw (e, d)
-    (change-same (blockStart b)
+paired-rows n j live t plus minus p m g e d = rw (e, d)
+    (change-same (blockStart n)
     (pairing (among live) (wordAt plus) (wordAt minus) (loneWord t (2 * j)) (loneWord t (2 * j + 1)))
     (pairing (among live) (pairWord t (2 * j)) (pairWord t (2 * j + 1)) (loneWord t (2 * j)) (loneWord t (2 * j + 1)))
     t
     (λ k l. pairing-same (among live) n (wordAt plus) (wordAt minus) (pairWord t (2 * j)) (pairWord t (2 * j + 1)) (loneWord t (2 * j)) (loneWord t (2 * j + 1)) k
-    (wordAt t k) (g .plus-bounds) (g .minus-bounds) (omega (arith, l, blockStart-mono {a = b} {b = n} h))))
-
--- where the walk has come to after some of the list, or after all of it
-pub next-most : (n count : ℕ) (live : List ℕ) → Listed n live → nextBlock n live count ≤ n
-next-most n count live l = go (ltb count (length live)) refl
-  where
-    go : (b : Bool) → ltb count (length live) ≡ b → nextBlock n live count ≤ n
-    go true e = let h = ltb-true count (length live) e in omega (arith, l .below count h, inside-same live count n 0 h)
-    go false e = omega (arith, next-all n count live (ltb-false count (length live) e))
+    (wordAt t k) (g .plus-bounds) (g .minus-bounds) l))
 
 -- the sums at four places are those of equal bounds
 pub four-same : (t : List ℤ) (at : ℕ) {a b c d e f g h a' b' c' d' e' f' g' h' : ℤ} → a ≡ a' → b ≡ b' → c ≡ c' → d ≡ d' → e ≡ e' → f ≡ f' → g ≡ g' → h ≡ h'

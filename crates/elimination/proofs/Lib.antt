@@ -21,6 +21,5 @@ pub mod Lists
 pub mod Rows
 pub mod BareSums
 pub mod Blocks
-pub mod Begun
 pub mod BlockOrder
 pub mod Promised

@@ -1,5 +1,5 @@
 -- What the functions of the step ask, and what its loops gather and put in: for those who read the code. What a caller has to believe is in Promises, but
--- for what it means to list quantities, and for `pair_blocks`, by which the tightest table is made too. Sums fit, so sums are asked of words that add. The live quantities are listed in increasing number, each by its
+-- for what it means to list quantities, for when a step is begun (`StepBegun`), and for `pair_blocks`, by which the tightest table is made too. Sums fit, so sums are asked of words that add. The live quantities are listed in increasing number, each by its
 -- number less one; a row has the bounds of one literal with each literal of theirs, by literal, and what else stands in it does not matter.
 use mathlib.Core.Bool.{Bool, true, false, not, _&&_, _||_}
 use mathlib.Core.Path.{_≡_}
@@ -134,10 +134,6 @@ pub record BlocksReady (n : ℕ) (live : List ℕ) (table plus minus : List ℤ)
 
 pub record BlocksPaired (n : ℕ) (live : List ℕ) (plus minus : List ℤ) (p m : ℤ) (before after : List ℤ) : Type 0 where
   pub table : after ≡ change (blockStart n) (pairing (among live) (wordAt plus) (wordAt minus) p m) before
-
--- the first quantity whose block is not begun when those of the first `count` listed ones are done, by its number less one; n where all are
-abbrev pub nextBlock : ℕ → List ℕ → ℕ → ℕ
-nextBlock n live count = getD live count n
 
 -- the sums put in at the place of two literals x and y, given the bounds of each with + and - of the paired quantity
 abbrev pub twoPaired : List ℤ → ℕ → ℤ → ℤ → ℤ → ℤ → List ℤ

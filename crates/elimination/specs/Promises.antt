@@ -1,4 +1,4 @@
--- What the step's functions promise: a quantity paired, hidden, or given its value. What they ask is in Inner: a table whose words add.
+-- What the step's functions promise: one block worked on; a quantity paired, hidden, or given its value. What they ask is in Inner: a table whose words add.
 use mathlib.Core.Bool.{Bool, true, false}
 use mathlib.Core.Path.{_≡_}
 use mathlib.Core.Logic.{_↔_}
@@ -15,22 +15,17 @@ use Rattle.tables.specs.Meaning.{Satisfies, Unsatisfiable, SheetAllows, WordsWi
 use Rattle.elimination.specs.Hiding.{every, paired, contradicts, eliminated}
 use Rattle.elimination.specs.ByRules.{IsSum, HiddenByRules}
 use Rattle.elimination.specs.Blocks.{InBlock, BlockAlone, BlockDone, HiddenByBlocks}
-use Rattle.elimination.specs.Inner.{among, nextBlock, StepBegun, BlockPaired}
+use Rattle.elimination.specs.Inner.{StepBegun, BlockPaired}
 use Rattle.elimination.specs.Choosing.{choice}
 use Rattle.elimination.specs.Feasible.{Feasible}
 
--- the work on the block of quantity b + 1, given rows and the bounds p and m (`pair_block`). It changes no word outside the block. Where it is part of the step that hides a quantity, rows and bounds being those
--- of the table `start` and the block standing as there, it is done as the request says: whatever the blocks before it have become
+-- the work on the block of quantity b + 1 (document 02, request 4), given rows and the bounds p and m: the words, and that no word outside the block changes, whatever rows and bounds are. In the step that
+-- hides quantity j + 1 of n, begun on the table `start`, each word of the block is left as the whole step leaves it, whatever the other blocks have become
 pub record BlockWorked (b : ℕ) (live : List ℕ) (plus minus : List ℤ) (p m : ℤ) (before after : List ℤ) : Type 0 where
   pub sums : BlockPaired b live plus minus p m before after
   pub alone : BlockAlone b before after
   pub done : (n j : ℕ) (start : List ℤ) → b < n → StepBegun n j live start plus minus p m → ((k : ℕ) → InBlock b k → wordAt before k ≡ wordAt start k)
       → BlockDone n j b start before after
-
--- the sums of quantity j + 1 put in at the blocks of the first `count` live quantities, and whether a bare sum is a contradiction, in whichever block
-pub record PairedUpTo (live : List ℕ) (n j count : ℕ) (before : List ℤ) (r : Bool) (after : List ℤ) : Type 0 where
-  pub reply : r ≡ contradicts (among live) n j before
-  pub table : after ≡ paired (among live) (nextBlock n live count) j before
 
 -- the sums of quantity j + 1 put in, of the other quantities only the live ones, and whether one is a contradiction
 pub record Paired (live : ℕ → Bool) (n j : ℕ) (before : List ℤ) (r : Bool) (after : List ℤ) : Type 0 where
@@ -38,7 +33,7 @@ pub record Paired (live : ℕ → Bool) (n j : ℕ) (before : List ℤ) (r : Boo
   pub table : after ≡ paired live n j before
 
 -- quantity j + 1 hidden, and whether a sum is a contradiction: place by place, and in document 01's words, each sum being the one that `Rule::sum` hands back. The
--- bounds at most double. The work is done one block after another (document 02, request 4). Where there is no contradiction, the table allows just what some integer for the quantity completes; where there is one, nothing
+-- bounds at most double. It is made one block after another. Where there is no contradiction, the table allows just what some integer for the quantity completes; where there is one, nothing
 -- satisfied the table
 pub record QuantityHidden (n j : ℕ) (before : List ℤ) (r : Bool) (after : List ℤ) : Type 0 where
   pub reply : r ≡ contradicts every n j before

@@ -1,4 +1,4 @@
-// Hiding one quantity: the pairing of its rules, then the clearing of its places.
+// Hiding one quantity: the pairing of its rules, one block after another, then the clearing of its places.
 use crate::pair;
 ghost use Rattle.elimination.specs.Promises.{QuantityHidden};
 ghost use Rattle.elimination.specs.Inner.{StepReady, NamesAlone};

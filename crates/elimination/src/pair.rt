@@ -1,16 +1,16 @@
 // Pairing: every rule with a quantity and + is added to every rule with it and -, and the sums go in by minimum. Which quantities take part is a set, listed in
-// increasing number: the walk goes once over their blocks in place order and visits the words of live quantities alone. No word is written twice, and blocks to which no
-// sum goes are passed over.
+// increasing number: the walk goes once over their blocks in place order and visits the words of live quantities alone. All sums that land in one block are put in before the next is begun
+// (document 02, [4]). No word is written twice, and blocks to which no sum goes are passed over.
 use crate::bare;
 use crate::row;
 use crate::word;
 ghost use mathlib.Core.Bool.{true};
 ghost use mathlib.Core.Path.{_≡_};
-ghost use Prim.Native.Nat.{_+_, _≤_, _<_};
+ghost use Prim.Native.Nat.{_+_, _<_};
 ghost use lib.ListN.{length, set, getD};
 ghost use Rattle.words.specs.Change.{wordAt};
 ghost use Rattle.elimination.specs.Hiding.{withSum, withHalf};
-ghost use Rattle.elimination.specs.Promises.{BlockWorked, PairedUpTo, Paired};
+ghost use Rattle.elimination.specs.Promises.{BlockWorked, Paired};
 ghost use Rattle.elimination.specs.Inner.{Addable, FourAddable, allHeld, twoPaired, rowPaired, fourPaired, among, StepReady, BlockReady, BlockPaired, BlocksReady, BlocksPaired, TwosReady, TwosPaired};
 
 // Puts the sums in at the place `at` of two literals, given the bounds of each with the quantity and + and with it and -.
@@ -248,32 +248,8 @@ pub fn pair_blocks(
     }
 }
 
-// Puts in the sums of a rule with +(j + 1) and a rule with -(j + 1), whose other quantities are live, that land in the blocks of the first `count` live quantities, and answers whether a bare sum is a
-// contradiction, in whichever block. The two rows are for the quantity's rules: their words are free.
-pub fn pair_up_to(
-    n: usize,
-    table: &mut [i64],
-    j: usize,
-    count: usize,
-    live: &[usize],
-    plus: &mut [i64],
-    minus: &mut [i64],
-) -> bool
-    requires { ⌜ StepReady n j (now live) (now table) (now plus) (now minus) × (count ≤ length (now live)) ⌝ }
-    ensures { λ r. ⌜ PairedUpTo (now (live .entry)) n j count (now (table .entry)) r (now (table .exit)) ⌝ }
-{
-    row::gather(n, table, j, live, plus, minus);
-    let start = 2 * (j * j);
-    let p = table[start];
-    let m = table[start + 1];
-    pair_blocks(n, table, &live[..count], plus, minus, p, m);
-    if word::is_bare_below(p, m) {
-        return true;
-    }
-    bare::is_any_bare_below(n, live, plus, minus)
-}
-
-// Does that in all blocks of live quantities.
+// Puts in every sum of a rule with +(j + 1) and a rule with -(j + 1) whose other quantities are live, and answers whether a bare sum is a contradiction. The two rows
+// are for the quantity's rules: their words are free.
 pub fn pair(
     n: usize,
     table: &mut [i64],
@@ -285,5 +261,13 @@ pub fn pair(
     requires { ⌜ StepReady n j (now live) (now table) (now plus) (now minus) ⌝ }
     ensures { λ r. ⌜ Paired (among (now (live .entry))) n j (now (table .entry)) r (now (table .exit)) ⌝ }
 {
-    pair_up_to(n, table, j, live.len(), live, plus, minus)
+    row::gather(n, table, j, live, plus, minus);
+    let start = 2 * (j * j);
+    let p = table[start];
+    let m = table[start + 1];
+    pair_blocks(n, table, live, plus, minus, p, m);
+    if word::is_bare_below(p, m) {
+        return true;
+    }
+    bare::is_any_bare_below(n, live, plus, minus)
 }

@@ -11,20 +11,20 @@ use Rattle.places.specs.Numbering.{blockStart}
 use Rattle.rules.specs.Hidden.{hiddenIn}
 use Rattle.elimination.specs.Hiding.{every, paired, eliminated}
 use Rattle.elimination.specs.Inner.{Ready, StepReady, among}
-use Rattle.elimination.specs.Promises.{PairedUpTo, QuantityHidden}
+use Rattle.elimination.specs.Promises.{Paired, QuantityHidden}
 use Rattle.elimination.proofs.BlockOrder.{by-blocks, blocks-between}
 use Rattle.keys.specs.Keys.{hideUpTo, keyOf}
 use Rattle.steps.specs.Steps.{stepAt}
 use Rattle.steps.specs.Inner.{AllListed}
 use Rattle.steps.specs.Promises.{PointReached, KeyComesTo}
-use Rattle.steps.proofs.Listing.{all-listed, all-next, all-paired}
+use Rattle.steps.proofs.Listing.{first-listed, first-paired}
 
 -- ---- the blocks, and the end
 
-pub point-between : (n j blocks : ℕ) (t u : List ℤ) (out : List ℕ) (r : Bool) → AllListed n out → blocks ≤ n → PairedUpTo (take n out) n j blocks t r u → u ≡ stepAt n j blocks t
+pub point-between : (n j blocks : ℕ) (t u : List ℤ) (out : List ℕ) (r : Bool) → AllListed n out → blocks ≤ n → Paired (among (take blocks out)) n j t r u → u ≡ stepAt n j blocks t
 unfolding stepAt
 point-between n j blocks t u out r a h p =
-    p .table ∙ ap (λ (b : ℕ). paired (among (take n out)) b j t) (all-next n out a blocks h) ∙ all-paired n out a blocks j t h
+    p .table ∙ first-paired n blocks out a h j t
     ∙ ap (λ (c : Bool). cond c (paired every blocks j t) (eliminated n j t)) (sym (le-leb blocks n h))
 
 pub point-end : (n j blocks : ℕ) (t u : List ℤ) (r : Bool) → n < blocks → QuantityHidden n j t r u → u ≡ stepAt n j blocks t
@@ -32,9 +32,9 @@ unfolding stepAt
 point-end n j blocks t u r h q = q .table ∙ ap (λ (c : Bool). cond c (paired every blocks j t) (eliminated n j t)) (sym (lt-leb blocks n h))
 
 -- with list and rows lent the step is ready
-pub point-ready : (n j : ℕ) (t : List ℤ) (out : List ℕ) (plus minus : List ℤ) → AllListed n out → Ready n j t → 2 * n ≤ length plus → 2 * n ≤ length minus
-    → StepReady n j (take n out) t plus minus
-point-ready n j t out plus minus a r p m = record { ready = r; listed = all-listed n out a; plus-room = p; minus-room = m }
+pub point-ready : (n j b : ℕ) (t : List ℤ) (out : List ℕ) (plus minus : List ℤ) → AllListed n out → b ≤ n → Ready n j t → 2 * n ≤ length plus → 2 * n ≤ length minus
+    → StepReady n j (take b out) t plus minus
+point-ready n j b t out plus minus a h r p m = record { ready = r; listed = first-listed n b out a h; plus-room = p; minus-room = m }
 
 -- what is reached is one of the tables between, or the end
 pub point-reached : (n j blocks : ℕ) (t : List ℤ) → blockStart n ≤ length t → j < n → PointReached n j blocks t (stepAt n j blocks t)

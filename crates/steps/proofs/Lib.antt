@@ -3,3 +3,4 @@ pub mod Listing
 pub mod Checking
 pub mod Following
 pub mod Promised
+pub mod Worked

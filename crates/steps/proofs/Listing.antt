@@ -1,23 +1,22 @@
--- A list of all quantities: with it every place is live, and its first blocks are those of the first quantities. Assumes nothing.
-use mathlib.Core.Path.{_≡_, refl, sym, _∙_, ap}
-use mathlib.Core.Bool.{Bool, true, false, _&&_, _||_, and-true}
+-- A list of all quantities: with its beginning, the sums that go to the first blocks are put in. Assumes nothing.
+use mathlib.Core.Path.{_≡_, refl, sym, _∙_}
+use mathlib.Core.Bool.{Bool, true, false, _&&_, _||_}
 use mathlib.Core.List.{List}
-use Prim.Native.Nat.{ℕ, suc, _*_, _/_, _≤_, _<_}
+use Prim.Native.Nat.{ℕ, suc, _/_, _≤_, _<_}
 use native.Mathlib.Omega.{arith}
-use lib.Dec.{ltb, eqb}
+use lib.Dec.{eqb}
 use lib.IntN.{ℤ}
-use lib.ListN.{length, getD, take, set, length-set}
+use lib.ListN.{length, getD, take, set}
 use lib.Seq.{length-take-le, getD-take, getD-set-same, getD-set-other}
-use borrow.Author.Tests.{eqb-true, eqb-false, ltb-true, ltb-false}
-use Rattle.words.specs.Change.{wordAt}
+use borrow.Author.Tests.{eqb-true, eqb-false}
 use Rattle.words.proofs.Change.{change-same}
 use Rattle.places.specs.Numbering.{blockStart, isOne, higherAt, lowerAt}
-use Rattle.places.proofs.Numbering.{blockStart-mono, at-lower, at-below}
+use Rattle.places.proofs.Numbering.{at-lower, at-below}
 use Rattle.tables.proofs.Tests.{clash}
 use Rattle.elimination.specs.Hiding.{every, liveAt, pairing, paired}
-use Rattle.elimination.specs.Inner.{among, Listed, NamesAlone, nextBlock}
-use Rattle.elimination.proofs.Lists.{listed-at}
-use Rattle.elimination.proofs.Blocks.{inside-same, next-all}
+use Rattle.elimination.specs.Inner.{among, Listed, NamesAlone}
+use Rattle.elimination.proofs.Lists.{listed-at, listed-place}
+use Rattle.elimination.proofs.Blocks.{blocks-over}
 use Rattle.steps.specs.Inner.{AllListed}
 
 -- one quantity more of a list that begins so
@@ -28,48 +27,49 @@ all-more i out l each h g = go (eqb h i) refl
     go true e = let d = eqb-true h i e in rw d (getD-set-same out i i 0 l)
     go false e = let d = eqb-false h i e in getD-set-other out i h i 0 d ∙ each h (omega (arith, d))
 
-module _ (n : ℕ) (out : List ℕ) (a : AllListed n out) where
+-- the first b of all n
+module _ (n b : ℕ) (out : List ℕ) (a : AllListed n out) (h : b ≤ n) where
   abbrev list : List ℕ
-  list = take n out
+  list = take b out
 
-  size : length (take n out) ≡ n
-  size = length-take-le n out (a .room)
+  pub first-size : b ≡ length (take b out)
+  first-size = let room = a .room in sym (length-take-le b out (omega arith))
 
-  at : (i : ℕ) → i < n → getD (take n out) i 0 ≡ i
-  at i h = getD-take n out i 0 h ∙ a .each i h
+  at : (i : ℕ) → i < b → getD (take b out) i 0 ≡ i
+  at i g = getD-take b out i 0 g ∙ a .each i (omega arith)
 
-  pub all-listed : Listed n (take n out)
-  all-listed = record {
-    rising = record { rises = λ i h. let g : suc i < n = omega (arith, size) in omega (arith, at i (omega arith), at (suc i) g) };
-    below = λ i h. let g : i < n = omega (arith, size) in omega (arith, at i g);
+  pub first-listed : Listed n (take b out)
+  first-listed = record {
+    rising = record { rises = λ i g. omega (arith, first-size, at i (omega (arith, first-size)), at (suc i) (omega (arith, first-size))) };
+    below = λ i g. omega (arith, first-size, at i (omega (arith, first-size)));
   }
 
-  -- each is live
-  pub all-live : (i : ℕ) → i < n → among (take n out) i ≡ true
-  all-live i h = rw (at i h) at (listed-at list i (omega (arith, size)))
+  -- they are live, and no other is
+  first-live : (i : ℕ) → i < b → among (take b out) i ≡ true
+  first-live i g = rw (at i g) at (listed-at list i (omega (arith, first-size)))
 
-  pub all-alone : (j : ℕ) (t : List ℤ) → NamesAlone n j (take n out) t
-  all-alone j t i h d e = clash (all-live i h) e
-
-  -- the first blocks are those of the first quantities
-  pub all-next : (b : ℕ) → b ≤ n → nextBlock n (take n out) b ≡ b
-  all-next b h = go (ltb b n) refl
+  none-live : (i : ℕ) → b ≤ i → among (take b out) i ≡ false
+  none-live i g = go (among (take b out) i) refl
     where
-      go : (c : Bool) → ltb b n ≡ c → nextBlock n (take n out) b ≡ b
-      go true e = let g = ltb-true b n e in inside-same list b n 0 (omega (arith, size)) ∙ at b g
-      go false e = let g = ltb-false b n e in next-all n b list (omega (arith, size)) ∙ omega arith
+      go : (c : Bool) → among (take b out) i ≡ c → c ≡ false
+      go true e =
+          let s = listed-place list i e in
+          let inside = s .inside in
+          let z : ⊥ = omega (arith, first-size, s .is, at (s .place) (omega (arith, first-size))) in
+          absurd z
+      go false e = refl
 
-  -- and what is put in there is what the step puts in
-  place-live : (k : ℕ) → k < blockStart n → liveAt (among (take n out)) k ≡ true
+  -- so what is put in goes to the blocks of the first b,
+  place-live : (k : ℕ) → k < blockStart b → liveAt (among (take b out)) k ≡ true
   unfolding liveAt
-  place-live k h = go (isOne k) refl
+  place-live k g = go (isOne k) refl
     where
-      high : among (take n out) (higherAt k / 2) ≡ true
-      high = all-live (higherAt k / 2) (omega (arith, at-below n k h))
+      high : among (take b out) (higherAt k / 2) ≡ true
+      high = first-live (higherAt k / 2) (omega (arith, at-below b k g))
 
-      go : (o : Bool) → isOne k ≡ o → (among (take n out) (higherAt k / 2) && (o || among (take n out) (lowerAt k / 2))) ≡ true
+      go : (o : Bool) → isOne k ≡ o → (among (take b out) (higherAt k / 2) && (o || among (take b out) (lowerAt k / 2))) ≡ true
       go true e = rw high
-      go false e = rw (high, all-live (lowerAt k / 2) (omega (arith, at-lower k e, at-below n k h)))
+      go false e = rw (high, first-live (lowerAt k / 2) (omega (arith, at-lower k e, at-below b k g)))
 
   every-live : (k : ℕ) → liveAt every k ≡ true
   unfolding liveAt
@@ -79,6 +79,13 @@ module _ (n : ℕ) (out : List ℕ) (a : AllListed n out) where
       go true = refl
       go false = refl
 
-  pub all-paired : (b j : ℕ) (t : List ℤ) → b ≤ n → paired (among (take n out)) b j t ≡ paired every b j t
+  -- and is all that goes there
+  pub first-paired : (j : ℕ) (t : List ℤ) → paired (among (take b out)) n j t ≡ paired every b j t
   unfolding paired pairing
-  all-paired b j t h = change-same (blockStart b) _ _ t (λ k l. rw (place-live k (omega (arith, l, blockStart-mono {a = b} {b = n} h)), every-live k))
+  first-paired j t =
+      sym (blocks-over (among (take b out)) _ _ _ _ b n t h (λ i g l. none-live i g))
+      ∙ change-same (blockStart b) _ _ t (λ k l. rw (place-live k l, every-live k))
+
+-- the rules of a table name quantities of all alone
+pub all-alone : (n j : ℕ) (t : List ℤ) (out : List ℕ) → AllListed n out → NamesAlone n j (take n out) t
+all-alone n j t out a i h d e = clash (first-live n n out a (omega arith) i h) e

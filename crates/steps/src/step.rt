@@ -29,7 +29,7 @@ fn follow_in(
 {
     all::list(n, list);
     if blocks <= n {
-        pair::pair_up_to(n, table, j, blocks, &list[..n], plus, minus);
+        pair::pair(n, table, j, &list[..blocks], plus, minus);
         return;
     }
     hide::hide(n, table, j, &list[..n], plus, minus);

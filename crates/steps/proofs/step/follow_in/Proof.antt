@@ -1,9 +1,8 @@
--- `step::follow_in` meets its contract: with all quantities listed, the first blocks are those of the first quantities. Assumes nothing.
+-- `step::follow_in` meets its contract: with the first quantities listed, their blocks are done. Assumes nothing.
 use native.Mathlib.Omega.{arith}
-use denote.Ref.{now}
 use borrow.Author.Needs.{needs}
 use Rattle.keys.proofs.Taking.{taken-length}
-use Rattle.steps.proofs.Listing.{all-alone}
+use Rattle.steps.proofs.Listing.{first-size, all-alone}
 use Rattle.steps.proofs.Following.{point-between, point-end, point-ready}
 use Rattle.steps.proofs.step.follow_in.Statement.{statement}
 use Rattle.steps.proofs.step.follow_in.Tie as tie
@@ -11,17 +10,17 @@ use Rattle.steps.proofs.step.follow_in.Tie as tie
 list-requires : tie.Need-list-requires
 list-requires c κs = search needs
 
-slice-reshare-prefix-pair-up-to : tie.Need-slice-reshare-prefix-pair-up-to
-slice-reshare-prefix-pair-up-to c = search needs
+slice-reshare-prefix-pair : tie.Need-slice-reshare-prefix-pair
+slice-reshare-prefix-pair c = search needs
 
-slice-aggregate-pair-up-to : tie.Need-slice-aggregate-pair-up-to
-slice-aggregate-pair-up-to c = taken-length _ _ (c .before .before .before .before .before .list .ensures .room)
+slice-aggregate-pair : tie.Need-slice-aggregate-pair
+slice-aggregate-pair c = first-size _ _ _ (c .before .before .before .before .before .list .ensures) (omega arith)
 
-pair-up-to-requires : tie.Need-pair-up-to-requires
-pair-up-to-requires c κs =
+pair-requires : tie.Need-pair-requires
+pair-requires c κs =
     let y = c .before .before .before .before .before .before .before in
     let s = y .before .before .before in
-    (point-ready _ _ _ _ _ _ (y .list .ensures) (s .pre .0) (s .pre .1 .plus-room) (s .pre .1 .minus-room), omega (arith, taken-length (s .args .n) (y .list .last .1 .0) (y .list .ensures .room)))
+    point-ready _ _ (s .args .blocks) _ _ _ _ (y .list .ensures) (omega arith) (s .pre .0) (s .pre .1 .plus-room) (s .pre .1 .minus-room)
 
 same-length : tie.Need-same-length
 same-length c = search needs
@@ -39,7 +38,7 @@ returns : tie.Need-returns
 returns c =
     let p = c .before .before .before in
     let y = c .before .before .before .before .before .before .before .before .before .before .before in
-    point-between _ _ _ _ _ _ _ (y .list .ensures) (omega arith) (p .pair-up-to .ensures)
+    point-between _ _ _ _ _ _ _ (y .list .ensures) (omega arith) (p .pair .ensures)
 
 slice-reshare-prefix-hide : tie.Need-slice-reshare-prefix-hide
 slice-reshare-prefix-hide c = search needs
@@ -51,7 +50,7 @@ hide-requires : tie.Need-hide-requires
 hide-requires c κs =
     let y = c .before .before .before .before .before .before .before in
     let s = y .before .before .before in
-    (point-ready _ _ _ _ _ _ (y .list .ensures) (s .pre .0) (s .pre .1 .plus-room) (s .pre .1 .minus-room), all-alone _ _ (y .list .ensures) _ _)
+    (point-ready _ _ (s .args .n) _ _ _ _ (y .list .ensures) (omega arith) (s .pre .0) (s .pre .1 .plus-room) (s .pre .1 .minus-room), all-alone _ _ _ _ (y .list .ensures))
 
 same-length-5 : tie.Need-same-length-5
 same-length-5 c = search needs
@@ -73,9 +72,9 @@ follow-in-spec =
     tie.close
     (tie.spec
     list-requires
-    slice-reshare-prefix-pair-up-to
-    slice-aggregate-pair-up-to
-    pair-up-to-requires
+    slice-reshare-prefix-pair
+    slice-aggregate-pair
+    pair-requires
     same-length
     same-length-2
     same-length-3

@@ -2,6 +2,7 @@
 use crate::all;
 use elimination::hide;
 use elimination::pair;
+use keys::decide;
 use keys::key;
 use keys::room;
 use rules::hidden::Set;
@@ -89,10 +90,10 @@ pub fn step(
     let Reply::Done = checked else {
         return checked;
     };
-    let made = key::key(n, before, table, workspace);
-    let Reply::Done = made else {
-        return made;
-    };
+    if decide::decide(n, 0, table, workspace) {
+        return Reply::Refused(Refusal::NoAssignment);
+    }
+    key::hide_set(n, before, table);
     follow(n, table, quantity - 1, blocks);
     Reply::Done
 }

@@ -97,7 +97,7 @@ KeyAnswer n set table workspace r v table' workspace' = KeyAnswerBy Keyed n set 
 abbrev pub TightKeyAnswer : ℕ → ℕ → List ℤ → List ℤ → ℕ → ℕ → List ℤ → List ℤ → Type 0
 TightKeyAnswer n set table workspace r v table' workspace' = KeyAnswerBy TightKeyed n set table workspace r v table' workspace'
 
--- that of following a hiding step
+-- the number r and value v of the call that follows a hiding step
 pub record StepAnswer (n set q blocks : ℕ) (table workspace : List ℤ) (r v : ℕ) (table' workspace' : List ℤ) : Type 0 where
   pub number : r ≡ replyNumber (stepReply n set q blocks table (length workspace))
   pub value : v ≡ replyValue (stepReply n set q blocks table (length workspace))

@@ -1,9 +1,9 @@
 -- A step goes one block after another: the work on one block stays in it and leaves its words as the whole step does, and so all blocks make the step. Assumes nothing.
 use mathlib.Core.Path.{_≡_, refl, sym, _∙_, ap}
-use mathlib.Core.Bool.{Bool, true, false, cond}
+use mathlib.Core.Bool.{Bool, true, false, cond, _&&_, _||_, or-false}
 use mathlib.Core.List.{List}
 use mathlib.Core.Logic.{_⊎_, inl, inr}
-use Prim.Native.Nat.{ℕ, suc, _+_, _*_, _≤_, _<_}
+use Prim.Native.Nat.{ℕ, suc, _/_, _≤_, _<_}
 use native.Mathlib.Omega.{arith}
 use lib.Dec.{ltb}
 use lib.IntN.{ℤ}
@@ -13,16 +13,17 @@ use borrow.Author.Tests.{ltb-true, ltb-false, lt-ltb, le-ltb}
 use Rattle.words.specs.Change.{wordAt, change, startingAt}
 use Rattle.words.proofs.Change.{change-length, change-below, change-past, change-none}
 use Rattle.places.specs.declared.Place.the-variants.{At}
-use Rattle.places.specs.Numbering.{blockStart}
-use Rattle.places.proofs.Numbering.{blockStart-mono}
+use Rattle.places.specs.Numbering.{blockStart, blockOf, isOne, higherAt, lowerAt}
+use Rattle.places.proofs.Numbering.{blockStart-mono, block-unique, higher-half, at-lower}
 use Rattle.rules.specs.declared.rule.Rule.{Rule}
 use Rattle.rules.specs.Meaning.{boundOf, names}
 use Rattle.tables.specs.Places.{findPlace}
 use Rattle.tables.specs.Meaning.{ruleIn}
-use Rattle.elimination.specs.Hiding.{every, pairWord, loneWord, pairing, paired, eliminated}
+use Rattle.tables.proofs.Tests.{neither}
+use Rattle.elimination.specs.Hiding.{every, liveAt, pairing, paired, eliminated}
 use Rattle.elimination.specs.ByRules.{IsSum}
-use Rattle.elimination.specs.Blocks.{InBlock, BlockAlone, BlockDone, HiddenByBlocks}
-use Rattle.elimination.specs.Inner.{among, Ready, StepBegun, BlockPaired}
+use Rattle.elimination.specs.Blocks.{InBlock, BlockAlone, StepBegun, BlockDone, HiddenByBlocks}
+use Rattle.elimination.specs.Inner.{among, BlockPaired}
 use Rattle.elimination.specs.Promises.{BlockWorked}
 use Rattle.elimination.proofs.PairedWords.{paired-at}
 use Rattle.elimination.proofs.Step.{paired-length}
@@ -75,25 +76,54 @@ module _ (b : ℕ) (live : List ℕ) (plus minus : List ℤ) (p m : ℤ) (before
       ∙ change-below (blockStart (suc b)) (startingAt (blockStart b) f) before k below (omega arith)
       ∙ ap (λ (c : Bool). cond c (wordAt before k) (f k (wordAt before k))) (le-ltb k (blockStart b) (i .from))
 
-  module _ (n j : ℕ) (start : List ℤ) (h : b < n) (s : StepBegun n j live start plus minus p m)
-      (e : (k : ℕ) → InBlock b k → wordAt before k ≡ wordAt start k) where
+  module _ (n j : ℕ) (start : List ℤ) (s : StepBegun n j b live start plus minus p m) (e : (k : ℕ) → InBlock b k → wordAt before k ≡ wordAt start k) where
     inside : (k : ℕ) → InBlock b k → k < blockStart n
-    inside k i = let below = i .below in omega (arith, blockStart-mono {a = suc b} {b = n} h)
+    inside k i = let below = i .below in omega (arith, blockStart-mono {a = suc b} {b = n} (s .inside))
 
-    -- the whole step's sums are those of the rows
-    rows : change (blockStart n) (pairing (among live) (wordAt plus) (wordAt minus) p m) start ≡ paired every n j start
-    rows =
-        paired-rows n j live start plus minus p m (s .rows) (s .plus-alone) (s .minus-alone)
-        ∙ sym (fewer-paired every (among live) n j start (s .ready .room) (s .ready .one) (λ a c g. refl) (λ a c g o q. s .alone a c g q))
+    -- for the block it is as if all quantities past its own were live,
+    nearly : ℕ → Bool
+    nearly i = among live i || ltb b i
 
-    -- so it is changed as by the whole step
+    near : (i : ℕ) → i ≤ b → nearly i ≡ among live i
+    unfolding nearly
+    near i h = rw (le-ltb b i h) (or-false (among live i))
+
+    near-place : (k : ℕ) → InBlock b k → liveAt nearly k ≡ liveAt (among live) k
+    unfolding liveAt
+    near-place k i = go (isOne k) refl
+      where
+        own-block : blockOf k ≡ b
+        own-block = block-unique b k (i .from) (i .below)
+
+        high : nearly (higherAt k / 2) ≡ among live (higherAt k / 2)
+        high = near (higherAt k / 2) (omega (arith, higher-half k, own-block))
+
+        go : (o : Bool) → isOne k ≡ o
+            → (nearly (higherAt k / 2) && (o || nearly (lowerAt k / 2))) ≡ (among live (higherAt k / 2) && (o || among live (lowerAt k / 2)))
+        go true q = rw high
+        go false q = rw (high, near (lowerAt k / 2) (omega (arith, higher-half k, own-block, at-lower k q)))
+
+    -- with which the whole step is document 01's: those left out are named by no rule
+    out : (i : ℕ) → nearly i ≡ false → (among live i ≡ false) × (i ≤ b)
+    unfolding nearly
+    out i q = let g = neither (among live i) (ltb b i) .0 q in (g .0, ltb-false b i (g .1))
+
+    all : paired every n j start ≡ paired nearly n j start
+    all = fewer-paired every nearly n j start (s .ready .room) (s .ready .one) (λ a c g. refl)
+        (λ a c g o q. let r = out a q in s .alone a (r .1) g (r .0))
+
+    -- so the block's words are changed as by the whole step
     stepped : (k : ℕ) → InBlock b k → wordAt after k ≡ wordAt (paired every n j start) k
+    unfolding pairing
     stepped k i =
         let r = s .ready .room in
         own k i
         ∙ ap (f k) (e k i)
         ∙ sym (change-below (blockStart n) f start k (inside k i) (omega (arith, inside k i)))
-        ∙ ap (λ (t : List ℤ). wordAt t k) rows
+        ∙ ap (λ (t : List ℤ). wordAt t k) (paired-rows n j live start plus minus p m (s .rows) (s .plus-alone) (s .minus-alone))
+        ∙ paired-at (among live) n j start r k (inside k i)
+        ∙ rw (near-place k i) at (sym (paired-at nearly n j start r k (inside k i)))
+        ∙ ap (λ (t : List ℤ). wordAt t k) (sym all)
 
     done : BlockDone n j b start before after
     done = record {
@@ -103,7 +133,7 @@ module _ (b : ℕ) (live : List ℕ) (plus minus : List ℤ) (p m : ℤ) (before
     }
 
   pub block-worked : BlockWorked b live plus minus p m before after
-  block-worked = record { sums = d; alone = alone; done = done }
+  block-worked = record { words = d; alone = alone; done = done }
 
 -- ---- all blocks
 
@@ -147,7 +177,7 @@ module _ (n j : ℕ) (t : List ℤ) (l : blockStart n ≤ length t) (h : j < n) 
     each = block;
     last = e;
     sums = in-block;
-    waiting = waiting;
+    waiting = λ b k g i. waiting b k i;
   }
     where
       block-within : (b k : ℕ) → InBlock b k → k < blockStart n → b < n

@@ -1,5 +1,5 @@
 -- What the functions of the step ask, and what its loops gather and put in: for those who read the code. What a caller has to believe is in Promises, but
--- for what it means to list quantities, for when a step is begun (`StepBegun`), and for `pair_blocks`, by which the tightest table is made too. Sums fit, so sums are asked of words that add. The live quantities are listed in increasing number, each by its
+-- for what it means to list quantities and to gather rows, for the words of a block (`BlockPaired`), and for `pair_blocks`, by which the tightest table is made too. Sums fit, so sums are asked of words that add. The live quantities are listed in increasing number, each by its
 -- number less one; a row has the bounds of one literal with each literal of theirs, by literal, and what else stands in it does not matter.
 use mathlib.Core.Bool.{Bool, true, false, not, _&&_, _||_}
 use mathlib.Core.Path.{_≡_}
@@ -14,7 +14,7 @@ use Rattle.rules.specs.Limits.{maxQuantities}
 use Rattle.rules.specs.Hidden.{isListed}
 use Rattle.tables.specs.Tables.{hasRule}
 use Rattle.tables.specs.Meaning.{WordsWithin}
-use Rattle.elimination.specs.Hiding.{withSum, pairWord, loneWord, pairing}
+use Rattle.elimination.specs.Hiding.{withSum, pairWord, pairing}
 use Rattle.elimination.specs.Magnitude.{addLimit, valueLimit, Unnamed}
 
 -- a word is no rule, or a bound small enough to be added to another
@@ -89,14 +89,6 @@ pub record PairGathered (j a : ℕ) (table plus minus plus' minus' : List ℤ) :
 -- the rules of a table over n quantities name quantity j + 1 and live ones alone
 abbrev pub NamesAlone : ℕ → ℕ → List ℕ → List ℤ → Type 0
 NamesAlone n j live t = (i : ℕ) → i < n → (i ≡ j → ⊥) → among live i ≡ false → Unnamed n i t
-
--- the step that hides quantity j + 1 of n is begun on the table `start`, whose rules name it and live quantities alone: its bounds are gathered in rows, p and m being those of the quantity alone
-pub record StepBegun (n j : ℕ) (live : List ℕ) (start plus minus : List ℤ) (p m : ℤ) : Type 0 where
-  pub ready : Ready n j start
-  pub alone : NamesAlone n j live start
-  pub rows : Gathered n j live start plus minus
-  pub plus-alone : p ≡ loneWord start (2 * j)
-  pub minus-alone : m ≡ loneWord start (2 * j + 1)
 
 -- ---- sums put in, block after block
 

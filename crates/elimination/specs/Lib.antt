@@ -3,9 +3,9 @@
 -- loops put in, for those who read the code.
 pub mod Hiding
 pub mod ByRules
-pub mod Blocks
 pub mod Choosing
 pub mod Feasible
 pub mod Magnitude
 pub mod Inner
+pub mod Blocks
 pub mod Promises

@@ -4,7 +4,7 @@ use mathlib.Core.Path.{_≡_}
 use mathlib.Core.Logic.{_↔_}
 use mathlib.Core.List.{List}
 use lib.Dec.{eqb}
-use Prim.Native.Nat.{ℕ, suc, _+_, _*_, _≤_, _<_}
+use Prim.Native.Nat.{ℕ, suc, _+_, _*_, _≤_}
 use lib.IntN.{ℤ, pos, natAbs}
 use Rattle.words.specs.Change.{wordAt}
 use Rattle.places.specs.Numbering.{blockStart}
@@ -14,18 +14,17 @@ use Rattle.rules.specs.Steps.{sumOver}
 use Rattle.tables.specs.Meaning.{Satisfies, Unsatisfiable, SheetAllows, WordsWithin, assignmentOf}
 use Rattle.elimination.specs.Hiding.{every, paired, contradicts, eliminated}
 use Rattle.elimination.specs.ByRules.{IsSum, HiddenByRules}
-use Rattle.elimination.specs.Blocks.{InBlock, BlockAlone, BlockDone, HiddenByBlocks}
-use Rattle.elimination.specs.Inner.{StepBegun, BlockPaired}
+use Rattle.elimination.specs.Blocks.{InBlock, BlockAlone, StepBegun, BlockDone, HiddenByBlocks}
+use Rattle.elimination.specs.Inner.{BlockPaired}
 use Rattle.elimination.specs.Choosing.{choice}
 use Rattle.elimination.specs.Feasible.{Feasible}
 
--- the work on the block of quantity b + 1 (document 02, request 4), given rows and the bounds p and m: the words, and that no word outside the block changes, whatever rows and bounds are. In the step that
--- hides quantity j + 1 of n, begun on the table `start`, each word of the block is left as the whole step leaves it, whatever the other blocks have become
+-- the work on the block of quantity b + 1 (document 02, request 4), given rows and the bounds p and m: the words, and that no word outside the block changes, whatever rows and bounds are. Where a step has come to
+-- the block, and it stands as at the step's start, each of its words that does not name the hidden quantity is left as the whole step leaves it, whatever the other blocks have become
 pub record BlockWorked (b : ℕ) (live : List ℕ) (plus minus : List ℤ) (p m : ℤ) (before after : List ℤ) : Type 0 where
-  pub sums : BlockPaired b live plus minus p m before after
+  pub words : BlockPaired b live plus minus p m before after
   pub alone : BlockAlone b before after
-  pub done : (n j : ℕ) (start : List ℤ) → b < n → StepBegun n j live start plus minus p m → ((k : ℕ) → InBlock b k → wordAt before k ≡ wordAt start k)
-      → BlockDone n j b start before after
+  pub done : (n j : ℕ) (start : List ℤ) → StepBegun n j b live start plus minus p m → ((k : ℕ) → InBlock b k → wordAt before k ≡ wordAt start k) → BlockDone n j b start before after
 
 -- the sums of quantity j + 1 put in, of the other quantities only the live ones, and whether one is a contradiction
 pub record Paired (live : ℕ → Bool) (n j : ℕ) (before : List ℤ) (r : Bool) (after : List ℤ) : Type 0 where

@@ -16,7 +16,7 @@ use Rattle.elimination.proofs.BlockOrder.{by-blocks, blocks-between}
 use Rattle.keys.specs.Keys.{hideUpTo, keyOf}
 use Rattle.steps.specs.Steps.{stepAt}
 use Rattle.steps.specs.Inner.{AllListed}
-use Rattle.steps.specs.Promises.{PointReached, KeyComesTo}
+use Rattle.steps.specs.Promises.{PointReached, LowerHidden, KeyStep}
 use Rattle.steps.proofs.Listing.{first-listed, first-paired}
 
 -- ---- the blocks, and the end
@@ -48,10 +48,10 @@ point-reached n j blocks t l h = record {
 -- ---- the steps of a key
 
 -- where two sets agree on the first m quantities, these are hidden alike,
-same-hidden : (h g : ℕ → Bool) (n m : ℕ) (t : List ℤ) → ((i : ℕ) → i < suc m → h i ≡ g i) → hideUpTo h n m t ≡ hideUpTo g n m t
+same-hidden : (h g : ℕ → Bool) (n m : ℕ) (t : List ℤ) → ((i : ℕ) → 1 ≤ i → i ≤ m → h i ≡ g i) → hideUpTo h n m t ≡ hideUpTo g n m t
 unfolding hideUpTo
 same-hidden h g n zero t e = refl
-same-hidden h g n (suc m) t e = rw (same-hidden h g n m t (λ i l. e i (omega arith)), e (suc m) (omega arith))
+same-hidden h g n (suc m) t e = rw (same-hidden h g n m t (λ i l o. e i l (omega arith)), e (suc m) (omega arith) (omega arith))
 
 -- and where a set has none past them, nothing more is hidden
 one-more : (h : ℕ → Bool) (n m : ℕ) (t : List ℤ) → h (suc m) ≡ false → hideUpTo h n (suc m) t ≡ hideUpTo h n m t
@@ -65,10 +65,26 @@ none-more h n m (suc d) t e =
     ap (λ (i : ℕ). hideUpTo h n i t) next ∙ one-more h n (m + d) t (e (suc (m + d)) (omega arith) (omega arith))
     ∙ none-more h n m d t (λ i l g. e i l (omega arith))
 
-pub key-comes : (n set q : ℕ) (t : List ℤ) → 1 ≤ q → q ≤ n → KeyComesTo n set q t
+key-after : (h : ℕ → Bool) (n m : ℕ) (t : List ℤ) → m ≤ n → ((i : ℕ) → m < i → i ≤ n → h i ≡ false) → keyOf h n t ≡ hideUpTo h n m t
 unfolding keyOf
-key-comes n set q t a b hidden same none =
-    let all : n ≡ (q - 1) + (n - (q - 1)) = omega arith in
-    ap (λ (i : ℕ). hideUpTo (hiddenIn set) n i t) all
-    ∙ none-more (hiddenIn set) n (q - 1) (n - (q - 1)) t (λ i l g. none i (omega arith) (omega arith))
-    ∙ sym (same-hidden hidden (hiddenIn set) n (q - 1) t (λ i l. same i (omega arith)))
+key-after h n m t a e =
+    let all : n ≡ m + (n - m) = omega arith in
+    ap (λ (i : ℕ). hideUpTo h n i t) all ∙ none-more h n m (n - m) t (λ i l g. e i l (omega arith))
+
+-- one that is hidden is hidden by its step
+own-more : (h : ℕ → Bool) (n m : ℕ) (t : List ℤ) → h (suc m) ≡ true → hideUpTo h n (suc m) t ≡ eliminated n m (hideUpTo h n m t)
+unfolding hideUpTo
+own-more h n m t e = rw e
+
+pub key-step : (n set q : ℕ) (t : List ℤ) (hidden : ℕ → Bool) → 1 ≤ q → q ≤ n → LowerHidden n set q hidden → KeyStep n set q t hidden
+key-step n set q t hidden a b l = record { begun = begun; ended = ended; last = λ e none. ended e ∙ sym (key-after hidden n q t b none) }
+  where
+    begun : keyOf (hiddenIn set) n t ≡ hideUpTo hidden n (q - 1) t
+    begun =
+        key-after (hiddenIn set) n (q - 1) t (omega arith) (λ i c g. l .none i (omega arith) g)
+        ∙ sym (same-hidden hidden (hiddenIn set) n (q - 1) t (λ i c g. l .lower i c (omega arith)))
+
+    ended : hidden q ≡ true → eliminated n (q - 1) (keyOf (hiddenIn set) n t) ≡ hideUpTo hidden n q t
+    ended e =
+        let next : suc (q - 1) ≡ q = omega arith in
+        ap (eliminated n (q - 1)) begun ∙ sym (own-more hidden n (q - 1) t (rw next e)) ∙ ap (λ (i : ℕ). hideUpTo hidden n i t) next

@@ -42,7 +42,7 @@ use Rattle.steps.specs.Steps.{stepAt, stepOf, stepReply}
 use Rattle.steps.specs.Meaning.{stepNeedsThen}
 use Rattle.steps.specs.Promises.{StepFollowed}
 use Rattle.steps.proofs.Checking.{step-tied, step-late, key-met, point-met}
-use Rattle.steps.proofs.Following.{point-reached, key-comes}
+use Rattle.steps.proofs.Following.{point-reached, key-step}
 
 not-done : (r : Reply) (f : Refusal) → r ≡ Refused f → replyNumber r ≡ 0 → ⊥
 not-done r f d e = refusal-number f (rw d at e)
@@ -160,6 +160,6 @@ module _ (n set q blocks : ℕ) (t w w' : List ℤ) where
             rest = rw words (rest-step n (q - 1) blocks (keyOf (hiddenIn set) n t)) ∙ rest-key (hiddenIn set) n t;
             lent = d .lent;
             start = λ c. made;
-            turn = λ c. key-comes n set q t least most;
+            turn = λ c hidden. key-step n set q t hidden least most;
             reached = λ c. rw words (point-reached n (q - 1) blocks (keyOf (hiddenIn set) n t) long (omega arith));
           }

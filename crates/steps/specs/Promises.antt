@@ -21,17 +21,23 @@ use Rattle.keys.specs.Promises.{KeyMade}
 use Rattle.steps.specs.Steps.{stepOf, stepReply}
 use Rattle.steps.specs.Meaning.{stepNeedsThen, stepNeeds}
 
--- a table at a point of the step that hides quantity j + 1, which is begun on the table `start` and made one block after another: the table between with so many blocks done, or the end
+-- a table at a point of the step that hides quantity j + 1, which is begun on the table `start` and made one block after another: the table between with so many blocks done, or the end. There is one such table
+-- between, for the work on a block leaves no word of it open
 pub record PointReached (n j blocks : ℕ) (start table : List ℤ) : Type 0 where
   pub step : HiddenByBlocks n j start (eliminated n j start)
   pub between : blocks ≤ n → table ≡ step .tables blocks
   pub end : n < blocks → table ≡ eliminated n j start
 
--- the steps of a sheet's key: where those of the set before are the hidden ones below quantity q, the step of q is begun where the key's steps come to it
-abbrev pub KeyComesTo : ℕ → ℕ → ℕ → List ℤ → Type 0
-KeyComesTo n set q sheet =
-    (hidden : ℕ → Bool) → ((i : ℕ) → i < q → hidden i ≡ hiddenIn set i) → ((i : ℕ) → q ≤ i → i ≤ n → hiddenIn set i ≡ false)
-    → keyOf (hiddenIn set) n sheet ≡ hideUpTo hidden n (q - 1) sheet
+-- the hidden quantities of a sheet that are below quantity q are those of the set, which has no others
+pub record LowerHidden (n set q : ℕ) (hidden : ℕ → Bool) : Type 0 where
+  pub lower : (i : ℕ) → 1 ≤ i → i < q → hidden i ≡ hiddenIn set i
+  pub none : (i : ℕ) → q ≤ i → i ≤ n → hiddenIn set i ≡ false
+
+-- the step of quantity q as one of those by which a sheet's key is made: it is begun where these come to q and, where q is hidden, ends where they go on; with none hidden past q its end is the key
+pub record KeyStep (n set q : ℕ) (sheet : List ℤ) (hidden : ℕ → Bool) : Type 0 where
+  pub begun : keyOf (hiddenIn set) n sheet ≡ hideUpTo hidden n (q - 1) sheet
+  pub ended : hidden q ≡ true → eliminated n (q - 1) (keyOf (hiddenIn set) n sheet) ≡ hideUpTo hidden n q sheet
+  pub last : hidden q ≡ true → ((i : ℕ) → q < i → i ≤ n → hidden i ≡ false) → eliminated n (q - 1) (keyOf (hiddenIn set) n sheet) ≡ keyOf hidden n sheet
 
 -- a step of quantity q in a table over n quantities followed to a point, those of a set hidden before
 pub record StepFollowed (n set q blocks : ℕ) (table workspace : List ℤ) (r : Reply) (table' workspace' : List ℤ) : Type 0 where
@@ -42,7 +48,7 @@ pub record StepFollowed (n set q blocks : ℕ) (table workspace : List ℤ) (r :
   pub words : table' ≡ cond (isDone r) (stepOf (hiddenIn set) n q blocks table) table
   pub rest : drop (blockStart n) table' ≡ drop (blockStart n) table
   pub lent : Lent (blockStart n) (freesWorkspace r) workspace workspace'
-  -- the step is begun on the key for the set, and is that of a sheet's own key where the set is the part of its hidden ones below q
+  -- the step is begun on the key for the set, and is one of those of the sheet's own key where the set has its hidden ones below q
   pub start : replyNumber r ≡ 0 → KeyMade n set table (keyOf (hiddenIn set) n table)
-  pub turn : replyNumber r ≡ 0 → KeyComesTo n set q table
+  pub turn : replyNumber r ≡ 0 → (hidden : ℕ → Bool) → LowerHidden n set q hidden → KeyStep n set q table hidden
   pub reached : replyNumber r ≡ 0 → PointReached n (q - 1) blocks (keyOf (hiddenIn set) n table) table'

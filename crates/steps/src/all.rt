@@ -3,7 +3,7 @@ ghost use Prim.Native.Nat.{_≤_};
 ghost use lib.ListN.{length};
 ghost use Rattle.steps.specs.Inner.{AllListed};
 
-// Lists all of `n` quantities in increasing number, each by its number less one. Words of `out` past them stay.
+// Lists all of `n` quantities in increasing number, each by its number less one. Words of `out` past them are free.
 pub(crate) fn list(n: usize, out: &mut [usize])
     requires { ⌜ n ≤ length (now out) ⌝ }
     ensures { λ _. ⌜ AllListed n (now (out .exit)) ⌝ }

@@ -78,7 +78,7 @@ loop-again c =
       omega arith,
       c .before .pair-block .kept .0 ∙ l .inv .1,
       rw (add-one (l .i))
-          (c .before .pair-block .ensures .sums .table ∙ own
+          (c .before .pair-block .ensures .words .table ∙ own
           ∙ blocks-next live (s .pre .listed .rising) plus minus p m n (l .i) t (omega arith) (s .pre .listed .below (l .i) (omega arith))),
     )
 

@@ -126,7 +126,7 @@ uint32_t acornsled_tight_key(size_t n, uint32_t hidden, int64_t *table, size_t t
  * a rule with -quantity, by minimum, and changes no word outside of it: each word of it that does not name `quantity` is then as
  * the whole step leaves it. Words that name `quantity` stay until all blocks are done. With n blocks all sums are in, and with
  * n + 1 these words have become ACORNSLED_NO_RULE too: the step is at its end. Where `quantity` is higher than all of `before`,
- * that is acornsled_key's key for both together; where it is one of them, the step changes nothing.
+ * that is acornsled_key's key for both together.
  *
  * 1 comes first, then 6, 3 for a set, a bound, a `quantity` or a number of `blocks` outside its limits, and 5. With 0 the table's
  * first 2n^2 words have become that table, and the workspace's are free. The next table is had from the sheet's again, and not

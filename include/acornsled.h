@@ -119,14 +119,14 @@ uint32_t acornsled_tight_key(size_t n, uint32_t hidden, int64_t *table, size_t t
                              size_t workspace_length, size_t *value);
 
 /*
- * Makes the table as it stands in the middle of a hiding step of document 01: 0, or 1, 3, 5, 6, with the workspace of
+ * Makes the table as it stands at a point of a hiding step of document 01: 0, or 1, 3, 5, 6, with the workspace of
  * acornsled_key. The quantities of the set `before` are hidden first, as acornsled_key hides them. Then the step that hides
  * `quantity`, from 1 to n, is begun, and done on its first `blocks` blocks, from 0 to n + 1. The block of q begins at word
  * 2(q - 1)^2 and ends before word 2q^2. The work on it puts in every sum that has its place there, of a rule with +quantity and
  * a rule with -quantity, by minimum, and changes no word outside of it: each word of it that does not name `quantity` is then as
  * the whole step leaves it. Words that name `quantity` stay until all blocks are done. With n blocks all sums are in, and with
  * n + 1 these words have become ACORNSLED_NO_RULE too: the step is at its end. Where `quantity` is higher than all of `before`,
- * that is acornsled_key's key for both together.
+ * that is acornsled_key's key with `quantity` and those of `before` hidden.
  *
  * 1 comes first, then 6, 3 for a set, a bound, a `quantity` or a number of `blocks` outside its limits, and 5. With 0 the table's
  * first 2n^2 words have become that table, and the workspace's are free. The next table is had from the sheet's again, and not

@@ -85,8 +85,8 @@ pub extern "C" fn acornsled_tight_key(
     reply.number()
 }
 
-// Follows the step that hides `quantity`, those of the set `before` hidden before it: where it answers 0, the table's first 2n² words have become the table with the step's first blocks done, so many,
-// and, with n + 1 for their number, with the quantity's places cleared too. The workspace needs 2n² words.
+// Follows the step that hides `quantity`, those of the set `before` hidden before it: where it answers 0, the table's first 2n² words have become the table with the step's first `blocks`
+// blocks done, and, with n + 1 for them, with the quantity's places cleared too. The workspace needs 2n² words.
 #[no_mangle]
 pub extern "C" fn acornsled_step(
     n: usize,

@@ -3,7 +3,7 @@ use mathlib.Core.Path.{_≡_, refl, sym, _∙_, ap}
 use mathlib.Core.Bool.{Bool, true, false, cond, _&&_, _||_, or-false}
 use mathlib.Core.List.{List}
 use mathlib.Core.Logic.{_⊎_, inl, inr}
-use Prim.Native.Nat.{ℕ, suc, _/_, _≤_, _<_}
+use Prim.Native.Nat.{ℕ, suc, _+_, _*_, _/_, _≤_, _<_}
 use native.Mathlib.Omega.{arith}
 use lib.Dec.{ltb}
 use lib.IntN.{ℤ}
@@ -20,10 +20,10 @@ use Rattle.rules.specs.Meaning.{boundOf, names}
 use Rattle.tables.specs.Places.{findPlace}
 use Rattle.tables.specs.Meaning.{ruleIn}
 use Rattle.tables.proofs.Tests.{neither}
-use Rattle.elimination.specs.Hiding.{every, liveAt, pairing, paired, eliminated}
+use Rattle.elimination.specs.Hiding.{every, loneWord, liveAt, pairing, paired, eliminated}
 use Rattle.elimination.specs.ByRules.{IsSum}
 use Rattle.elimination.specs.Blocks.{InBlock, BlockAlone, StepBegun, BlockDone, HiddenByBlocks}
-use Rattle.elimination.specs.Inner.{among, BlockPaired}
+use Rattle.elimination.specs.Inner.{among, Ready, Gathered, NamesAlone, BlockPaired}
 use Rattle.elimination.specs.Promises.{BlockWorked}
 use Rattle.elimination.proofs.PairedWords.{paired-at}
 use Rattle.elimination.proofs.Step.{paired-length}
@@ -134,6 +134,18 @@ module _ (b : ℕ) (live : List ℕ) (plus minus : List ℤ) (p m : ℤ) (before
 
   pub block-worked : BlockWorked b live plus minus p m before after
   block-worked = record { words = d; alone = alone; done = done }
+
+-- a step comes so to each block with the rows that are gathered for it
+pub step-begun : (n j b : ℕ) (live : List ℕ) (t plus minus : List ℤ) (p m : ℤ) → Ready n j t → NamesAlone n j live t → Gathered n j live t plus minus
+    → p ≡ loneWord t (2 * j) → m ≡ loneWord t (2 * j + 1) → b < n → StepBegun n j b live t plus minus p m
+step-begun n j b live t plus minus p m r a g e d h = record {
+  ready = r;
+  inside = h;
+  alone = λ i l o q. a i (omega arith) o q;
+  rows = g;
+  plus-alone = e;
+  minus-alone = d;
+}
 
 -- ---- all blocks
 

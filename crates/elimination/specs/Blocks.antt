@@ -31,7 +31,7 @@ pub record BlockAlone (b : ℕ) (before after : List ℤ) : Type 0 where
   pub outside : (k : ℕ) → (InBlock b k → ⊥) → wordAt after k ≡ wordAt before k
 
 -- the step that hides quantity j + 1 of n is begun on the table `start`, and comes to the block of quantity b + 1: the rows have the bounds of its rules with live quantities, p and m are those of the quantity
--- alone, and of the quantities up to b + 1 its rules name itself and live ones alone
+-- alone, and no rule of `start` names a quantity up to b + 1 that is neither j + 1 nor live
 pub record StepBegun (n j b : ℕ) (live : List ℕ) (start plus minus : List ℤ) (p m : ℤ) : Type 0 where
   pub ready : Ready n j start
   pub inside : b < n
@@ -47,8 +47,8 @@ pub record BlockDone (n j b : ℕ) (start before after : List ℤ) : Type 0 wher
   pub whole : (k : ℕ) → InBlock b k → names (suc j) (ruleIn start k) ≡ false → wordAt after k ≡ wordAt (eliminated n j start) k
   pub named : (k : ℕ) → InBlock b k → names (suc j) (ruleIn start k) ≡ true → wordAt after k ≡ wordAt start k
 
--- 'all sums that land in one block are put in before the next block is begun': the tables between, b blocks done in `tables b`, each by the work on the next block alone; in the end the places that name
--- the quantity are cleared
+-- 'all sums that land in one block are put in before the next block is begun': `tables b` is the table when the first b blocks are done, each by the work on that block alone; in the end the places that
+-- name the quantity are cleared. So the whole step can be taken apart; that a program takes it in this order its code shows
 pub record HiddenByBlocks (n j : ℕ) (start after : List ℤ) : Type 0 where
   pub tables : ℕ → List ℤ
   pub first : tables 0 ≡ start

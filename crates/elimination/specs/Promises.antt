@@ -19,8 +19,8 @@ use Rattle.elimination.specs.Inner.{BlockPaired}
 use Rattle.elimination.specs.Choosing.{choice}
 use Rattle.elimination.specs.Feasible.{Feasible}
 
--- the work on the block of quantity b + 1 (document 02, request 4), given rows and the bounds p and m: the words, and that no word outside the block changes, whatever rows and bounds are. Where a step has come to
--- the block, and it stands as at the step's start, each of its words that does not name the hidden quantity is left as the whole step leaves it, whatever the other blocks have become
+-- the work on the block of quantity b + 1 (document 02, request 4), given rows and the bounds p and m: the words, and that no word outside the block changes, whatever the rows and bounds are. Where a step has come to
+-- the block, and the block stands as at the step's start, each of its words that does not name the hidden quantity is left as the whole step leaves it, whatever the other blocks have become
 pub record BlockWorked (b : ℕ) (live : List ℕ) (plus minus : List ℤ) (p m : ℤ) (before after : List ℤ) : Type 0 where
   pub words : BlockPaired b live plus minus p m before after
   pub alone : BlockAlone b before after
@@ -32,7 +32,7 @@ pub record Paired (live : ℕ → Bool) (n j : ℕ) (before : List ℤ) (r : Boo
   pub table : after ≡ paired live n j before
 
 -- quantity j + 1 hidden, and whether a sum is a contradiction: place by place, and in document 01's words, each sum being the one that `Rule::sum` hands back. The
--- bounds at most double. It is made one block after another. Where there is no contradiction, the table allows just what some integer for the quantity completes; where there is one, nothing
+-- bounds at most double. There are tables between by which it is made one block after another. Where there is no contradiction, the table allows just what some integer for the quantity completes; where there is one, nothing
 -- satisfied the table
 pub record QuantityHidden (n j : ℕ) (before : List ℤ) (r : Bool) (after : List ℤ) : Type 0 where
   pub reply : r ≡ contradicts every n j before

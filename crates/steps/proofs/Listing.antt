@@ -2,7 +2,7 @@
 use mathlib.Core.Path.{_≡_, refl, sym, _∙_}
 use mathlib.Core.Bool.{Bool, true, false, _&&_, _||_}
 use mathlib.Core.List.{List}
-use Prim.Native.Nat.{ℕ, suc, _/_, _≤_, _<_}
+use Prim.Native.Nat.{ℕ, suc, _+_, _*_, _/_, _≤_, _<_}
 use native.Mathlib.Omega.{arith}
 use lib.Dec.{eqb}
 use lib.IntN.{ℤ}
@@ -13,8 +13,9 @@ use Rattle.words.proofs.Change.{change-same}
 use Rattle.places.specs.Numbering.{blockStart, isOne, higherAt, lowerAt}
 use Rattle.places.proofs.Numbering.{at-lower, at-below}
 use Rattle.tables.proofs.Tests.{clash}
-use Rattle.elimination.specs.Hiding.{every, liveAt, pairing, paired}
-use Rattle.elimination.specs.Inner.{among, Listed, NamesAlone}
+use Rattle.elimination.specs.Hiding.{every, loneWord, liveAt, pairing, paired}
+use Rattle.elimination.specs.Inner.{among, Listed, Ready, Gathered, NamesAlone}
+use Rattle.elimination.specs.Blocks.{StepBegun}
 use Rattle.elimination.proofs.Lists.{listed-at, listed-place}
 use Rattle.elimination.proofs.Blocks.{blocks-over}
 use Rattle.steps.specs.Inner.{AllListed}
@@ -89,3 +90,15 @@ module _ (n b : ℕ) (out : List ℕ) (a : AllListed n out) (h : b ≤ n) where
 -- the rules of a table name quantities of all alone
 pub all-alone : (n j : ℕ) (t : List ℤ) (out : List ℕ) → AllListed n out → NamesAlone n j (take n out) t
 all-alone n j t out a i h d e = clash (first-live n n out a (omega arith) i h) e
+
+-- and with the first of them listed a step comes to each of their blocks
+pub first-begun : (n j blocks b : ℕ) (t plus minus : List ℤ) (p m : ℤ) (out : List ℕ) → AllListed n out → blocks ≤ n → b < blocks → Ready n j t
+    → Gathered n j (take blocks out) t plus minus → p ≡ loneWord t (2 * j) → m ≡ loneWord t (2 * j + 1) → StepBegun n j b (take blocks out) t plus minus p m
+first-begun n j blocks b t plus minus p m out a h l r g e d = record {
+  ready = r;
+  inside = omega arith;
+  alone = λ i c o q. clash (first-live n blocks out a h i (omega arith)) q;
+  rows = g;
+  plus-alone = e;
+  minus-alone = d;
+}

@@ -21,8 +21,7 @@ use Rattle.keys.specs.Promises.{KeyMade}
 use Rattle.steps.specs.Steps.{stepOf, stepReply}
 use Rattle.steps.specs.Meaning.{stepNeedsThen, stepNeeds}
 
--- a table at a point of the step that hides quantity j + 1, which is begun on the table `start` and made one block after another: the table between with so many blocks done, or the end. There is one such table
--- between, for the work on a block leaves no word of it open
+-- a table at a point of the step that hides quantity j + 1, which is begun on the table `start` and made one block after another: the table between with so many blocks done, or the end.
 pub record PointReached (n j blocks : ℕ) (start table : List ℤ) : Type 0 where
   pub step : HiddenByBlocks n j start (eliminated n j start)
   pub between : blocks ≤ n → table ≡ step .tables blocks
@@ -33,7 +32,8 @@ pub record LowerHidden (n set q : ℕ) (hidden : ℕ → Bool) : Type 0 where
   pub lower : (i : ℕ) → 1 ≤ i → i < q → hidden i ≡ hiddenIn set i
   pub none : (i : ℕ) → q ≤ i → i ≤ n → hiddenIn set i ≡ false
 
--- the step of quantity q as one of those by which a sheet's key is made: it is begun where these come to q and, where q is hidden, ends where they go on; with none hidden past q its end is the key
+-- the step of quantity q as one of those by which a sheet's key is made: it begins with the table that the steps below q leave; where q is hidden it ends with the table that the steps up to q leave, which is the key where
+-- none past q is hidden
 pub record KeyStep (n set q : ℕ) (sheet : List ℤ) (hidden : ℕ → Bool) : Type 0 where
   pub begun : keyOf (hiddenIn set) n sheet ≡ hideUpTo hidden n (q - 1) sheet
   pub ended : hidden q ≡ true → eliminated n (q - 1) (keyOf (hiddenIn set) n sheet) ≡ hideUpTo hidden n q sheet

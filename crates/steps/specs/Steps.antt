@@ -11,8 +11,8 @@ use Rattle.tables.specs.Replies.{check}
 use Rattle.elimination.specs.Hiding.{every, paired, eliminated}
 use Rattle.keys.specs.Keys.{keyOf, refuted, keyChecks}
 
--- a table over n quantities at a point of the step that hides quantity j + 1: the first blocks done, so many; past the last one the quantity's places are cleared too. The first b blocks are the table of the first b
--- quantities, and `paired` with b for n puts in just the sums that land there
+-- a table over n quantities at a point of the step that hides quantity j + 1: with its first `blocks` blocks done; where `blocks` is more than n, with all done and the quantity's places cleared. The first b blocks are
+-- the table of the first b quantities, and `paired` with b for n puts in just the sums that land there; the rules that are added are read from the whole table, also where the quantity is past b
 unfoldable pub stepAt : ℕ → ℕ → ℕ → List ℤ → List ℤ
 stepAt n j blocks t = cond (leb blocks n) (paired every blocks j t) (eliminated n j t)
 

@@ -36,7 +36,7 @@ fn follow_in(
     hide::hide(n, table, j, &list[..n], plus, minus);
 }
 
-// Begins the step that hides quantity `j + 1` and does its first blocks, so many; where these are more than `n`, also the clearing.
+// Does the first `blocks` blocks of the step that hides quantity `j + 1`, and, where that is more than `n`, all of them and the clearing. List and rows have room for every `n`: this step is there to be read.
 fn follow(n: usize, table: &mut [i64], j: usize, blocks: usize)
     requires { ⌜ Ready n j (now table) ⌝ }
     ensures { λ _. ⌜ now (table .exit) ≡ stepAt n j blocks (now (table .entry)) ⌝ }
@@ -74,8 +74,8 @@ fn check(
     Reply::Done
 }
 
-// Replaces the sheet's table over `n` quantities by the table at a point of the step that hides `quantity`, those of the set `before` hidden before it: as it stands when the first blocks are done, so many, and, with
-// `n + 1` for their number, when the quantity's places are cleared too.
+// Replaces the sheet's table over `n` quantities by the table at a point of the step that hides `quantity`, those of the set `before` hidden before it: as it stands when the first `blocks` blocks are done, and, with
+// `n + 1` for them, when the quantity's places are cleared too.
 pub fn step(
     n: usize,
     before: Set,

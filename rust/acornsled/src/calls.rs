@@ -98,7 +98,7 @@ pub fn tight_key(n: usize, hidden: u32, table: &mut [i64], workspace: &mut [i64]
     Reply { number, value }
 }
 
-/// Replaces the table's first 2n² words by those of the table in the middle of a hiding step: the quantities of the set `before`
+/// Replaces the table's first 2n² words by those of the table at a point of a hiding step: the quantities of the set `before`
 /// are hidden, and of the step that hides `quantity` the first `blocks` blocks are done; with n + 1 the step is at its end. The
 /// workspace needs 2n² words.
 pub fn step(n: usize, before: u32, quantity: usize, blocks: usize, table: &mut [i64], workspace: &mut [i64]) -> Reply {

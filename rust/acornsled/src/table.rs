@@ -55,7 +55,7 @@ impl Table {
         Ok(self)
     }
 
-    /// The table in the middle of a hiding step. The quantities of the set `before` are hidden first, as [`Table::key`] hides
+    /// The table at a point of a hiding step. The quantities of the set `before` are hidden first, as [`Table::key`] hides
     /// them; then the step that hides `quantity` is begun, and done on its first `blocks` blocks. The block of a quantity has the
     /// terms of it alone and of it with each lower quantity; the work on it puts in the sums that have their place there and
     /// changes nothing else. With 0 blocks nothing of the step is done, with as many as there are quantities all sums are in, and
@@ -131,7 +131,7 @@ pub fn tight_key(sheet: &[u8]) -> Result<Vec<u8>, Refusal> {
     Table::read(sheet)?.tight_key()?.text()
 }
 
-/// The text of a sheet's table in the middle of the step that hides `quantity`, as its key is made: those of its hidden
+/// The text of a sheet's table at a point of the step that hides `quantity`, as its key is made: those of its hidden
 /// quantities that are lower are hidden before, and the step is done on its first `blocks` blocks, as by [`Table::step`].
 ///
 /// ```no_run

@@ -5,7 +5,7 @@ use native.Mathlib.Omega.{arith}
 use lib.IntN.{pos, natAbs}
 use lib.ListN.{getD}
 use Rattle.rules.specs.declared.refusal.Refusal.{Refusal}
-use Rattle.rules.specs.declared.refusal.Refusal.the-variants.{Size, Malformed, OutOfLimit, Cancelling, NoAssignment, TooShort, Mismatch, ListSize}
+use Rattle.rules.specs.declared.refusal.Refusal.the-variants.{Size, Malformed, OutOfLimit, Cancelling, NoAssignment, TooShort, Mismatch, ListSize, NotCanonical}
 use Rattle.rules.specs.Refusal.{Beside, nothing-beside, line-beside, length-beside, besideValues, besideValue, refusalNumber, refusalBeside, refusalValue, refusalLine, Returned, refusedAs}
 
 -- the refusal of a number and a value
@@ -18,7 +18,8 @@ refusalFor (suc (suc (suc (suc zero)))) v = Cancelling v
 refusalFor (suc (suc (suc (suc (suc zero))))) v = NoAssignment
 refusalFor (suc (suc (suc (suc (suc (suc zero)))))) v = TooShort v
 refusalFor (suc (suc (suc (suc (suc (suc (suc zero))))))) v = Mismatch
-refusalFor (suc (suc (suc (suc (suc (suc (suc (suc k)))))))) v = ListSize
+refusalFor (suc (suc (suc (suc (suc (suc (suc (suc zero)))))))) v = ListSize
+refusalFor (suc (suc (suc (suc (suc (suc (suc (suc (suc k))))))))) v = NotCanonical v
 
 -- it is the one whose number and value they are
 refusal-for : (f : Refusal) → refusalFor (refusalNumber f) (refusalValue f) ≡ f
@@ -31,6 +32,7 @@ refusal-for NoAssignment = refl
 refusal-for (TooShort needed) = refl
 refusal-for Mismatch = refl
 refusal-for ListSize = refl
+refusal-for (NotCanonical line) = refl
 
 -- so two refusals with the same ones are the same
 pub same-refusal-value : (f g : Refusal) → refusalNumber f ≡ refusalNumber g → refusalValue f ≡ refusalValue g → f ≡ g
@@ -58,6 +60,7 @@ refusal-between NoAssignment = (omega arith, omega arith)
 refusal-between (TooShort needed) = (omega arith, omega arith)
 refusal-between Mismatch = (omega arith, omega arith)
 refusal-between ListSize = (omega arith, omega arith)
+refusal-between (NotCanonical line) = (omega arith, omega arith)
 
 pub refusal-number : (f : Refusal) → refusalNumber f ≡ 0 → ⊥
 refusal-number f e = omega (arith, refusal-between f, e)
@@ -75,6 +78,7 @@ line-beside-it NoAssignment h = refl
 line-beside-it (TooShort needed) h = absurd (h refl)
 line-beside-it Mismatch h = refl
 line-beside-it ListSize h = refl
+line-beside-it (NotCanonical line) h = refl
 
 -- so two refusals with the same number, which is not 6, and the same line are the same
 pub same-refusal-line : (f g : Refusal) → (refusalNumber f ≡ 6 → ⊥) → refusalNumber f ≡ refusalNumber g → refusalLine f ≡ refusalLine g → f ≡ g

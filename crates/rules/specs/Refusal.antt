@@ -4,7 +4,7 @@ use Prim.Native.Nat.{ℕ}
 use mathlib.Core.List.{List, [], _∷_}
 use lib.IntN.{ℤ, pos}
 use Rattle.rules.specs.declared.refusal.Refusal.{Refusal}
-use Rattle.rules.specs.declared.refusal.Refusal.the-variants.{Size, Malformed, OutOfLimit, Cancelling, NoAssignment, TooShort, Mismatch, ListSize}
+use Rattle.rules.specs.declared.refusal.Refusal.the-variants.{Size, Malformed, OutOfLimit, Cancelling, NoAssignment, TooShort, Mismatch, ListSize, NotCanonical}
 
 -- the number returned
 abbrev pub refusalNumber : Refusal → ℕ
@@ -16,6 +16,7 @@ refusalNumber NoAssignment = 5
 refusalNumber (TooShort needed) = 6
 refusalNumber Mismatch = 7
 refusalNumber ListSize = 8
+refusalNumber (NotCanonical line) = 9
 
 -- what is returned beside a refusal's number: nothing, the line it is about (0 outside texts), or the length needed
 pub data Beside : Type 0 where
@@ -32,6 +33,7 @@ refusalBeside NoAssignment = nothing-beside
 refusalBeside (TooShort m) = length-beside m
 refusalBeside Mismatch = nothing-beside
 refusalBeside ListSize = nothing-beside
+refusalBeside (NotCanonical l) = line-beside l
 
 -- the same as values
 abbrev pub besideValues : Beside → List ℤ

@@ -19,6 +19,8 @@ pub enum Refusal {
     Mismatch,
     // 8: a list of questions that is empty, or longer than 64
     ListSize,
+    // 9: a rule that a bank sheet may not have there
+    NotCanonical { line: usize },
 }
 
 // The number of a refusal.
@@ -34,6 +36,7 @@ pub fn number(r: Refusal) -> u32
         Refusal::TooShort { needed: _ } => 6,
         Refusal::Mismatch => 7,
         Refusal::ListSize => 8,
+        Refusal::NotCanonical { line: _ } => 9,
     }
 }
 
@@ -50,6 +53,7 @@ pub fn value(r: Refusal) -> usize
         Refusal::TooShort { needed } => needed,
         Refusal::Mismatch => 0,
         Refusal::ListSize => 0,
+        Refusal::NotCanonical { line } => line,
     }
 }
 
@@ -66,5 +70,6 @@ pub fn line(r: Refusal) -> usize
         Refusal::TooShort { needed: _ } => 0,
         Refusal::Mismatch => 0,
         Refusal::ListSize => 0,
+        Refusal::NotCanonical { line } => line,
     }
 }

@@ -34,13 +34,17 @@ rulesFrom n limit zero line (b ∷ u) = refused (Malformed line)
 rulesFrom n limit (suc k) line u =
     onward (ruleJudged n limit line u) (λ r v. onward (rulesFrom n limit k (suc line) v) (λ rs. accepted (r ∷ rs)))
 
--- the lines of a text, taken as a paper: its header gives the limit of its bounds
-unfoldable pub linesFrom : Paper → List ℕ → Judged Contents
-linesFrom paper s =
+-- the three lines before the rules; what follows them goes on with n, the hidden list, N and the bytes after them
+abbrev pub afterHeader : {A : Type 0} → List ℕ → (ℕ → List ℕ → ℕ → List ℕ → Judged A) → Judged A
+afterHeader s next =
     onward (countJudged quantitiesKey 1 maxQuantities 1 s) (λ n u.
     onward (hiddenJudged n 2 u) (λ qs v.
-    onward (countJudged rulesKey 0 maxRules 3 v) (λ m w.
-    onward (rulesFrom n (boundRange paper n (length qs)) m 4 w) (λ rs. accepted (record { count = n; hiddens = qs; written = rs })))))
+    onward (countJudged rulesKey 0 maxRules 3 v) (λ m w. next n qs m w)))
+
+-- the lines of a text, taken as a paper: its header gives the limit of its bounds
+unfoldable pub linesFrom : Paper → List ℕ → Judged Contents
+linesFrom paper s = afterHeader s (λ n qs m w.
+    onward (rulesFrom n (boundRange paper n (length qs)) m 4 w) (λ rs. accepted (record { count = n; hiddens = qs; written = rs })))
 
 -- what a text writes, or its refusal: 1 for its size, else that of the first line that fails
 unfoldable pub checkText : Paper → List ℕ → Judged Contents

@@ -1,0 +1,23 @@
+// The place of a rule as a bank sheet writes it.
+use places::Place;
+use rules::rule::Rule;
+use tables::place;
+ghost use mathlib.Core.Path.{_≡_};
+ghost use Rattle.bank.specs.Banking.{canonicalPlace};
+
+// Where a rule's term stands that is of one quantity, or of two with the lower one first; any other rule, as one with a doubled term, has no place here.
+pub fn canonical_place(rule: Rule) -> Place
+    ensures { λ r. ⌜ r ≡ canonicalPlace rule ⌝ }
+{
+    if let Rule::Two {
+        first,
+        second,
+        bound: _,
+    } = rule
+    {
+        if second / 2 <= first / 2 {
+            return Place::Nowhere;
+        }
+    }
+    place::place_of(rule)
+}

@@ -52,6 +52,25 @@ pub fn read(text: &[u8], table: &mut [i64], header: &mut Header) -> Reply {
     Reply { number, value }
 }
 
+/// As [`read`], of a text in bank form: a rule line that is fine by itself is refused with 9 where its term is doubled, its
+/// higher quantity stands first, or its place is not after that of the rule before it.
+pub fn bank_read(text: &[u8], table: &mut [i64], header: &mut Header) -> Reply {
+    let mut value = UNWRITTEN;
+    // SAFETY: as above.
+    let number = unsafe {
+        sys::acornsled_bank_read(
+            text.as_ptr(),
+            text.len(),
+            table.as_mut_ptr(),
+            table.len(),
+            &mut header.quantities,
+            &mut header.hidden,
+            &mut value,
+        )
+    };
+    Reply { number, value }
+}
+
 /// Writes the table's text to the first bytes of `out`; the value is its length.
 pub fn write(n: usize, hidden: u32, table: &[i64], out: &mut [u8]) -> Reply {
     let mut value = UNWRITTEN;

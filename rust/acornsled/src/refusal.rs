@@ -24,6 +24,9 @@ pub enum Refusal {
     Mismatch,
     /// 8: the list of questions is empty or has more than 64
     ListSize,
+    /// 9: a rule of a bank sheet has a doubled term or its higher quantity first, or its place is not after that of the rule
+    /// before it
+    NotCanonical { line: usize },
 }
 
 impl Refusal {
@@ -38,13 +41,17 @@ impl Refusal {
             Refusal::TooShort { .. } => 6,
             Refusal::Mismatch => 7,
             Refusal::ListSize => 8,
+            Refusal::NotCanonical { .. } => 9,
         }
     }
 
     /// The line that it is about, 0 where it is about none.
     pub fn line(self) -> usize {
         match self {
-            Refusal::Malformed { line } | Refusal::OutOfLimit { line } | Refusal::Cancelling { line } => line,
+            Refusal::Malformed { line }
+            | Refusal::OutOfLimit { line }
+            | Refusal::Cancelling { line }
+            | Refusal::NotCanonical { line } => line,
             Refusal::Size
             | Refusal::NoAssignment
             | Refusal::TooShort { .. }
@@ -70,6 +77,7 @@ impl Refusal {
             6 => Some(Refusal::TooShort { needed: value }),
             7 => Some(Refusal::Mismatch),
             8 => Some(Refusal::ListSize),
+            9 => Some(Refusal::NotCanonical { line: value }),
             _ => panic!("the library answers {number}, which is no refusal"),
         }
     }
@@ -86,6 +94,7 @@ impl fmt::Display for Refusal {
             Refusal::TooShort { needed } => return write!(f, "refused with 6: what is lent is shorter than {needed}"),
             Refusal::Mismatch => "the script does not fit the sheet",
             Refusal::ListSize => "the list of questions is empty or has more than 64",
+            Refusal::NotCanonical { .. } => "a rule that is not in bank form, or not in place order",
         };
         match self.line() {
             0 => write!(f, "refused with {}: {what}", self.number()),

@@ -12,6 +12,16 @@ extern "C" {
         value: *mut usize,
     ) -> u32;
 
+    pub fn acornsled_bank_read(
+        text: *const u8,
+        text_length: usize,
+        table: *mut i64,
+        table_length: usize,
+        quantities: *mut usize,
+        hidden: *mut u32,
+        value: *mut usize,
+    ) -> u32;
+
     pub fn acornsled_write(
         n: usize,
         hidden: u32,

@@ -21,9 +21,20 @@ pub struct Table {
 impl Table {
     /// The table of a text.
     pub fn read(text: &[u8]) -> Result<Table, Refusal> {
+        Table::read_by(calls::read, text)
+    }
+
+    /// The table of a text in bank form: its rules in place order, each place once, the lower quantity first and no doubled
+    /// term, so that the text is the table's own, as [`Table::text`] gives it. Any other text that [`Table::read`] accepts is
+    /// refused with 9.
+    pub fn read_bank(text: &[u8]) -> Result<Table, Refusal> {
+        Table::read_by(calls::bank_read, text)
+    }
+
+    fn read_by(call: fn(&[u8], &mut [i64], &mut Header) -> Reply, text: &[u8]) -> Result<Table, Refusal> {
         let mut words = vec![0; TABLE_WORDS];
         let mut header = Header { quantities: 0, hidden: 0 };
-        done(calls::read(text, &mut words, &mut header))?;
+        done(call(text, &mut words, &mut header))?;
         let Header { quantities, hidden } = header;
         words.truncate(2 * quantities * quantities);
         Ok(Table { quantities, hidden, words })

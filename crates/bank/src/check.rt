@@ -20,14 +20,7 @@ ghost use Rattle.bank.specs.Banking.{orderedFrom};
 ghost use Rattle.bank.specs.Promises.{BankChecked};
 
 // Checks the lines of `count` rules from the cursor `body` on, the first being line 4, each after the one before by its place, and that nothing follows them; `n` and `hidden` go into the answer.
-fn check_rules(
-    s: &[u8],
-    n: usize,
-    hidden: Set,
-    limit: u64,
-    count: usize,
-    body: usize,
-) -> Checked
+fn check_rules(s: &[u8], n: usize, hidden: Set, limit: u64, count: usize, body: usize) -> Checked
     requires { ⌜ (1 ≤ n) × (n ≤ maxQuantities) × (limit < cap) × (count ≤ maxRules) ⌝ }
     ensures { λ r. ⌜ r ≡ checkedRules n hidden count body (orderedFrom n limit 0 count 4 (drop body (now (s .entry)))) ⌝ }
 {

@@ -13,8 +13,7 @@ pub fn canonical_place(rule: Rule) -> Place
         first,
         second,
         bound: _,
-    } = rule
-    {
+    } = rule {
         if second / 2 <= first / 2 {
             return Place::Nowhere;
         }

@@ -1,14 +1,12 @@
--- Each way of checking a text: it is too long, one of its header lines is refused, or the lines of its rules decide. Assumes nothing.
+-- Each way of checking a text: its size or its header is refused, or the lines of its rules decide. Assumes nothing.
 use mathlib.Core.Path.{_≡_, refl, sym, _∙_, ap, ap₂}
 use mathlib.Core.List.{List, _++_}
-use Prim.Native.Nat.{ℕ, _+_, _≤_, _<_}
+use Prim.Native.Nat.{ℕ, _+_}
 use native.Mathlib.Omega.{arith}
 use lib.ListN.{length, drop, length-append, length-drop}
-use borrow.Author.Tests.{lt-ltb, le-ltb}
 use Rattle.rules.specs.declared.paper.Paper.{Paper}
 use Rattle.rules.specs.declared.refusal.Refusal.{Refusal}
-use Rattle.rules.specs.declared.refusal.Refusal.the-variants.{Size}
-use Rattle.rules.specs.Limits.{maxQuantities, boundRange, boundLimit, maxRules, maxText}
+use Rattle.rules.specs.Limits.{maxQuantities, boundRange, boundLimit, maxRules}
 use Rattle.lines.specs.Spelling.{Line, Written, quantities, hidden, rules, quantitiesKey, rulesKey, lineText, allWithin}
 use Rattle.lines.specs.Lines.{Judged, accepted, refused, never, between, countLine, hiddenLine, countJudged, hiddenJudged}
 use Rattle.rules.specs.Hidden.{setOf}
@@ -17,9 +15,11 @@ use Rattle.lines.proofs.Found.{by-accepted}
 use Rattle.reading.specs.declared.check.Checked.the-variants.{Passed}
 use Rattle.reading.specs.declared.check.Checked.the-variants.{Refused as Failed}
 use Rattle.reading.specs.Texts.{Contents, linesText, headerText}
-use Rattle.reading.specs.Reading.{onward, rulesFrom, linesFrom, checkText, checkedOf}
+use Rattle.reading.specs.Reading.{onward, rulesFrom, linesFrom, checkText, checkHeader, checkedOf}
 use Rattle.reading.specs.Inner.{checkedRules}
+use Rattle.reading.proofs.Limits.{list-limit}
 use Rattle.reading.proofs.RuleLines.{rules-count}
+use Rattle.reading.proofs.CheckedHeaders.{HeaderFound, header-ends, header-goes}
 
 -- ---- where the rule lines begin
 
@@ -52,46 +52,31 @@ header-end c s u v w e d g =
 
 -- ---- each way of the check
 
--- it is too long
-pub size-checked : (paper : Paper) (s : List ℕ) → maxText < length s → Failed Size ≡ checkedOf (checkText paper s)
-unfolding checkText checkedOf
-size-checked paper s h = rw (lt-ltb maxText (length s) h)
+-- the size or the header is refused
+pub header-checked : (paper : Paper) (s : List ℕ) (f : Refusal) → checkHeader s ≡ refused f → Failed f ≡ checkedOf (checkText paper s)
+unfolding checkText linesFrom checkedOf
+header-checked paper s f e = sym (ap checkedOf (header-ends s _ f e))
 
-module _ (paper : Paper) (s : List ℕ) (h : length s ≤ maxText) where
-  -- its first line is refused
-  pub first-checked : (f : Refusal) → countJudged quantitiesKey 1 maxQuantities 1 s ≡ refused f → Failed f ≡ checkedOf (checkText paper s)
-  unfolding checkText checkedOf linesFrom onward
-  first-checked f e = rw (le-ltb maxText (length s) h, e)
+-- the lines of the rules decide
+pub rules-checked : (paper : Paper) (s : List ℕ) (n set m body : ℕ) (h : HeaderFound s n set m body)
+    → checkedRules n set m body (rulesFrom n (boundLimit paper n set) m 4 (drop body s)) ≡ checkedOf (checkText paper s)
+unfolding checkText linesFrom onward checkedOf checkedRules
+rules-checked paper s n set m body h =
+    rw (h .told, list-limit paper n (h .members) (h .increase) (h .within))
+    (go (rulesFrom n limit m 4 (drop body s)) refl ∙ sym (ap checkedOf (header-goes s _ n set m body h)))
+  where
+    limit : ℕ
+    limit = boundRange paper n (length (h .members))
 
-  module _ (n : ℕ) (u : List ℕ) (e : countJudged quantitiesKey 1 maxQuantities 1 s ≡ accepted n u) where
-    -- its second line is
-    pub second-checked : (f : Refusal) → hiddenJudged n 2 u ≡ refused f → Failed f ≡ checkedOf (checkText paper s)
-    unfolding checkText checkedOf linesFrom onward
-    second-checked f d = rw (le-ltb maxText (length s) h, e, d)
+    made : List Written → Contents
+    made ws = record { count = n; hiddens = h .members; written = ws }
 
-    module _ (qs v : List ℕ) (d : hiddenJudged n 2 u ≡ accepted qs v) where
-      -- its third line is
-      pub third-checked : (f : Refusal) → countJudged rulesKey 0 maxRules 3 v ≡ refused f → Failed f ≡ checkedOf (checkText paper s)
-      unfolding checkText checkedOf linesFrom onward
-      third-checked f g = rw (le-ltb maxText (length s) h, e, d, g)
+    begins : (ws : List Written) → length ws ≡ m → body ≡ length (headerText (made ws))
+    begins ws k =
+        omega (arith, header-end (made ws) s (h .second) (h .third) (drop body s) (h .counts) (h .hides) (rw k (h .rules)), length-drop body s, h .inside)
 
-      -- the lines of the rules decide
-      pub rules-checked : (set m body : ℕ) → set ≡ setOf qs → boundLimit paper n (setOf qs) ≡ boundRange paper n (length qs) → body ≤ length s
-          → countJudged rulesKey 0 maxRules 3 v ≡ accepted m (drop body s)
-          → checkedRules n set m body (rulesFrom n (boundLimit paper n set) m 4 (drop body s)) ≡ checkedOf (checkText paper s)
-      unfolding checkText linesFrom onward checkedOf checkedRules
-      rules-checked set m body told limit l g =
-          rw (told, limit, le-ltb maxText (length s) h, e, d, g) (go (rulesFrom n (boundRange paper n (length qs)) m 4 (drop body s)) refl)
-        where
-          made : List Written → Contents
-          made ws = record { count = n; hiddens = qs; written = ws }
-
-          begins : (ws : List Written) → length ws ≡ m → body ≡ length (headerText (made ws))
-          begins ws k = omega (arith, header-end (made ws) s u v (drop body s) e d (rw k g), length-drop body s)
-
-          go : (j : Judged (List Written)) → rulesFrom n (boundRange paper n (length qs)) m 4 (drop body s) ≡ j
-              → checkedRules n (setOf qs) m body j ≡ checkedOf (onward j (λ rs. accepted (made rs)))
-          go (accepted ws x) q =
-              let k : length ws ≡ m = rules-count n (boundRange paper n (length qs)) m 4 (drop body s) ws x q .0 in
-              ap₂ (Passed n (setOf qs)) (sym k) (begins ws k)
-          go (refused f) q = refl
+    go : (j : Judged (List Written)) → rulesFrom n limit m 4 (drop body s) ≡ j
+        → checkedRules n (setOf (h .members)) m body j ≡ checkedOf (onward j (λ rs. accepted (made rs)))
+    go (accepted ws x) q =
+        let k : length ws ≡ m = rules-count n limit m 4 (drop body s) ws x q .0 in ap₂ (Passed n (setOf (h .members))) (sym k) (begins ws k)
+    go (refused f) q = refl

@@ -29,11 +29,13 @@ use Rattle.reading.specs.declared.check.Checked.{Checked}
 use Rattle.reading.specs.declared.check.Checked.the-variants.{Passed}
 use Rattle.reading.specs.declared.check.Checked.the-variants.{Refused as Failed}
 use Rattle.reading.specs.Meaning.{Passes}
-use Rattle.reading.specs.Reading.{rulesFrom, checkText, checkedOf, filled}
+use Rattle.reading.specs.Reading.{rulesFrom, checkText, checkHeader, headerOf, checkedOf, filled}
 use Rattle.reading.specs.Inner.{checkedRules, RulesFilled}
 use Rattle.reading.specs.Promises.{TextFilled}
 use Rattle.reading.proofs.Means.{reads-check}
 use Rattle.reading.proofs.CheckedTexts.{not-failed, checked-passes, check-promised}
+use Rattle.reading.proofs.CheckedHeaders.{header-failed}
+use Rattle.reading.proofs.Checking.{header-checked}
 use Rattle.reading.proofs.Headers.{Opened, passed-opened}
 use Rattle.reading.proofs.Fronts.{put-past, filled-from}
 use Rattle.reading.proofs.Filling.{Filling, emptied-table, put-table, found-accepted, filling-begins, filling-again, filling-over}
@@ -138,9 +140,14 @@ past-largest n t u h e =
     ∙ drop-drop (blockStart maxQuantities - blockStart n) (blockStart n) t)
 
 -- where the header is refused, the table stays
-pub header-refused : (paper : Paper) (s : List ℕ) (t : List ℤ) (g : Refusal) → Failed g ≡ checkedOf (checkText paper s) → TextFilled paper s t (Failed g) t
-header-refused paper s t g e =
-    record { checked = check-promised paper s (Failed g) e; filled = λ n set m body q. not-failed (sym q); short = λ n set m body q l. refl; rest = refl }
+pub header-refused : (paper : Paper) (s : List ℕ) (t : List ℤ) (r : Checked) (g : Refusal) → r ≡ headerOf s (checkHeader s) → r ≡ Failed g
+    → TextFilled paper s t r t
+header-refused paper s t r g e q = record {
+  checked = check-promised paper s r (q ∙ header-checked paper s g (header-failed s r g e q));
+  filled = λ n set m body d. not-failed (sym d ∙ q);
+  short = λ n set m body d l. refl;
+  rest = refl;
+}
 
 -- the rule lines of a text that passed fill the table that it asks for
 pub rules-fill : (paper : Paper) (s : List ℕ) (n set m body : ℕ) (before : List ℤ) (r : Checked) (after : List ℤ) → Passes paper s n set m body

@@ -28,19 +28,19 @@ use Rattle.reading.proofs.Limits.{contents-told}
 
 -- ---- a bound within its limit is no no-rule word, nor is its half
 
-bound-within : (limit : ℕ) (c : ℤ) → natAbs c ≤ limit → Within (pos limit) c
+pub bound-within : (limit : ℕ) (c : ℤ) → natAbs c ≤ limit → Within (pos limit) c
 unfolding positivePart negativePart
 bound-within limit (pos v) h = within-of (omega arith) (omega arith)
 bound-within limit (negsuc v) h = within-of (omega arith) (omega arith)
 
-within-rule : (limit : ℕ) (c : ℤ) → limit < cap → Within (pos limit) c → hasRule c ≡ true
+pub within-rule : (limit : ℕ) (c : ℤ) → limit < cap → Within (pos limit) c → hasRule c ≡ true
 unfolding positivePart negativePart
 within-rule limit c below w = lt-ltZ c noRule (omega (linear, within-to w))
 
 -- ---- the literal of a term
 
 -- 1 with -, 0 with +
-abbrev signCode : Bool → ℕ
+abbrev pub signCode : Bool → ℕ
 signCode b = cond b 1 0
 
 -- it has one, and this is its code
@@ -55,11 +55,11 @@ literal-code true (suc k) h = omega arith
 literal-code false (suc k) h = omega arith
 
 -- a term over n quantities
-record TermIn (n : ℕ) (x : Term) : Type 0 where
-  some : isNone (signedQuantity x) ≡ false
-  code : literalOf (signedQuantity x) ≡ 2 * (x .quantity - 1) + signCode (x .negative)
-  inside : literalOf (signedQuantity x) / 2 < n
-  least : 1 ≤ x .quantity
+pub record TermIn (n : ℕ) (x : Term) : Type 0 where
+  pub some : isNone (signedQuantity x) ≡ false
+  pub code : literalOf (signedQuantity x) ≡ 2 * (x .quantity - 1) + signCode (x .negative)
+  pub inside : literalOf (signedQuantity x) / 2 < n
+  pub least : 1 ≤ x .quantity
 
 -- its literal's half is below n
 half-code : (q n : ℕ) (b : Bool) → 1 ≤ q → q ≤ n → (2 * (q - 1) + signCode b) / 2 < n
@@ -67,7 +67,7 @@ half-code q n true h l = omega arith
 half-code q n false h l = omega arith
 
 -- the literal of a quantity number within 1 to n
-term-in : (n : ℕ) (x : Term) → quantityWithin n (x .quantity) ≡ true → TermIn n x
+pub term-in : (n : ℕ) (x : Term) → quantityWithin n (x .quantity) ≡ true → TermIn n x
 term-in n x e =
     let p = both-true (leb 1 (x .quantity)) (leb (x .quantity) n) e in
     let l = leb-true 1 (x .quantity) (p .0) in

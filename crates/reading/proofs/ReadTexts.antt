@@ -1,6 +1,7 @@
--- Each way of reading a text into a table: the text is refused, the table is too short, or it is filled. Assumes nothing.
-use mathlib.Core.Path.{_≡_, sym, _∙_}
-use mathlib.Core.List.{List, []}
+-- Each way of reading a text that was checked into a table: it was refused, the table is too short, or it is filled; and so of reading it. Assumes nothing.
+use mathlib.Core.Path.{_≡_, refl, sym, _∙_, ap, subst}
+use mathlib.Core.Bool.{Bool, cond}
+use mathlib.Core.List.{List}
 use Prim.Native.Nat.{ℕ, _≤_, _<_}
 use lib.IntN.{ℤ}
 use lib.ListN.{length}
@@ -11,51 +12,68 @@ use Rattle.rules.specs.declared.refusal.Refusal.{Refusal}
 use Rattle.rules.specs.declared.refusal.Refusal.the-variants.{TooShort}
 use Rattle.rules.specs.Limits.{maxQuantities}
 use Rattle.tables.specs.Tables.{tableSize}
-use Rattle.lines.specs.Lines.{accepted}
+use Rattle.lines.specs.Lines.{Judged, accepted, refused}
 use Rattle.reading.specs.declared.check.Checked.{Checked}
+use Rattle.reading.specs.declared.check.Checked.the-variants.{Passed}
 use Rattle.reading.specs.declared.check.Checked.the-variants.{Refused as Failed}
+use Rattle.reading.specs.declared.read.Reading.{Reading}
 use Rattle.reading.specs.declared.read.Reading.the-variants.{Accepted, Refused}
-use Rattle.reading.specs.Reading.{checkText, checkedOf, replyTo, readReply, filled, readTable}
+use Rattle.reading.specs.Texts.{Contents}
+use Rattle.reading.specs.Reading.{checkText, checkedOf, replyTo, readReply, filled, isAccepted, readTable, replyAfter, tableAfter}
 use Rattle.reading.specs.Meaning.{Passes}
-use Rattle.reading.specs.Promises.{ReadInto}
-use Rattle.reading.proofs.Means.{reads-check}
-use Rattle.reading.proofs.CheckedTexts.{failed-refused}
-use Rattle.reading.proofs.Promised.{reading-kept, read-promised}
+use Rattle.reading.specs.Promises.{Vouched, CheckedRead, ReadInto}
+use Rattle.reading.proofs.CheckedTexts.{checked-passes}
+use Rattle.reading.proofs.Promised.{read-promised}
 use Rattle.reading.proofs.Headers.{passed-opened}
 
--- the text is refused
-pub read-refused : (s : List ℕ) (t : List ℤ) (r : Checked) (f : Refusal) → r ≡ checkedOf (checkText Sheet s) → r ≡ Failed f → ReadInto s t (Refused f) t
-unfolding readReply replyTo readTable
-read-refused s t r f e q = read-promised s t (Refused f) t (rw (failed-refused Sheet s r e f q)) (rw (failed-refused Sheet s r e f q))
+-- ---- a text that was checked
 
-module _ (s : List ℕ) (n set m body needed : ℕ) (p : Passes Sheet s n set m body) (k : needed ≡ tableSize n) where
-  -- the text is accepted
-  passed : checkText Sheet s ≡ accepted (p .contents) []
-  passed = reads-check Sheet s (p .contents) (p .reads)
+-- it was refused
+pub read-refused : (s : List ℕ) (t : List ℤ) (r : Checked) (f : Refusal) → r ≡ Failed f → CheckedRead s r t (Refused f) t
+unfolding replyAfter tableAfter
+read-refused s t r f q = record { reply = rw q; words = rw q }
+
+module _ (s : List ℕ) (r : Checked) (n set m body needed : ℕ) (q : r ≡ Passed n set m body) (v : Vouched s r) (k : needed ≡ tableSize n) where
+  -- it passed
+  pub passes : Passes Sheet s n set m body
+  passes = subst (Vouched s) q v
 
   -- the words that are needed are those of the table
   size-is : needed ≡ blockStart n
   unfolding tableSize
-  size-is = let o = passed-opened Sheet s n set m body p in k ∙ rw (le-leb 1 n (o .some), le-leb n maxQuantities (o .most))
+  size-is = let o = passed-opened Sheet s n set m body passes in k ∙ rw (le-leb 1 n (o .some), le-leb n maxQuantities (o .most))
 
   -- there is room
   pub room : (words : ℕ) → needed ≤ words → blockStart n ≤ words
   room words l = rw (← size-is) l
 
   -- the table is too short
-  short-reply : (words : ℕ) → words < needed → readReply s words ≡ Refused (TooShort needed)
-  unfolding readReply replyTo
-  short-reply words l = rw (passed, ← p .counts, ← size-is, lt-ltb words needed l)
-
-  pub read-short : (t : List ℤ) → length t < needed → ReadInto s t (Refused (TooShort needed)) t
-  read-short t l =
-      let e = short-reply (length t) l in read-promised s t (Refused (TooShort needed)) t (sym e) (sym (reading-kept s t (TooShort needed) e))
+  pub read-short : (t : List ℤ) → length t < needed → CheckedRead s r t (Refused (TooShort needed)) t
+  unfolding replyAfter tableAfter
+  read-short t l = record { reply = rw (q, ← size-is, lt-ltb (length t) needed l); words = rw (q, ← size-is, lt-ltb (length t) needed l) }
 
   -- it is filled
-  done-reply : (words : ℕ) → needed ≤ words → readReply s words ≡ Accepted n set
-  unfolding readReply replyTo
-  done-reply words l = rw (passed, ← p .counts, ← size-is, le-ltb words needed l, ← p .hides)
+  pub read-done : (t u : List ℤ) → needed ≤ length t → u ≡ filled (checkText Sheet s) t → CheckedRead s r t (Accepted n set) u
+  unfolding replyAfter tableAfter
+  read-done t u l e = record { reply = rw (q, ← size-is, le-ltb (length t) needed l); words = rw (q, ← size-is, le-ltb (length t) needed l) e }
 
-  pub read-done : (t u : List ℤ) → needed ≤ length t → u ≡ filled (checkText Sheet s) t → ReadInto s t (Accepted n set) u
-  unfolding readTable
-  read-done t u l e = read-promised s t (Accepted n set) u (sym (done-reply (length t) l)) (rw (done-reply (length t) l) e)
+-- ---- a text that is read
+
+-- a check that answers what the text writes may be relied on
+pub checked-vouched : (s : List ℕ) (r : Checked) → r ≡ checkedOf (checkText Sheet s) → Vouched s r
+checked-vouched s (Passed n set m body) e = checked-passes Sheet s (Passed n set m body) e n set m body refl
+checked-vouched s (Failed f) e = tt
+
+-- the reply by what the check has told is that by what the text writes
+pub reply-told : (words : ℕ) (j : Judged Contents) → replyAfter words (checkedOf j) ≡ replyTo words j
+unfolding replyAfter checkedOf replyTo
+reply-told words (accepted c u) = refl
+reply-told words (refused f) = refl
+
+-- so the text is read
+pub read-whole : (s : List ℕ) (t : List ℤ) (c : Checked) (r : Reading) (u : List ℤ) → c ≡ checkedOf (checkText Sheet s) → CheckedRead s c t r u → ReadInto s t r u
+unfolding readReply readTable tableAfter
+read-whole s t c r u e p = read-promised s t r u (p .reply ∙ same) (p .words ∙ ap (λ (x : Reading). cond (isAccepted x) (filled (checkText Sheet s) t) t) same)
+  where
+    same : replyAfter (length t) c ≡ replyTo (length t) (checkText Sheet s)
+    same = ap (replyAfter (length t)) e ∙ reply-told (length t) (checkText Sheet s)

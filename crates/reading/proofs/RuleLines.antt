@@ -21,13 +21,13 @@ pub not-accepted {ℓ} : {X : Type ℓ} {A : Type 0} {f : Refusal} {a : A} {u : 
 not-accepted e = let z : _≡_ {A = ℕ} 0 1 = cc in let y : ⊥ = omega arith in absurd y
 
 -- a line is accepted, and then what comes after it
-record Follows {A B : Type 0} (j : Judged A) (next : A → List ℕ → Judged B) (b : B) (v : List ℕ) : Type 0 where
-  value : A
-  rest : List ℕ
-  first : j ≡ accepted value rest
-  then : next value rest ≡ accepted b v
+pub record Follows {A B : Type 0} (j : Judged A) (next : A → List ℕ → Judged B) (b : B) (v : List ℕ) : Type 0 where
+  pub value : A
+  pub rest : List ℕ
+  pub first : j ≡ accepted value rest
+  pub then : next value rest ≡ accepted b v
 
-onward-accepted : {A B : Type 0} (j : Judged A) (next : A → List ℕ → Judged B) (b : B) (v : List ℕ) → onward j next ≡ accepted b v
+pub onward-accepted : {A B : Type 0} (j : Judged A) (next : A → List ℕ → Judged B) (b : B) (v : List ℕ) → onward j next ≡ accepted b v
     → Follows j next b v
 unfolding onward
 onward-accepted (accepted a u) next b v e = record { value = a; rest = u; first = refl; then = e }

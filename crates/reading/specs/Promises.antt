@@ -18,11 +18,12 @@ use Rattle.tables.specs.Meaning.{Satisfies, MeetsAll}
 use Rattle.lines.specs.Spelling.{writtenRules}
 use Rattle.reading.specs.declared.check.Checked.{Checked}
 use Rattle.reading.specs.declared.check.Checked.the-variants.{Passed}
+use Rattle.reading.specs.declared.check.Checked.the-variants.{Refused as Failed}
 use Rattle.reading.specs.declared.read.Reading.{Reading}
 use Rattle.reading.specs.Texts.{Contents}
 use Rattle.reading.specs.Meaning.{Reads, FailsFor, Passes, RefusedFor, AcceptedAs}
 use Rattle.reading.specs.Reading.{filled as fill}
-use Rattle.reading.specs.Reading.{checkText, checkedOf, readReply, readTable, checkedReturned, readingReturned, readingNumber}
+use Rattle.reading.specs.Reading.{checkText, checkedOf, readReply, readTable, replyAfter, tableAfter, checkedReturned, readingReturned, readingNumber}
 
 -- a text checked: refused exactly for these reasons, and passed exactly where it is spelled so, as it is returned
 pub record TextChecked (paper : Paper) (s : List ℕ) (r : Checked) : Type 0 where
@@ -30,6 +31,11 @@ pub record TextChecked (paper : Paper) (s : List ℕ) (r : Checked) : Type 0 whe
   pub refused : (f : Refusal) → (checkedReturned r ≡ refusedAs f) ↔ FailsFor paper s f
   pub passed : (n set m body : ℕ)
       → (checkedReturned r ≡ record { number = 0; values = pos n ∷ pos set ∷ pos m ∷ pos body ∷ [] }) ↔ Passes paper s n set m body
+
+-- a check's word on a text holds: where it passed, it is fine as a sheet, with what is told of it
+abbrev pub Vouched : List ℕ → Checked → Type 0
+Vouched s (Passed n set m body) = Passes Sheet s n set m body
+Vouched s (Failed f) = Unit {0}
 
 -- a text checked, and a table that is long enough for its n filled where it passed, a shorter one left. Where it is refused, the words that the largest table has are free; words past them stay
 pub record TextFilled (paper : Paper) (s : List ℕ) (table : List ℤ) (r : Checked) (table' : List ℤ) : Type 0 where
@@ -47,6 +53,11 @@ pub record TableHolds (c : Contents) (table : List ℤ) : Type 0 where
 pub record TableRead (c : Contents) (before after : List ℤ) : Type 0 where
   pub filled : after ≡ tableOf (c .count) (writtenRules (c .written)) ++ drop (blockStart (c .count)) before
   pub holds : TableHolds c after
+
+-- a text that was checked, read into a table: the table's length is the last check
+pub record CheckedRead (s : List ℕ) (checked : Checked) (table : List ℤ) (r : Reading) (table' : List ℤ) : Type 0 where
+  pub reply : r ≡ replyAfter (length table) checked
+  pub words : table' ≡ tableAfter s checked table
 
 -- a sheet's text read into a table
 pub record ReadInto (s : List ℕ) (table : List ℤ) (r : Reading) (table' : List ℤ) : Type 0 where

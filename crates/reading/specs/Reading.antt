@@ -13,6 +13,7 @@ use Rattle.rules.specs.Hidden.{setOf}
 use Rattle.rules.specs.Limits.{maxQuantities, boundRange, maxRules, maxText}
 use Rattle.rules.specs.Refusal.{Returned, refusedAs, refusalValue}
 use Rattle.tables.specs.Tables.{tableOf}
+use Rattle.numerals.specs.Parsing.{cursorOf}
 use Rattle.lines.specs.Spelling.{Written, quantitiesKey, rulesKey, writtenRules}
 use Rattle.lines.specs.Lines.{Judged, accepted, refused, countJudged, hiddenJudged, ruleJudged}
 use Rattle.reading.specs.declared.check.Checked.{Checked}
@@ -50,9 +51,25 @@ linesFrom paper s = afterHeader s (λ n qs m w.
 unfoldable pub checkText : Paper → List ℕ → Judged Contents
 checkText paper s = cond (ltb maxText (length s)) (refused Size) (linesFrom paper s)
 
+-- what a header writes: n, the hidden list and N
+pub record Header : Type 0 where
+  pub count : ℕ
+  pub hiddens : List ℕ
+  pub rules : ℕ
+
+-- the same of a text's size and its header alone, whatever follows
+unfoldable pub checkHeader : List ℕ → Judged Header
+checkHeader s =
+    cond (ltb maxText (length s)) (refused Size) (afterHeader s (λ n qs m w. accepted (record { count = n; hiddens = qs; rules = m }) w))
+
 -- ---- what the program has of it
 
--- n, the hidden set, the number of rules, and the cursor at which the rule lines begin; or the refusal
+-- of a header n, the hidden set, the number of rules, and the cursor after it; or the refusal
+unfoldable pub headerOf : List ℕ → Judged Header → Checked
+headerOf s (accepted h u) = Passed (h .count) (setOf (h .hiddens)) (h .rules) (cursorOf s u)
+headerOf s (refused r) = Failed r
+
+-- of a text n, the hidden set, the number of rules, and the cursor at which the rule lines begin; or the refusal
 unfoldable pub checkedOf : Judged Contents → Checked
 checkedOf (accepted c u) = Passed (c .count) (setOf (c .hiddens)) (length (c .written)) (length (headerText c))
 checkedOf (refused r) = Failed r
@@ -81,6 +98,14 @@ isAccepted (Refused r) = false
 -- the table afterwards
 unfoldable pub readTable : List ℕ → List ℤ → List ℤ
 readTable s t = cond (isAccepted (readReply s (length t))) (filled (checkText Sheet s) t) t
+
+-- the same of a text that was checked, by what its check has told, and of which the rules are read from the text
+unfoldable pub replyAfter : ℕ → Checked → Reading
+replyAfter words (Passed n set m body) = cond (ltb words (blockStart n)) (Refused (TooShort (blockStart n))) (Accepted n set)
+replyAfter words (Failed r) = Refused r
+
+unfoldable pub tableAfter : List ℕ → Checked → List ℤ → List ℤ
+tableAfter s r t = cond (isAccepted (replyAfter (length t) r)) (filled (checkText Sheet s) t) t
 
 -- ---- as it is returned (document 01, 'Returned to the caller')
 

@@ -10,9 +10,11 @@ use rules::paper::Paper;
 use rules::refusal::Refusal;
 use rules::sheet::Sheet;
 use tables::table;
+ghost use mathlib.Core.Path.{_≡_};
 ghost use Prim.Native.Nat.{_≤_, _<_};
 ghost use Rattle.numerals.specs.Decimal.{cap};
 ghost use Rattle.rules.specs.Limits.{maxQuantities, maxRules};
+ghost use Rattle.reading.specs.Reading.{checkHeader, headerOf};
 ghost use Rattle.reading.specs.Promises.{TextChecked, TextFilled};
 ghost use Rattle.reading.specs.Inner.{RulesFilled};
 
@@ -75,10 +77,9 @@ pub(crate) fn check_rules(
     }
 }
 
-// Checks a text, taken as a sheet or a script: its size, the three lines of its header, then its rules, whose bounds the header limits. A table that is long enough for its n is filled
-// meanwhile, so that each line is read once; its words are free where the text is refused.
-pub fn check_filling(s: &[u8], paper: Paper, table: &mut [i64]) -> Checked
-    ensures { λ r. ⌜ TextFilled paper (now (s .entry)) (now (table .entry)) r (now (table .exit)) ⌝ }
+// Checks a text's size and the three lines of its header, whatever follows them; the cursor in the answer is that of the first rule line.
+pub fn check_header(s: &[u8]) -> Checked
+    ensures { λ r. ⌜ r ≡ headerOf (now (s .entry)) (checkHeader (now (s .entry))) ⌝ }
 {
     if Sheet::MAX_TEXT < s.len() {
         return Checked::Refused {
@@ -105,7 +106,6 @@ pub fn check_filling(s: &[u8], paper: Paper, table: &mut [i64]) -> Checked
             refusal: answer::refusal(second),
         };
     };
-    let limit = paper::bound_limit(paper, n, set) as u64;
     let third = count::count_line(s, third_at, b"rules=", 0, Sheet::MAX_RULES, 3);
     let Answer::Count {
         value: count,
@@ -116,7 +116,31 @@ pub fn check_filling(s: &[u8], paper: Paper, table: &mut [i64]) -> Checked
             refusal: answer::refusal(third),
         };
     };
-    check_rules(s, n, set, limit, count, body, table)
+    Checked::Passed {
+        quantities: n,
+        hidden: set,
+        rules: count,
+        body,
+    }
+}
+
+// Checks a text, taken as a sheet or a script: its size, the three lines of its header, then its rules, whose bounds the header limits. A table that is long enough for its n is filled
+// meanwhile, so that each line is read once; its words are free where the text is refused.
+pub fn check_filling(s: &[u8], paper: Paper, table: &mut [i64]) -> Checked
+    ensures { λ r. ⌜ TextFilled paper (now (s .entry)) (now (table .entry)) r (now (table .exit)) ⌝ }
+{
+    let header = check_header(s);
+    let Checked::Passed {
+        quantities,
+        hidden,
+        rules,
+        body,
+    } = header
+    else {
+        return header;
+    };
+    let limit = paper::bound_limit(paper, quantities, hidden) as u64;
+    check_rules(s, quantities, hidden, limit, rules, body, table)
 }
 
 // Checks a text and fills no table.

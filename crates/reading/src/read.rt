@@ -8,7 +8,7 @@ use rules::refusal;
 use rules::refusal::Refusal;
 ghost use mathlib.Core.Path.{_≡_};
 ghost use Rattle.reading.specs.Reading.{readingNumber, readingValue};
-ghost use Rattle.reading.specs.Promises.{ReadInto};
+ghost use Rattle.reading.specs.Promises.{Vouched, CheckedRead, ReadInto};
 
 pub enum Reading {
     // n and the hidden set
@@ -44,11 +44,12 @@ impl Reading {
     }
 }
 
-// Reads a sheet's text into the first 2n² words of a table: the text is checked first, and last that the table is long enough.
-pub fn read(s: &[u8], table: &mut [i64]) -> Reading
-    ensures { λ r. ⌜ ReadInto (now (s .entry)) (now (table .entry)) r (now (table .exit)) ⌝ }
+// Reads a sheet's text that was checked into the first 2n² words of a table, where it passed and the table is long enough.
+pub fn read_checked(s: &[u8], checked: Checked, table: &mut [i64]) -> Reading
+    requires { ⌜ Vouched (now s) checked ⌝ }
+    ensures { λ r. ⌜ CheckedRead (now (s .entry)) checked (now (table .entry)) r (now (table .exit)) ⌝ }
 {
-    match check::check(s, Paper::Sheet) {
+    match checked {
         Checked::Refused { refusal } => Reading::Refused { refusal },
         Checked::Passed {
             quantities,
@@ -66,4 +67,12 @@ pub fn read(s: &[u8], table: &mut [i64]) -> Reading
             Reading::Accepted { quantities, hidden }
         }
     }
+}
+
+// Reads a sheet's text into the first 2n² words of a table: the text is checked first, and last that the table is long enough.
+pub fn read(s: &[u8], table: &mut [i64]) -> Reading
+    ensures { λ r. ⌜ ReadInto (now (s .entry)) (now (table .entry)) r (now (table .exit)) ⌝ }
+{
+    let checked = check::check(s, Paper::Sheet);
+    read_checked(s, checked, table)
 }

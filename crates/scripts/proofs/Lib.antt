@@ -1,6 +1,5 @@
 -- The laws of two texts marked: what a fine text's rules and hidden list come to, when a script fits a sheet, and what each way that marking ends promises.
 pub mod Rules
-pub mod Hiddens
 pub mod Sheets
 pub mod Matching
 pub mod Rooms

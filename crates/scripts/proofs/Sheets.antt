@@ -29,9 +29,9 @@ use Rattle.reading.specs.Texts.{Contents}
 use Rattle.reading.specs.Meaning.{FineLines, contentsLimit, rulesOf}
 use Rattle.reading.specs.Promises.{TableHolds}
 use Rattle.writing.specs.Writing.{hiddenList}
+use Rattle.writing.proofs.HiddenLists.{list-set-within, list-back}
 use Rattle.scripts.specs.Meaning.{setIn, tableIn}
 use Rattle.scripts.proofs.Rules.{rules-held, read-within}
-use Rattle.scripts.proofs.Hiddens.{set-range, list-back}
 
 -- what it tells that every line of contents is fine
 pub record FineTable (paper : Paper) (c : Contents) : Type 0 where
@@ -53,7 +53,7 @@ fine-table paper c f =
     record {
       some = n .0;
       most = n .1;
-      range = set-range (c .count) (c .hiddens) (f .1 .0 .formed) (f .1 .0 .within);
+      range = list-set-within (c .count) (c .hiddens) (f .1 .0 .formed) (f .1 .0 .within);
       back = list-back (c .count) (c .hiddens) (f .1 .0 .formed) (f .1 .0 .within);
       members = list-members (c .count) (c .hiddens) (f .1 .0 .formed) (f .1 .0 .within);
       size = s;

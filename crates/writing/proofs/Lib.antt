@@ -1,6 +1,7 @@
 -- The laws of what is written that proofs cite.
 pub mod Meanings
 pub mod Members
+pub mod HiddenLists
 pub mod Lines
 pub mod Lengths
 pub mod Back

@@ -130,7 +130,7 @@ unfolding putRule putHalved putAt
 ruleAt-put t k c = rw (ruleAt-halved k c, ruleAt-found k c, ruleAt-bound k c)
 
 -- where no rule stands, as the word of its bound
-put-first : (p t : List ℤ) (k : ℕ) (w : ℤ) → length p ≡ k → hasRule w ≡ true → putRule (p ++ noRule ∷ t) (ruleAt k w) ≡ p ++ w ∷ t
+pub put-first : (p t : List ℤ) (k : ℕ) (w : ℤ) → length p ≡ k → hasRule w ≡ true → putRule (p ++ noRule ∷ t) (ruleAt k w) ≡ p ++ w ∷ t
 unfolding lowered smaller
 put-first p t k w l e = ruleAt-put (p ++ noRule ∷ t) k w ∙ rw (getD-at p noRule t (pos 0) k l, e) (set-at p noRule t w k l)
 

@@ -1,189 +1,82 @@
--- `check::check_filling` meets its contract: a line that is refused ends it with its refusal, and after three lines those of the rules decide. Assumes
+-- `check::check_filling` meets its contract: a header that is refused ends it with its refusal, and after another the lines of the rules decide. Assumes
 -- nothing.
-use mathlib.Core.Path.{_≡_, sym, _∙_}
+use mathlib.Core.Path.{_≡_, _∙_}
 use mathlib.Core.List.{List}
-use Prim.Native.Nat.{ℕ, _≤_}
-use native.Mathlib.Omega.{arith}
-use lib.ListN.{length, drop}
+use Prim.Native.Nat.{ℕ, _<_}
 use denote.Ref.{now}
 use borrow.Author.Needs.{needs}
+use Rattle.numerals.specs.Decimal.{cap}
 use Rattle.rules.specs.declared.paper.Paper.{Paper}
-use Rattle.rules.specs.Limits.{maxQuantities, boundLimit, maxRules, maxText}
-use Rattle.lines.specs.Spelling.{quantitiesKey, rulesKey}
-use Rattle.lines.specs.Lines.{countJudged, hiddenJudged}
-use Rattle.lines.proofs.Found.{CountFound, HiddenFound, LineRefused, count-found, hidden-found, count-refused, hidden-refused, refused-by}
+use Rattle.rules.specs.Limits.{boundLimit}
 use Rattle.reading.specs.Inner.{RulesFilled}
-use Rattle.reading.proofs.Limits.{limit-told, list-limit, unsigned, cap-casts, cap-value}
+use Rattle.reading.proofs.Limits.{limit-told, unsigned, cap-casts, cap-value}
 use Rattle.reading.proofs.FillingOnce.{header-refused, text-filled}
-use Rattle.reading.proofs.Checking.{size-checked, first-checked, second-checked, third-checked, rules-checked}
+use Rattle.reading.proofs.CheckedHeaders.{HeaderFound, header-found}
+use Rattle.reading.proofs.Checking.{rules-checked}
 use Rattle.reading.proofs.check.check_filling.Statement.{statement}
 use Rattle.reading.proofs.check.check_filling.Tie as tie
 
--- the text, the paper, n and the cursor of the second line, where the first is found
+-- the text, and what its header tells where it passed
 abbrev textOf : tie.After-known-told → List ℕ
-textOf c = now (c .before .before .before .before .before .before .before .args .s)
+textOf c = now (c .before .before .before .before .before .args .s)
 
+found : (c : tie.After-known-told) → let g = c .before .header .given .0 in HeaderFound (textOf c) (g .0) (g .1 .0) (g .1 .1 .0) (g .1 .1 .1 .0)
+found c = let h = c .before in header-found (textOf c) _ _ _ _ _ (h .before .before .check-header .ensures) (h .header .given .1)
+
+-- the limit of bounds
 abbrev paperOf : tie.After-known-told → Paper
-paperOf c = c .before .before .before .before .before .before .before .args .paper
+paperOf c = c .before .before .before .before .before .args .paper
 
-abbrev countOf : tie.After-known-told → ℕ
-countOf c = c .before .first .given .0 .0
+abbrev limitOf : tie.After-known-told → ℕ
+limitOf c = let g = c .before .header .given .0 in boundLimit (paperOf c) (g .0) (g .1 .0)
 
-abbrev secondAt : tie.After-known-told → ℕ
-secondAt c = c .before .first .given .0 .1 .0
+below : (c : tie.After-known-told) → limitOf c < cap
+below c = let g = c .before .header .given .0 in limit-told (paperOf c) (g .0) (g .1 .0) (found c .high)
 
-small : (c : tie.After-known-told) → length (textOf c) ≤ maxText
-small c = c .before .before .before .before .before .if1 .left
+limit-is : (c : tie.After-bound-limit) → unsigned (c .bound-limit .result) ≡ limitOf (c .before)
+limit-is c = cap-value _ _ (c .bound-limit .ensures) (below (c .before))
 
-first : (c : tie.After-known-told) → CountFound (textOf c) quantitiesKey 1 maxQuantities 1 0 (countOf c) (secondAt c)
-first c = let l = c .before .before .before in
-    count-found (textOf c) quantitiesKey 1 maxQuantities 1 0 (countOf c) (secondAt c) (sym (l .count-line .ensures .reply) ∙ c .before .first .given .1)
+check-header-requires : tie.Need-check-header-requires
+check-header-requires c κs = search needs
 
--- the hidden set and the cursor of the third line, where the second is found
-abbrev setAt : tie.After-known-told2 → ℕ
-setAt c = c .before .second .given .0 .0
+enum-known-header : tie.Need-enum-known-header
+enum-known-header c = search needs
 
-abbrev thirdAt : tie.After-known-told2 → ℕ
-thirdAt c = c .before .second .given .0 .1 .0
-
-second : (c : tie.After-known-told2) → let f = c .before .before .before .before in
-    HiddenFound (textOf f) (countOf f) 2 (secondAt f) (setAt c) (thirdAt c)
-second c = let l = c .before .before .before in let f = l .before in
-    hidden-found (textOf f) (countOf f) 2 (secondAt f) (setAt c) (thirdAt c) (sym (l .hidden-line .ensures .reply) ∙ c .before .second .given .1)
-
--- the limit of bounds, by these two lines
-limit-is : (c : tie.After-bound-limit) → let f = c .before .before .before .before .before in
-    unsigned (c .bound-limit .result) ≡ boundLimit (paperOf f) (countOf f) (setAt (c .before))
-limit-is c = let f = c .before .before .before .before .before in
-    cap-value _ _ (c .bound-limit .ensures) (limit-told (paperOf f) (countOf f) (setAt (c .before)) (first f .high))
-
--- the number of rules and the cursor of their lines, where the third is found
-abbrev rulesOf : tie.After-known-told3 → ℕ
-rulesOf c = c .before .third .given .0 .0
-
-abbrev bodyAt : tie.After-known-told3 → ℕ
-bodyAt c = c .before .third .given .0 .1 .0
-
-third : (c : tie.After-known-told3) → let k = c .before .before .before .before .before .before in let f = k .before .before .before .before in
-    CountFound (textOf f) rulesKey 0 maxRules 3 (thirdAt k) (rulesOf c) (bodyAt c)
-third c = let l = c .before .before .before in let k = l .before .before .before in let f = k .before .before .before .before in
-    count-found (textOf f) rulesKey 0 maxRules 3 (thirdAt k) (rulesOf c) (bodyAt c) (sym (l .count-line2 .ensures .reply) ∙ c .before .third .given .1)
+enum-told : tie.Need-enum-told
+enum-told c = search needs
 
 returns : tie.Need-returns
-returns c = let a = c .before .before .args in header-refused (a .paper) (now (a .s)) _ _ (size-checked (a .paper) (now (a .s)) (c .if1 .taken))
-
-slice-aggregate-count-line : tie.Need-slice-aggregate-count-line
-slice-aggregate-count-line c = search needs
-
-count-line-requires : tie.Need-count-line-requires
-count-line-requires c κs = omega arith
-
-enum-known-first : tie.Need-enum-known-first
-enum-known-first c = search needs
-
--- the first line is refused
-first-refused : (c : tie.At-match-keys2) → let l = c .before in let s = now (l .before .before .before .before .args .s) in
-    LineRefused (countJudged quantitiesKey 1 maxQuantities 1 s) (l .count-line .result)
-first-refused c = let l = c .before in let s = now (l .before .before .before .before .args .s) in
-    count-refused s (countJudged quantitiesKey 1 maxQuantities 1 s) _ (l .count-line .ensures .reply) (c .match .keys2)
-
-refusal-requires : tie.Need-refusal-requires
-refusal-requires c κs = let f = first-refused c in (f .refusal, f .answered)
-
-returns-2 : tie.Need-returns-2
-returns-2 c = let k = c .before in let l = k .before in let a = l .before .before .before .before .args in
-    header-refused (a .paper) (now (a .s)) _ _
-    (first-checked (a .paper) (now (a .s)) (l .before .before .if1 .left) _ (refused-by _ (first-refused k) (c .refusal .ensures)))
-
-hidden-line-requires : tie.Need-hidden-line-requires
-hidden-line-requires c κs = first c .high
-
-enum-known-second : tie.Need-enum-known-second
-enum-known-second c = search needs
-
--- the second line is refused
-second-refused : (c : tie.At-match2-keys2) → let l = c .before in let f = l .before in
-    LineRefused (hiddenJudged (countOf f) 2 (drop (secondAt f) (textOf f))) (l .hidden-line .result)
-second-refused c = let l = c .before in let f = l .before in
-    hidden-refused (textOf f) (hiddenJudged (countOf f) 2 (drop (secondAt f) (textOf f))) _ (l .hidden-line .ensures .reply) (c .match2 .keys2)
-
-refusal-requires-2 : tie.Need-refusal-requires-2
-refusal-requires-2 c κs = let f = second-refused c in (f .refusal, f .answered)
-
-returns-3 : tie.Need-returns-3
-returns-3 c = let k = c .before in let f = k .before .before in
-    header-refused (paperOf f) (textOf f) _ _ (second-checked (paperOf f) (textOf f) (small f) (countOf f) (drop (secondAt f) (textOf f)) (first f .is) _
-    (refused-by _ (second-refused k) (c .refusal2 .ensures)))
+returns c = let k = c .before .before in let a = k .before .before .args in
+    header-refused (a .paper) (now (a .s)) _ _ _ (k .check-header .ensures) (c .enum-told .given .1)
 
 bound-limit-requires : tie.Need-bound-limit-requires
 bound-limit-requires c κs = search needs
 
 cast-limit : tie.Need-cast-limit
-cast-limit c = let f = c .before .before .before .before .before in
-    cap-casts _ _ (c .bound-limit .ensures) (limit-told (paperOf f) (countOf f) (setAt (c .before)) (first f .high))
-
-slice-aggregate-count-line-2 : tie.Need-slice-aggregate-count-line-2
-slice-aggregate-count-line-2 c = search needs
-
-count-line-requires-2 : tie.Need-count-line-requires-2
-count-line-requires-2 c κs = omega arith
-
-enum-known-third : tie.Need-enum-known-third
-enum-known-third c = search needs
-
--- the third line is refused
-third-refused : (c : tie.At-match3-keys2) → let l = c .before in let k = l .before .before .before in let f = k .before .before .before .before in
-    LineRefused (countJudged rulesKey 0 maxRules 3 (drop (thirdAt k) (textOf f))) (l .count-line2 .result)
-third-refused c = let l = c .before in let k = l .before .before .before in let f = k .before .before .before .before in
-    count-refused (textOf f) (countJudged rulesKey 0 maxRules 3 (drop (thirdAt k) (textOf f))) _ (l .count-line2 .ensures .reply) (c .match3 .keys2)
-
-refusal-requires-3 : tie.Need-refusal-requires-3
-refusal-requires-3 c κs = let f = third-refused c in (f .refusal, f .answered)
-
-returns-4 : tie.Need-returns-4
-returns-4 c = let l = c .before .before in let k = l .before .before .before in let f = k .before .before .before .before in
-    header-refused (paperOf f) (textOf f) _ _ (third-checked (paperOf f) (textOf f) (small f) (countOf f) (drop (secondAt f) (textOf f)) (first f .is)
-    (second k .members) (drop (thirdAt k) (textOf f)) (second k .is) _ (refused-by _ (third-refused (c .before)) (c .refusal3 .ensures)))
+cast-limit c = cap-casts _ _ (c .bound-limit .ensures) (below (c .before))
 
 check-rules-requires : tie.Need-check-rules-requires
-check-rules-requires c κs = let t = c .before in let b = t .before .before .before .before .before in let k = b .before in
-    let f = k .before .before .before .before in
-    (first f .low, first f .high, rw (limit-is b) (limit-told (paperOf f) (countOf f) (setAt k) (first f .high)), third t .high)
+check-rules-requires c κs = let b = c .before in let h = found (b .before) in (h .low, h .high, rw (limit-is b) (below (b .before)), h .few)
 
 same-length : tie.Need-same-length
 same-length c = search needs
 
-returns-5 : tie.Need-returns-5
-returns-5 c = let e = c .before in let t = e .before .before in let b = t .before .before .before .before .before in let k = b .before in
-    let f = k .before .before .before .before in
-    let p : RulesFilled (countOf f) (setAt k) (boundLimit (paperOf f) (countOf f) (setAt k)) (rulesOf t) (bodyAt t) (textOf f) _ _ _ =
-    rw (limit-is b) at (e .check-rules .ensures) in
-    text-filled (paperOf f) (textOf f) (countOf f) (setAt k) (rulesOf t) (bodyAt t) _ _ _ (first f .high) (p .reply
-    ∙ rules-checked (paperOf f) (textOf f) (small f) (countOf f) (drop (secondAt f) (textOf f)) (first f .is) (second k .members)
-    (drop (thirdAt k) (textOf f)) (second k .is) (setAt k) (rulesOf t) (bodyAt t) (second k .told)
-    (list-limit (paperOf f) (countOf f) (second k .members) (second k .increase) (second k .within)) (third t .inside) (third t .is)) p
+returns-2 : tie.Need-returns-2
+returns-2 c = let e = c .before in let b = e .before .before in let k = b .before in let g = k .before .header .given .0 in
+    let p : RulesFilled (g .0) (g .1 .0) (limitOf k) (g .1 .1 .0) (g .1 .1 .1 .0) (textOf k) _ _ _ = rw (limit-is b) at (e .check-rules .ensures) in
+    text-filled (paperOf k) (textOf k) (g .0) (g .1 .0) (g .1 .1 .0) (g .1 .1 .1 .0) _ _ _ (found k .high)
+    (p .reply ∙ rules-checked (paperOf k) (textOf k) (g .0) (g .1 .0) (g .1 .1 .0) (g .1 .1 .1 .0) (found k)) p
 
 pub check-filling-spec : {M : Type 1} → statement M
 check-filling-spec =
     tie.close
     (tie.spec
+    check-header-requires
+    enum-known-header
+    enum-told
     returns
-    slice-aggregate-count-line
-    count-line-requires
-    enum-known-first
-    refusal-requires
-    returns-2
-    hidden-line-requires
-    enum-known-second
-    refusal-requires-2
-    returns-3
     bound-limit-requires
     cast-limit
-    slice-aggregate-count-line-2
-    count-line-requires-2
-    enum-known-third
-    refusal-requires-3
-    returns-4
     check-rules-requires
     same-length
-    returns-5)
+    returns-2)

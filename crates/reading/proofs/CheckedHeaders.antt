@@ -20,7 +20,7 @@ use Rattle.reading.specs.declared.check.Checked.{Checked}
 use Rattle.reading.specs.declared.check.Checked.the-variants.{Passed}
 use Rattle.reading.specs.declared.check.Checked.the-variants.{Refused as Failed}
 use Rattle.reading.specs.Reading.{onward, afterHeader, Header, checkHeader, headerOf}
-use Rattle.reading.proofs.CheckedTexts.{not-failed}
+use Rattle.reading.proofs.Answered.{not-failed}
 use Rattle.reading.proofs.RuleLines.{not-accepted, onward-accepted}
 
 -- ---- each way of the check

@@ -33,7 +33,8 @@ use Rattle.reading.specs.Reading.{rulesFrom, checkText, checkHeader, hea
 use Rattle.reading.specs.Inner.{checkedRules, RulesFilled}
 use Rattle.reading.specs.Promises.{TextFilled}
 use Rattle.reading.proofs.Means.{reads-check}
-use Rattle.reading.proofs.CheckedTexts.{not-failed, checked-passes, check-promised}
+use Rattle.reading.proofs.CheckedTexts.{checked-passes, check-promised}
+use Rattle.reading.proofs.Answered.{not-failed}
 use Rattle.reading.proofs.CheckedHeaders.{header-failed}
 use Rattle.reading.proofs.Checking.{header-checked}
 use Rattle.reading.proofs.Headers.{Opened, passed-opened}

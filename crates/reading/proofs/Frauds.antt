@@ -41,7 +41,8 @@ use Rattle.reading.specs.Meaning.{Fine, contentsLimit, FineLines, Reads,
 use Rattle.reading.specs.Reading.{onward, rulesFrom, linesFrom, checkText, checkedOf, replyTo, readReply, filled, readTable, readingNumber, readingValue}
 use Rattle.reading.specs.Promises.{TextChecked, ReadInto}
 use Rattle.reading.proofs.Means.{text-means, reads-check, reads-same}
-use Rattle.reading.proofs.Replies.{not-both, reply-short, reply-accepted, reading-refused, reading-accepted}
+use Rattle.reading.proofs.Answered.{not-both}
+use Rattle.reading.proofs.Replies.{reply-short, reply-accepted, reading-refused, reading-accepted}
 use Rattle.reading.proofs.CheckedTexts.{check-promised}
 use Rattle.reading.proofs.Numbers.{zero-accepted}
 use Rattle.reading.proofs.Promised.{reading-kept, read-promised}

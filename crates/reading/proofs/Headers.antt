@@ -19,7 +19,7 @@ use Rattle.reading.proofs.Limits.{fine-count, contents-limit, contents-
 use Rattle.reading.proofs.FineRules.{contents-accepted}
 
 -- a fine rule line is accepted, and so are all
-rule-read : (n limit line : ℕ) (w : Written) (u : List ℕ) → Fine n limit (rule w) → ruleJudged n limit line (lineText (rule w) ++ u) ≡ accepted w u
+pub rule-read : (n limit line : ℕ) (w : Written) (u : List ℕ) → Fine n limit (rule w) → ruleJudged n limit line (lineText (rule w) ++ u) ≡ accepted w u
 unfolding ruleJudged judged lineWithin
 rule-read n limit line w u f = rw (rule-complete w u, f .within, f .uncancelled)
 

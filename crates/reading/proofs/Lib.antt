@@ -9,6 +9,7 @@ pub mod AfterOpenings
 pub mod LinesSpelled
 pub mod Means
 pub mod Limits
+pub mod Answered
 pub mod FineRules
 pub mod FineBounds
 pub mod CheckedTexts

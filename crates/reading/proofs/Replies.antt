@@ -1,36 +1,25 @@
 -- The reply of reading into a table is what the spellings say: refused exactly for its reasons, accepted exactly as the text writes. Assumes
 -- nothing.
-use mathlib.Core.Path.{_≡_, refl, sym, _∙_, ap, subst}
-use mathlib.Core.Bool.{Bool, true, false}
+use mathlib.Core.Path.{_≡_, _∙_, ap}
 use mathlib.Core.List.{List, []}
-use mathlib.Core.Logic.{_↔_, inl, inr}
+use mathlib.Core.Logic.{_↔_, _⊎_, inl, inr}
 use Prim.Native.Nat.{ℕ, _<_, _≤_}
-use native.Mathlib.Omega.{arith}
-use lib.Dec.{ltb}
-use borrow.Author.Tests.{lt-ltb, le-ltb, ltb-true, ltb-false}
+use borrow.Author.Tests.{lt-ltb, le-ltb}
 use Rattle.places.specs.Numbering.{blockStart}
 use Rattle.rules.specs.declared.paper.Paper.{Paper}
 use Rattle.rules.specs.declared.paper.Paper.the-variants.{Sheet}
 use Rattle.rules.specs.declared.refusal.Refusal.{Refusal}
 use Rattle.rules.specs.declared.refusal.Refusal.the-variants.{TooShort}
 use Rattle.rules.specs.Hidden.{hiddenIn, setOf, isListed}
-use Rattle.rules.specs.Refusing.{RefusedBy}
 use Rattle.lines.specs.Lines.{Judged, accepted, refused}
 use Rattle.lines.specs.Spelling.{lineWithin}
 use Rattle.lines.proofs.SetMembers.{list-members}
 use Rattle.reading.specs.declared.read.Reading.the-variants.{Accepted, Refused}
 use Rattle.reading.specs.Texts.{Contents}
-use Rattle.reading.specs.Meaning.{Reads, FailsFor, roomFor, RefusedFor, AcceptedAs}
+use Rattle.reading.specs.Meaning.{Reads, RefusedFor, AcceptedAs}
 use Rattle.reading.specs.Reading.{checkText, replyTo, readReply}
 use Rattle.reading.proofs.Means.{text-means, reads-check}
-
--- ---- what equal replies tell
-
-pub not-both : {f : Refusal} {n set : ℕ} → Accepted n set ≡ Refused f → ⊥
-not-both e = let z : _≡_ {A = ℕ} 0 1 = cc in omega arith
-
-same-refusal : {f g : Refusal} → Refused f ≡ Refused g → f ≡ g
-same-refusal e = cc
+use Rattle.reading.proofs.Answered.{ShortWith, AcceptedWith, refused-judged, accepted-judged}
 
 -- ---- the reply to a text that was checked
 
@@ -61,59 +50,48 @@ module _ (s : List ℕ) (words : ℕ) where
 
 module _ (s : List ℕ) (words : ℕ) where
   -- refused
-  refused-why : (f : Refusal) → readReply s words ≡ Refused f → RefusedFor s words f
-  refused-why f e = go (checkText Sheet s) refl
-    where
-      go : (j : Judged Contents) → checkText Sheet s ≡ j → RefusedFor s words f
-      go (refused g) q =
-          inl (subst (FailsFor Sheet s) (same-refusal (sym (reply-refused s words g q) ∙ e)) (text-means Sheet s (refused g) .0 q))
-      go (accepted c u) q = inr (record { contents = c; reads = p }, short (ltb words (blockStart (c .count))) refl)
-        where
-          p : Reads Sheet s c
-          p = text-means Sheet s (accepted c u) .0 q .0
-
-          short : (b : Bool) → ltb words (blockStart (c .count)) ≡ b → RefusedBy (roomFor c words) f
-          short true t =
-              let h = ltb-true words (blockStart (c .count)) t in inl (λ l. omega arith, same-refusal (sym e ∙ reply-short s words c p h))
-          short false t = absurd (not-both (sym (reply-accepted s words c p (ltb-false words (blockStart (c .count)) t)) ∙ e))
-
-  refused-reply : (f : Refusal) → RefusedFor s words f → readReply s words ≡ Refused f
-  refused-reply f (inl h) = reply-refused s words f (text-means Sheet s (refused f) .1 h)
-  refused-reply f (inr (t, inl h)) = reply-short s words (t .contents) (t .reads) (too-short (h .0)) ∙ ap Refused (sym (h .1))
-    where
-      too-short : (blockStart (t .contents .count) ≤ words → ⊥) → words < blockStart (t .contents .count)
-      too-short h = go (ltb words (blockStart (t .contents .count))) refl
-        where
-          go : (b : Bool) → ltb words (blockStart (t .contents .count)) ≡ b → words < blockStart (t .contents .count)
-          go true e = ltb-true words (blockStart (t .contents .count)) e
-          go false e = absurd (h (ltb-false words (blockStart (t .contents .count)) e))
-  refused-reply f (inr (t, inr h)) = absurd (h .1)
-
   pub reading-refused : (f : Refusal) → (readReply s words ≡ Refused f) ↔ RefusedFor s words f
-  reading-refused f = (refused-why f, refused-reply f)
+  unfolding readReply
+  reading-refused f = (λ e. why (told .0 e), λ h. told .1 (back h))
+    where
+      told : (replyTo words (checkText Sheet s) ≡ Refused f) ↔ ((checkText Sheet s ≡ refused f) ⊎ ShortWith (checkText Sheet s) words f)
+      told = refused-judged words (checkText Sheet s) f
+
+      why : (checkText Sheet s ≡ refused f) ⊎ ShortWith (checkText Sheet s) words f → RefusedFor s words f
+      why (inl e) = inl (text-means Sheet s (refused f) .0 e)
+      why (inr w) = inr (record { contents = w .contents; reads = text-means Sheet s (accepted (w .contents) (w .rest)) .0 (w .is) .0 }, w .short)
+
+      back : RefusedFor s words f → (checkText Sheet s ≡ refused f) ⊎ ShortWith (checkText Sheet s) words f
+      back (inl h) = inl (text-means Sheet s (refused f) .1 h)
+      back (inr (t, h)) = inr (record { contents = t .contents; rest = []; is = reads-check Sheet s (t .contents) (t .reads); short = h })
 
   -- accepted
-  accepted-why : (n set : ℕ) → readReply s words ≡ Accepted n set → AcceptedAs s words n set
-  accepted-why n set e = go (checkText Sheet s) refl
-    where
-      go : (j : Judged Contents) → checkText Sheet s ≡ j → AcceptedAs s words n set
-      go (refused g) q = absurd (not-both (sym e ∙ reply-refused s words g q))
-      go (accepted c u) q = enough (ltb words (blockStart (c .count))) refl
-        where
-          p : Reads Sheet s c
-          p = text-means Sheet s (accepted c u) .0 q .0
-
-          enough : (b : Bool) → ltb words (blockStart (c .count)) ≡ b → AcceptedAs s words n set
-          enough true t = absurd (not-both (sym e ∙ reply-short s words c p (ltb-true words (blockStart (c .count)) t)))
-          enough false t =
-              let h = ltb-false words (blockStart (c .count)) t in
-              let r : Accepted n set ≡ Accepted (c .count) (setOf (c .hiddens)) = sym e ∙ reply-accepted s words c p h in
-              let k : n ≡ c .count = cc in
-              let z : set ≡ setOf (c .hiddens) = cc in
-              record { contents = c; reads = p; counts = k; hides = z; members = λ q. rw z (reads-members Sheet s c p q); enough = h }
-
-  accepted-reply : (n set : ℕ) → AcceptedAs s words n set → readReply s words ≡ Accepted n set
-  accepted-reply n set h = reply-accepted s words (h .contents) (h .reads) (h .enough) ∙ rw (h .counts, h .hides)
-
   pub reading-accepted : (n set : ℕ) → (readReply s words ≡ Accepted n set) ↔ AcceptedAs s words n set
-  reading-accepted n set = (accepted-why n set, accepted-reply n set)
+  unfolding readReply
+  reading-accepted n set = (λ e. why (told .0 e), λ h. told .1 (back h))
+    where
+      told : (replyTo words (checkText Sheet s) ≡ Accepted n set) ↔ AcceptedWith (checkText Sheet s) words n set
+      told = accepted-judged words (checkText Sheet s) n set
+
+      why : AcceptedWith (checkText Sheet s) words n set → AcceptedAs s words n set
+      why w =
+          let p = text-means Sheet s (accepted (w .contents) (w .rest)) .0 (w .is) .0 in
+          let z = w .hides in
+          record {
+            contents = w .contents;
+            reads = p;
+            counts = w .counts;
+            hides = z;
+            members = λ q. rw z (reads-members Sheet s (w .contents) p q);
+            enough = w .enough;
+          }
+
+      back : AcceptedAs s words n set → AcceptedWith (checkText Sheet s) words n set
+      back h = record {
+        contents = h .contents;
+        rest = [];
+        is = reads-check Sheet s (h .contents) (h .reads);
+        counts = h .counts;
+        hides = h .hides;
+        enough = h .enough;
+      }

@@ -4,3 +4,5 @@ pub mod TableOrder
 pub mod Canonical
 pub mod SheetTables
 pub mod WrittenTexts
+pub mod Ordering
+pub mod Headers

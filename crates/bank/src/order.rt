@@ -1,7 +1,6 @@
 // The place of a rule as a bank sheet writes it.
 use places::Place;
 use rules::rule::Rule;
-use tables::place;
 ghost use mathlib.Core.Path.{_≡_};
 ghost use Rattle.bank.specs.Banking.{canonicalPlace};
 
@@ -9,14 +8,18 @@ ghost use Rattle.bank.specs.Banking.{canonicalPlace};
 pub fn canonical_place(rule: Rule) -> Place
     ensures { λ r. ⌜ r ≡ canonicalPlace rule ⌝ }
 {
-    if let Rule::Two {
-        first,
-        second,
-        bound: _,
-    } = rule {
-        if second / 2 <= first / 2 {
-            return Place::Nowhere;
+    match rule {
+        Rule::One { literal, bound: _ } => Place::At(places::of_one(literal)),
+        Rule::Two {
+            first,
+            second,
+            bound: _,
+        } => {
+            if second / 2 <= first / 2 {
+                return Place::Nowhere;
+            }
+            places::of_two(first, second)
         }
+        Rule::Nothing { bound: _ } => Place::Nowhere,
     }
-    place::place_of(rule)
 }

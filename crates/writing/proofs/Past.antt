@@ -131,7 +131,7 @@ unfolding linesText
 lines-more n qs m rs more = rw (lines-append rs more) (simp append-assoc)
 
 -- a line for each rule
-lines-count : (rs : List Written) → length (ruleLines rs) ≡ length rs
+pub lines-count : (rs : List Written) → length (ruleLines rs) ≡ length rs
 lines-count [] = refl
 lines-count (r ∷ rs) = ap suc (lines-count rs)
 

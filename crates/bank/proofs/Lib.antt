@@ -6,3 +6,7 @@ pub mod SheetTables
 pub mod WrittenTexts
 pub mod Ordering
 pub mod Headers
+pub mod Agreeing
+pub mod OrderTold
+pub mod Means
+pub mod Promised

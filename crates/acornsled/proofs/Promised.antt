@@ -7,7 +7,7 @@ use Prim.Native.Nat.{ℕ, zero, suc, _<_, _≤_}
 use native.Mathlib.Omega.{arith}
 use lib.IntN.{ℤ, pos}
 use lib.Dec.{leb}
-use lib.ListN.{length}
+use lib.ListN.{length, take}
 use borrow.Author.Tests.{leb-true, leb-false}
 use Rattle.tables.specs.declared.reply.Reply.{Reply}
 use Rattle.tables.specs.declared.reply.Reply.the-variants.{Done}
@@ -47,15 +47,19 @@ use Rattle.scripts.proofs.Judging.{texts-refused}
 use Rattle.scripts.proofs.OwnRoom.{same-reply}
 use Rattle.reading.specs.declared.read.Reading.{Reading}
 use Rattle.reading.specs.declared.read.Reading.the-variants.{Accepted, Refused}
-use Rattle.reading.specs.Reading.{readingReturned, readingNumber, readingValue}
-use Rattle.reading.specs.Meaning.{Readable, rulesOf, AcceptedAs}
+use Rattle.reading.specs.Reading.{readReply, readingReturned, readingNumber, readingValue}
+use Rattle.reading.specs.Meaning.{Readable, rulesOf, RefusedFor, AcceptedAs}
 use Rattle.reading.specs.Promises.{ReadInto}
 use Rattle.writing.specs.declared.write.Writing.{Writing}
 use Rattle.writing.specs.declared.write.Writing.the-variants.{Text}
 use Rattle.writing.specs.declared.write.Writing.the-variants.{Refused as NotWritten}
 use Rattle.writing.specs.Writing.{writingReturned, writingNumber, writingValue}
 use Rattle.writing.specs.Promises.{TextWritten}
-use Rattle.acornsled.specs.Promises.{TellsRefusal, KeyAnswer, TightKeyAnswer, StepAnswer, AssignmentAnswer, ReadAnswer, WriteAnswer, RefusedWith, MarkAnswer, countRead, setRead, hostReply, countMarked, ruleMarked, Told, MarkTextsAnswer}
+use Rattle.bank.specs.Banking.{bankReply}
+use Rattle.bank.specs.Meaning.{BankRefusedFor, BankAcceptedAs}
+use Rattle.bank.specs.Promises.{BankRead}
+use Rattle.bank.proofs.Promised.{made-banked}
+use Rattle.acornsled.specs.Promises.{TellsRefusal, KeyAnswer, TightKeyAnswer, StepAnswer, AssignmentAnswer, ReadingTold, ReadAnswerBy, ReadAnswer, BankAnswer, WriteAnswer, RefusedWith, MarkAnswer, countRead, setRead, hostReply, countMarked, ruleMarked, Told, MarkTextsAnswer}
 
 -- ---- a reply by its number and value is a reply as it is returned
 
@@ -112,24 +116,51 @@ assignment-answer n t w u w' u' reply r v k e d = record {
   call = rw (k .reply) at k;
 }
 
--- 0 is the number of an accepted text, with n and the hidden set afterwards
-read-zero : (s : List ℕ) (words n set : ℕ) (reply : Reading)
-    → ((m h : ℕ) → (readingReturned reply ≡ record { number = 0; values = pos m ∷ pos h ∷ [] }) ↔ AcceptedAs s words m h)
-    → (readingNumber reply ≡ 0) ↔ AcceptedAs s words (countRead n reply) (setRead set reply)
-read-zero s words n set (Accepted m h) a = (λ e. a m h .0 refl, λ x. refl)
-read-zero s words n set (Refused f) a = (λ e. absurd (refusal-number f e), λ x. ap number (a n set .1 x))
+-- ---- reading
 
-read-answer : (s : List ℕ) (t t' : List ℤ) (n set n' set' : ℕ) (reply : Reading) (r v : ℕ) → ReadInto s t reply t' → r ≡ readingNumber reply
-    → v ≡ readingValue reply → n' ≡ countRead n reply → set' ≡ setRead set reply → ReadAnswer s t n set r v n' set' t'
-read-answer s t t' n set n' set' reply r v k e d c h = record {
-  number = e ∙ ap readingNumber (k .reply);
-  value = d ∙ ap readingValue (k .reply);
-  count = c ∙ ap (countRead n) (k .reply);
-  hidden = h ∙ ap (setRead set) (k .reply);
-  refused = λ f. rw (e, d) (Iff·trans (reading-told reply f) (k .refused f));
-  accepted = rw (e, c, h) (read-zero s (length t) n set reply (k .accepted));
-  call = rw (k .reply) at k;
+-- a text that is refused leaves n and the hidden set
+pub told-refused : (reply : Reading) (n set : ℕ) (f : Refusal) (r v : ℕ) → reply ≡ Refused f → r ≡ readingNumber reply → v ≡ readingValue reply
+    → ReadingTold reply n set r v n set
+told-refused reply n set f r v q e d = record { number = e; value = d; count = sym (ap (countRead n) q); hidden = sym (ap (setRead set) q) }
+
+-- one that is accepted gives them
+pub told-accepted : (reply : Reading) (n set n' set' v : ℕ) → reply ≡ Accepted n' set' → v ≡ readingValue reply → ReadingTold reply n set 0 v n' set'
+told-accepted reply n set n' set' v q d =
+    record { number = sym (ap readingNumber q); value = d; count = sym (ap (countRead n) q); hidden = sym (ap (setRead set) q) }
+
+-- 0 is the number of an accepted text, with n and the hidden set afterwards
+read-zero : (Why : ℕ → ℕ → Type 0) (n set : ℕ) (reply : Reading) → ((m h : ℕ) → (readingReturned reply ≡ record { number = 0; values = pos m ∷ pos h ∷ [] }) ↔ Why m h)
+    → (readingNumber reply ≡ 0) ↔ Why (countRead n reply) (setRead set reply)
+read-zero Why n set (Accepted m h) a = (λ e. a m h .0 refl, λ x. refl)
+read-zero Why n set (Refused f) a = (λ e. absurd (refusal-number f e), λ x. ap number (a n set .1 x))
+
+-- either reading, by its reasons
+read-answer-by : (reply : Reading) (RefusedWhy : Refusal → Type 0) (AcceptedWhy : ℕ → ℕ → Type 0) (Promised : Type 0) (n set r v n' set' : ℕ)
+    → ((f : Refusal) → (readingReturned reply ≡ refusedAs f) ↔ RefusedWhy f)
+    → ((m h : ℕ) → (readingReturned reply ≡ record { number = 0; values = pos m ∷ pos h ∷ [] }) ↔ AcceptedWhy m h)
+    → ReadingTold reply n set r v n' set' → Promised → ReadAnswerBy reply RefusedWhy AcceptedWhy Promised n set r v n' set'
+read-answer-by reply RefusedWhy AcceptedWhy Promised n set r v n' set' why fine t p = record {
+  told = t;
+  refused = λ f. rw (t .number, t .value) (Iff·trans (reading-told reply f) (why f));
+  accepted = rw (t .number, t .count, t .hidden) (read-zero AcceptedWhy n set reply fine);
+  call = p;
 }
+
+pub read-answer : (s : List ℕ) (t t' : List ℤ) (n set n' set' : ℕ) (reply : Reading) (r v : ℕ) → ReadInto s t reply t' → ReadingTold reply n set r v n' set'
+    → ReadAnswer s t n set r v n' set' t'
+read-answer s t t' n set n' set' reply r v k e =
+    let p = rw (k .reply) at k in
+    read-answer-by (readReply s (length t)) (RefusedFor s (length t)) (AcceptedAs s (length t)) (ReadInto s t (readReply s (length t)) t') n set r v n' set'
+    (p .refused) (p .accepted) (rw (k .reply) at e) p
+
+pub bank-answer : (s : List ℕ) (t t' : List ℤ) (n set n' set' : ℕ) (reply : Reading) (r v : ℕ) → BankRead s t reply t' → ReadingTold reply n set r v n' set'
+    → BankAnswer s t n set r v n' set' t'
+bank-answer s t t' n set n' set' reply r v k e =
+    let p = rw (k .reply) at k in
+    read-answer-by (bankReply s (length t)) (BankRefusedFor s (length t)) (BankAcceptedAs s (length t)) (BankRead s t (bankReply s (length t)) t') n set r v n' set'
+    (p .refused) (p .accepted) (rw (k .reply) at e) p
+
+-- ---- writing
 
 pub write-answer : (n set : ℕ) (t : List ℤ) (out out' : List ℕ) (reply : Writing) (r v : ℕ) → TextWritten n set t out reply out'
     → r ≡ writingNumber reply → v ≡ writingValue reply → WriteAnswer n set t out r v out'
@@ -138,18 +169,9 @@ write-answer n set t out out' reply r v k e d = record {
   value = d ∙ ap writingValue (k .reply);
   decided = rw (e, d) (decided-as (k .decided) (writing-told reply) Iff·rfl);
   call = rw (k .reply) at k;
+  banked = λ z words u l. let m = k .made (sym e ∙ z) in
+      rw d (made-banked (take (writingValue reply) out') u n set t (m .read-as OfSheet words (m .sheet-short words) .reads) (m .back words u l));
 }
-
--- a text that is refused leaves n and the hidden set
-pub read-refused : (s : List ℕ) (t t' : List ℤ) (n set : ℕ) (reply : Reading) (f : Refusal) (r v : ℕ) → ReadInto s t reply t' → reply ≡ Refused f
-    → r ≡ readingNumber reply → v ≡ readingValue reply → ReadAnswer s t n set r v n set t'
-read-refused s t t' n set reply f r v k q e d = read-answer s t t' n set n set reply r v k e d (sym (ap (countRead n) q)) (sym (ap (setRead set) q))
-
--- one that is accepted gives them
-pub read-accepted : (s : List ℕ) (t t' : List ℤ) (n set n' set' : ℕ) (reply : Reading) (v : ℕ) → ReadInto s t reply t' → reply ≡ Accepted n' set'
-    → v ≡ readingValue reply → ReadAnswer s t n set 0 v n' set' t'
-read-accepted s t t' n set n' set' reply v k q d =
-    read-answer s t t' n set n' set' reply 0 v k (sym (ap readingNumber q)) d (sym (ap (countRead n) q)) (sym (ap (setRead set) q))
 
 -- ---- marking
 

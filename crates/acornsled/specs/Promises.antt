@@ -4,8 +4,9 @@ use mathlib.Core.Logic.{_↔_}
 use mathlib.Core.List.{List}
 use Prim.Native.Nat.{ℕ, _<_, _≤_}
 use lib.IntN.{ℤ}
-use lib.ListN.{length}
+use lib.ListN.{length, take}
 use Rattle.words.specs.Lent.{Lent}
+use Rattle.places.specs.Numbering.{blockStart}
 use Rattle.rules.specs.declared.paper.Paper.the-variants.{Sheet, Script}
 use Rattle.rules.specs.declared.refusal.Refusal.{Refusal}
 use Rattle.rules.specs.Limits.{maxQuantities}
@@ -14,7 +15,7 @@ use Rattle.rules.specs.Refusing.{DecidedBy}
 use Rattle.rules.specs.RuleWords.{ruleValues, noRuleWords, ruleOfWords}
 use Rattle.tables.specs.declared.reply.Reply.{Reply}
 use Rattle.tables.specs.Replies.{replyNumber, replyValue}
-use Rattle.tables.specs.Meaning.{Satisfies, Unsatisfiable}
+use Rattle.tables.specs.Meaning.{Satisfies, Unsatisfiable, BoundsWithin}
 use Rattle.keys.specs.Keys.{keyReply, assignmentReply}
 use Rattle.keys.specs.Meaning.{keyNeeds, assignmentNeeds}
 use Rattle.keys.specs.Promises.{Keyed, Assigned}
@@ -41,6 +42,9 @@ use Rattle.reading.specs.Texts.{Contents}
 use Rattle.reading.specs.Meaning.{Reads, Readable, RefusedFor, AcceptedAs}
 use Rattle.writing.specs.Writing.{writeReply, writingNumber, writingValue}
 use Rattle.writing.specs.Promises.{writeNeeds, TextWritten}
+use Rattle.bank.specs.Banking.{bankReply}
+use Rattle.bank.specs.Meaning.{BankRefusedFor, BankAcceptedAs}
+use Rattle.bank.specs.Promises.{BankBack, BankRead}
 use Rattle.scripts.specs.declared.reply.Subject.{Subject}
 use Rattle.scripts.specs.declared.room.Lengths.{Lengths}
 use Rattle.scripts.specs.declared.reply.TextMarking.{TextMarking}
@@ -64,16 +68,32 @@ abbrev pub setRead : ℕ → Reading → ℕ
 setRead before (Accepted n set) = set
 setRead before (Refused r) = before
 
--- reading's number r and value v
-pub record ReadAnswer (text : List ℕ) (table : List ℤ) (n set r v n' set' : ℕ) (table' : List ℤ) : Type 0 where
-  pub number : r ≡ readingNumber (readReply text (length table))
-  pub value : v ≡ readingValue (readReply text (length table))
-  pub count : n' ≡ countRead n (readReply text (length table))
-  pub hidden : set' ≡ setRead set (readReply text (length table))
+-- what a host is told of a reading: its number r and value v, and n and the hidden set after it
+pub record ReadingTold (reply : Reading) (n set r v n' set' : ℕ) : Type 0 where
+  pub number : r ≡ readingNumber reply
+  pub value : v ≡ readingValue reply
+  pub count : n' ≡ countRead n reply
+  pub hidden : set' ≡ setRead set reply
+
+-- the number r and value v of a call that reads a text, by its reply, the reasons of a refusal and of acceptance, and what is promised of it
+pub record ReadAnswerBy (reply : Reading) (RefusedWhy : Refusal → Type 0) (AcceptedWhy : ℕ → ℕ → Type 0) (Promised : Type 0) (n set r v n' set' : ℕ) : Type 0 where
+  pub told : ReadingTold reply n set r v n' set'
   -- a refusal's number and value exactly for its reason; 0 exactly where the text is accepted, with this n and hidden set
-  pub refused : (f : Refusal) → TellsRefusal r v f ↔ RefusedFor text (length table) f
-  pub accepted : (r ≡ 0) ↔ AcceptedAs text (length table) n' set'
-  pub call : ReadInto text table (readReply text (length table)) table'
+  pub refused : (f : Refusal) → TellsRefusal r v f ↔ RefusedWhy f
+  pub accepted : (r ≡ 0) ↔ AcceptedWhy n' set'
+  pub call : Promised
+
+-- of reading
+abbrev pub ReadAnswer : List ℕ → List ℤ → ℕ → ℕ → ℕ → ℕ → ℕ → ℕ → List ℤ → Type 0
+ReadAnswer text table n set r v n' set' table' =
+    ReadAnswerBy (readReply text (length table)) (RefusedFor text (length table)) (AcceptedAs text (length table))
+    (ReadInto text table (readReply text (length table)) table') n set r v n' set'
+
+-- of bank reading
+abbrev pub BankAnswer : List ℕ → List ℤ → ℕ → ℕ → ℕ → ℕ → ℕ → ℕ → List ℤ → Type 0
+BankAnswer text table n set r v n' set' table' =
+    ReadAnswerBy (bankReply text (length table)) (BankRefusedFor text (length table)) (BankAcceptedAs text (length table))
+    (BankRead text table (bankReply text (length table)) table') n set r v n' set'
 
 -- writing's
 pub record WriteAnswer (n set : ℕ) (table : List ℤ) (out : List ℕ) (r v : ℕ) (out' : List ℕ) : Type 0 where
@@ -81,6 +101,8 @@ pub record WriteAnswer (n set : ℕ) (table : List ℤ) (out : List ℕ) (r v : 
   pub value : v ≡ writingValue (writeReply n set table (length out))
   pub decided : DecidedBy (writeNeeds n set table (length out)) (TellsRefusal r v) (r ≡ 0)
   pub call : TextWritten n set table out (writeReply n set table (length out)) out'
+  -- read by the bank, the text of a table whose bounds lie in the sheet's limits gives the table back
+  pub banked : r ≡ 0 → BoundsWithin Sheet n set table → (t : List ℤ) → blockStart n ≤ length t → BankBack n set table (take v out') t
 
 -- the number r and value v of a call with the key call's arguments, of which this is promised
 pub record KeyAnswerBy (Promised : ℕ → ℕ → List ℤ → List ℤ → Reply → List ℤ → List ℤ → Type 0) (n set : ℕ) (table workspace : List ℤ) (r v : ℕ) (table' workspace' : List ℤ) : Type 0 where

@@ -10,7 +10,24 @@ use reading::read::Reading;
 use rules::sheet::Sheet;
 use scripts::own;
 use scripts::reply::TextMarking;
-ghost use Rattle.acornsled.specs.Promises.{ReadAnswer, WriteAnswer, KeyAnswer, TightKeyAnswer, StepAnswer, AssignmentAnswer, AskAnswer, MarkAnswer, MarkTextsAnswer, MarkTablesAnswer};
+ghost use Rattle.acornsled.specs.Promises.{ReadingTold, ReadAnswer, BankAnswer, WriteAnswer, KeyAnswer, TightKeyAnswer, StepAnswer, AssignmentAnswer, AskAnswer, MarkAnswer, MarkTextsAnswer, MarkTablesAnswer};
+
+// Tells a host what a reading gave: answers its number, writes the value beside it, and n and the hidden set where the text is accepted.
+fn tell(reading: Reading, quantities: &mut usize, hidden: &mut u32, value: &mut usize) -> u32
+    ensures { λ r. ⌜ ReadingTold reading (now (quantities .entry)) (now (hidden .entry)) r (now (value .exit)) (now (quantities .exit)) (now (hidden .exit)) ⌝ }
+{
+    *value = reading.value();
+    let Reading::Accepted {
+        quantities: n,
+        hidden: set,
+    } = reading
+    else {
+        return reading.number();
+    };
+    *quantities = n;
+    *hidden = set;
+    0
+}
 
 // Reads a text: where it answers 0, the table's first 2n² words hold its rules, and n and the hidden set are written to `quantities` and `hidden`.
 #[no_mangle]
@@ -23,18 +40,21 @@ pub extern "C" fn acornsled_read(
 ) -> u32
     ensures { λ r. ⌜ ReadAnswer (now (text .entry)) (now (table .entry)) (now (quantities .entry)) (now (hidden .entry)) r (now (value .exit)) (now (quantities .exit)) (now (hidden .exit)) (now (table .exit)) ⌝ }
 {
-    let reading = reading::read::read(text, table);
-    *value = reading.value();
-    let Reading::Accepted {
-        quantities: n,
-        hidden: set,
-    } = reading
-    else {
-        return reading.number();
-    };
-    *quantities = n;
-    *hidden = set;
-    0
+    tell(reading::read::read(text, table), quantities, hidden, value)
+}
+
+// Reads the text of a bank sheet, as above: its rules are in place order, lower quantity first, each place once and no term doubled, or 9 is answered.
+#[no_mangle]
+pub extern "C" fn acornsled_bank_read(
+    text: &[u8],
+    table: &mut [i64],
+    quantities: &mut usize,
+    hidden: &mut u32,
+    value: &mut usize,
+) -> u32
+    ensures { λ r. ⌜ BankAnswer (now (text .entry)) (now (table .entry)) (now (quantities .entry)) (now (hidden .entry)) r (now (value .exit)) (now (quantities .exit)) (now (hidden .exit)) (now (table .exit)) ⌝ }
+{
+    tell(bank::read::read(text, table), quantities, hidden, value)
 }
 
 // Writes a table and a hidden set as a text: where it answers 0, `value` is the text's length.

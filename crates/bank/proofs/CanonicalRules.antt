@@ -115,12 +115,17 @@ one-canonical n x c w h b e f = record {
   bound = rw e b;
 }
 
+-- two literals, that of the lower quantity first, stand where the pair does
+pub lower-found : (x y : ℕ) → x / 2 < y / 2 → findTwo x y ≡ At (placeOfPair x y)
+unfolding findTwo placeOfTwo
+lower-found x y l = rw (ne-eqb (x / 2) (y / 2) (omega arith), lt-ltb x y (omega arith))
+
 -- of two, the lower one first
 two-canonical : (n x y : ℕ) (c : ℤ) (w : Written) → x / 2 < y / 2 → y / 2 < n → hasRule c ≡ true → writtenRule w ≡ Two x y c
     → writtenOf (Two x y c) ≡ w → Canonical n w (placeOfPair x y)
-unfolding findPlace findTwo placeOfTwo halvedOf canonicalPlace ruleAt
+unfolding findPlace halvedOf canonicalPlace ruleAt
 two-canonical n x y c w l h b e f = record {
-  found = rw (e, ne-eqb (x / 2) (y / 2) (omega arith), lt-ltb x y (omega arith));
+  found = rw e (lower-found x y l);
   inside = pair-below n x y l (omega arith);
   same = rw (e, ne-eqb x y (omega arith));
   canonical = rw (e, lt-ltb (quantityOf x) (quantityOf y) (omega arith));

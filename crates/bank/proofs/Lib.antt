@@ -7,6 +7,8 @@ pub mod WrittenTexts
 pub mod Ordering
 pub mod Headers
 pub mod Agreeing
+pub mod OrderedLines
+pub mod BankChecking
 pub mod OrderTold
 pub mod Means
 pub mod Promised

@@ -118,8 +118,11 @@ module _ (s : List ℕ) (small : length s ≤ maxText) where
   unfolding bankLines linesFrom
   header-fails f e =
       let w = lines-fail s f small (e Contents _) in
-      subst (BankMeans s) (sym (e Contents _)) (inr (small, line-fails w (fails-ordered s f w (λ n qs m rs u r.
-      not-accepted (sym (e ℕ made) ∙ header-next s made n qs m (linesText (ruleLines rs) ++ u) (reaches-header s n qs m rs (refusalLine f) u r))))))
+      subst (BankMeans s) (sym (e Contents _)) (inr (
+        small,
+        line-fails w (fails-ordered s f w (λ n qs m rs u r.
+            not-accepted (sym (e ℕ made) ∙ header-next s made n qs m (linesText (ruleLines rs) ++ u) (reaches-header s n qs m rs (refusalLine f) u r)))),
+      ))
     where
       made : ℕ → List ℕ → ℕ → List ℕ → Judged ℕ
       made n qs m w = accepted n w
@@ -154,20 +157,23 @@ module _ (s : List ℕ) (small : length s ≤ maxText) where
     out-means : (j : Judged (List Written)) → OrderFailed n maxBound [] m 4 w j → BankMeans s (onward j (λ rs. accepted (contents n qs rs)))
     unfolding onward
     out-means j t = subst (λ (i : Judged (List Written)). BankMeans s (onward i (λ rs. accepted (contents n qs rs)))) (sym (t .is))
-        (inr (small, not-canonical-at (4 + length (t .found)) (record {
-          count = n;
-          hiddens = qs;
-          rules = m;
-          before = t .found;
-          found = t .next;
-          rest = t .rest;
-          reached = reaches-more s n qs m (t .found) (lineText (rule (t .next)) ++ t .rest)
-              (subst (Reaches Sheet s (ruled n qs m []) 4) (t .text) (header-reaches s n qs m w h)) (t .fine) (omega (arith, t .due));
-          ordered = t .ordered;
-          due = t .due;
-          fine = t .next-fine;
-          out = t .out;
-        }) refl))
+        (inr (
+          small,
+          not-canonical-at (4 + length (t .found)) (record {
+            count = n;
+            hiddens = qs;
+            rules = m;
+            before = t .found;
+            found = t .next;
+            rest = t .rest;
+            reached = reaches-more s n qs m (t .found) (lineText (rule (t .next)) ++ t .rest)
+                (subst (Reaches Sheet s (ruled n qs m []) 4) (t .text) (header-reaches s n qs m w h)) (t .fine) (omega (arith, t .due));
+            ordered = t .ordered;
+            due = t .due;
+            fine = t .next-fine;
+            out = t .out;
+          }) refl,
+        ))
 
     rules-mean : BankMeans s (bankLines s)
     unfolding leastAfter

@@ -43,6 +43,16 @@ least-last (u ∷ w ∷ rs) v k e = least-last (w ∷ rs) v k e
 
 -- ---- rules in order, and one more
 
+-- no canonical place is 9, and so is one before the least
+pub nowhere-refused : {A : Type 0} (least line : ℕ) (x : Place) (next : ℕ → Judged A) → x ≡ Nowhere → fromPlace least line x next ≡ refused (NotCanonical line)
+unfolding fromPlace
+nowhere-refused least line x next e = rw e
+
+pub early-refused : {A : Type 0} (least line : ℕ) (x : Place) (k : ℕ) (next : ℕ → Judged A) → x ≡ At k → k < least
+    → fromPlace least line x next ≡ refused (NotCanonical line)
+unfolding fromPlace
+early-refused least line x k next e h = rw (e, lt-leb least k h)
+
 module _ (n limit : ℕ) (below : limit < cap) where
   -- with a rule behind them that has its lower quantity first, and a place from the least one on, they stay in order
   pub ordered-more : (rs : List Written) (w : Written) (k : ℕ) → AllFine n limit (ruleLines rs) → InBankOrder rs → LowerFirst w
@@ -112,16 +122,6 @@ module _ (n limit : ℕ) (below : limit < cap) where
           let p = last (u ∷ rs) (fine .1) (ordered .2) h in (v ∷ p .0, p .1, ap (λ (l : List Written). v ∷ l) (p .2), p .3)
 
   -- ---- the answer to it
-
-  -- no canonical place is 9, and so is one before the least
-  nowhere-refused : {A : Type 0} (least line : ℕ) (x : Place) (next : ℕ → Judged A) → x ≡ Nowhere → fromPlace least line x next ≡ refused (NotCanonical line)
-  unfolding fromPlace
-  nowhere-refused least line x next e = rw e
-
-  early-refused : {A : Type 0} (least line : ℕ) (x : Place) (k : ℕ) (next : ℕ → Judged A) → x ≡ At k → k < least
-      → fromPlace least line x next ≡ refused (NotCanonical line)
-  unfolding fromPlace
-  early-refused least line x k next e h = rw (e, lt-leb least k h)
 
   pub out-refused : {A : Type 0} (rs : List Written) (w : Written) (line : ℕ) (next : ℕ → Judged A) → Fine n limit (rule w) → OutOfOrder rs w
       → fromPlace (leastAfter rs) line (canonicalPlace (writtenRule w)) next ≡ refused (NotCanonical line)

@@ -41,7 +41,7 @@ use Rattle.writing.proofs.Meanings.{Clean}
 use Rattle.writing.proofs.Back.{sheet-reads, written-back}
 use Rattle.bank.specs.Banking.{bankText, bankReply, bankTable}
 use Rattle.bank.specs.Meaning.{BankReads, BankPasses, BankRefusedFor, BankAcceptedAs}
-use Rattle.bank.specs.Promises.{BankChecked, acceptedAs, SheetTable, BankRead}
+use Rattle.bank.specs.Promises.{BankChecked, acceptedAs, SheetTable, BankBack, BankRead}
 use Rattle.bank.proofs.TableOrder.{table-ordered}
 use Rattle.bank.proofs.Canonical.{ordered-rules}
 use Rattle.bank.proofs.SheetTables.{read-sheet}
@@ -184,29 +184,24 @@ module _ (s : List ℕ) (t : List ℤ) where
 
   -- ---- both ways round
 
+  -- a text that is in bank order gives back by the bank what it gives back in any order
+  pub made-banked : (n set : ℕ) (table : List ℤ) → Reads Sheet s (contentsOf n set table) → ReadBack n set table s t → BankBack n set table s t
+  made-banked n set table p b =
+      let q : BankReads s (contentsOf n set table) = record { reads = p; ordered = table-ordered n table } in
+      record { reply = same-reply (contentsOf n set table) q ∙ b .reply; words = same-table (contentsOf n set table) q ∙ b .words }
+
   -- the text of a table whose bounds lie in the sheet's limits
   module _ (n set : ℕ) (table : List ℤ) (w : SheetTable n set table) (e : s ≡ writtenText n set table) (l : blockStart n ≤ length t) where
     -- its words that hold no rule are the no-rule word
     clean : Clean (blockStart n) table
     clean k h f = omega (linear, w .words k h, ltZ-false (wordAt table k) noRule f)
 
-    -- it is a bank sheet
-    written-reads : BankReads s (contentsOf n set table)
-    written-reads = record {
-      reads = subst (λ (x : List ℕ). Reads Sheet x (contentsOf n set table)) (sym e)
-          (sheet-reads n set table (w .sized .some) (w .sized .most) (w .hides) (w .bounds));
-      ordered = table-ordered n table;
-    }
-
-    written-again : ReadBack n set table s t
-    written-again = subst (λ (x : List ℕ). ReadBack n set table x t) (sym e)
-        (written-back n set table (w .sized .some) (w .sized .most) (w .hides) (w .bounds) (w .sized .room) clean t l)
-
-    bank-reply-back : bankReply s (length t) ≡ Accepted n set
-    bank-reply-back = same-reply (contentsOf n set table) written-reads ∙ written-again .reply
-
-    bank-table-back : bankTable s t ≡ take (blockStart n) table ++ drop (blockStart n) t
-    bank-table-back = same-table (contentsOf n set table) written-reads ∙ written-again .words
+    -- it gives the table back
+    written-banked : BankBack n set table s t
+    written-banked = made-banked n set table
+        (subst (λ (x : List ℕ). Reads Sheet x (contentsOf n set table)) (sym e) (sheet-reads n set table (w .sized .some) (w .sized .most) (w .hides) (w .bounds)))
+        (subst (λ (x : List ℕ). ReadBack n set table x t) (sym e)
+        (written-back n set table (w .sized .some) (w .sized .most) (w .hides) (w .bounds) (w .sized .room) clean t l))
 
   -- and a bank sheet is the text of what was read
   bank-canonical : (n set : ℕ) → BankAcceptedAs s (length t) n set → SheetTable n set (bankTable s t) × (s ≡ writtenText n set (bankTable s t))
@@ -230,7 +225,7 @@ module _ (s : List ℕ) (t : List ℤ) where
     read = bank-table-read;
     kept = bank-kept;
     ordinary = λ n set z. let p = reads-of n set z in (same-reply (p .0) (p .1), same-table (p .0) (p .1));
-    written = λ n set table w e l. (returned-accepted (bankReply s (length t)) n set .1 (bank-reply-back n set table w e l), bank-table-back n set table w e l);
+    written = λ n set table w e l. let b = written-banked n set table w e l in (returned-accepted (bankReply s (length t)) n set .1 (b .reply), b .words);
     canonical = λ n set z. bank-canonical n set (bank-accepted n set .0 (returned-accepted (bankReply s (length t)) n set .0 z));
   }
     where

@@ -14,6 +14,7 @@ use Rattle.rules.specs.Refusal.{Returned, refusedAs}
 use Rattle.tables.specs.Meaning.{TableSized, NoneAbove, BoundsWithin}
 use Rattle.reading.specs.declared.check.Checked.{Checked}
 use Rattle.reading.specs.declared.read.Reading.{Reading}
+use Rattle.reading.specs.declared.read.Reading.the-variants.{Accepted}
 use Rattle.reading.specs.Texts.{Contents}
 use Rattle.reading.specs.Reading.{checkedOf, checkedReturned, readReply, readTable, readingReturned, readingNumber}
 use Rattle.reading.specs.Promises.{TableRead}
@@ -38,6 +39,11 @@ pub record SheetTable (n set : ℕ) (t : List ℤ) : Type 0 where
   pub hides : setWithin n set ≡ true
   pub bounds : BoundsWithin Sheet n set t
   pub words : NoneAbove (blockStart n) t
+
+-- the text s of a table is read by the bank into t: n, the hidden set and the table's words come back, and words past them stay
+pub record BankBack (n set : ℕ) (table : List ℤ) (s : List ℕ) (t : List ℤ) : Type 0 where
+  pub reply : bankReply s (length t) ≡ Accepted n set
+  pub words : bankTable s t ≡ take (blockStart n) table ++ drop (blockStart n) t
 
 -- a bank sheet's text read into a table
 pub record BankRead (s : List ℕ) (table : List ℤ) (r : Reading) (table' : List ℤ) : Type 0 where

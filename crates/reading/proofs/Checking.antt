@@ -57,26 +57,32 @@ pub header-checked : (paper : Paper) (s : List ℕ) (f : Refusal) → checkHeade
 unfolding checkText linesFrom checkedOf
 header-checked paper s f e = sym (ap checkedOf (header-ends s _ f e))
 
--- the lines of the rules decide
-pub rules-checked : (paper : Paper) (s : List ℕ) (n set m body : ℕ) (h : HeaderFound s n set m body)
-    → checkedRules n set m body (rulesFrom n (boundLimit paper n set) m 4 (drop body s)) ≡ checkedOf (checkText paper s)
-unfolding checkText linesFrom onward checkedOf checkedRules
-rules-checked paper s n set m body h =
-    rw (h .told, list-limit paper n (h .members) (h .increase) (h .within))
-    (go (rulesFrom n limit m 4 (drop body s)) refl ∙ sym (ap checkedOf (header-goes s _ n set m body h)))
-  where
-    limit : ℕ
-    limit = boundRange paper n (length (h .members))
+-- the lines of the rules decide, in whatever order they may be: as many are accepted as the header says
+module _ (s : List ℕ) (n set m body : ℕ) (h : HeaderFound s n set m body) where
+  pub lines-checked : (j : Judged (List Written)) → ((ws : List Written) (x : List ℕ) → j ≡ accepted ws x → length ws ≡ m)
+      → checkedRules n set m body j ≡ checkedOf (onward j (λ rs. accepted (record { count = n; hiddens = h .members; written = rs })))
+  unfolding onward checkedOf checkedRules
+  lines-checked j count = rw (h .told) (go j refl)
+    where
+      made : List Written → Contents
+      made ws = record { count = n; hiddens = h .members; written = ws }
 
-    made : List Written → Contents
-    made ws = record { count = n; hiddens = h .members; written = ws }
+      begins : (ws : List Written) → length ws ≡ m → body ≡ length (headerText (made ws))
+      begins ws k =
+          omega (arith, header-end (made ws) s (h .second) (h .third) (drop body s) (h .counts) (h .hides) (rw k (h .rules)), length-drop body s, h .inside)
 
-    begins : (ws : List Written) → length ws ≡ m → body ≡ length (headerText (made ws))
-    begins ws k =
-        omega (arith, header-end (made ws) s (h .second) (h .third) (drop body s) (h .counts) (h .hides) (rw k (h .rules)), length-drop body s, h .inside)
+      go : (i : Judged (List Written)) → j ≡ i → checkedRules n (setOf (h .members)) m body i ≡ checkedOf (onward i (λ rs. accepted (made rs)))
+      go (accepted ws x) q = let k : length ws ≡ m = count ws x q in ap₂ (Passed n (setOf (h .members))) (sym k) (begins ws k)
+      go (refused f) q = refl
 
-    go : (j : Judged (List Written)) → rulesFrom n limit m 4 (drop body s) ≡ j
-        → checkedRules n (setOf (h .members)) m body j ≡ checkedOf (onward j (λ rs. accepted (made rs)))
-    go (accepted ws x) q =
-        let k : length ws ≡ m = rules-count n limit m 4 (drop body s) ws x q .0 in ap₂ (Passed n (setOf (h .members))) (sym k) (begins ws k)
-    go (refused f) q = refl
+  -- in any order
+  pub rules-checked : (paper : Paper) → checkedRules n set m body (rulesFrom n (boundLimit paper n set) m 4 (drop body s)) ≡ checkedOf (checkText paper s)
+  unfolding checkText linesFrom
+  rules-checked paper = rw (← limit, lines-checked (rulesFrom n range m 4 (drop body s)) (λ ws x q. rules-count n range m 4 (drop body s) ws x q .0))
+      (sym (ap checkedOf (header-goes s _ n set m body h)))
+    where
+      range : ℕ
+      range = boundRange paper n (length (h .members))
+
+      limit : range ≡ boundLimit paper n set
+      limit = sym (list-limit paper n (h .members) (h .increase) (h .within)) ∙ ap (boundLimit paper n) (sym (h .told))

@@ -45,13 +45,13 @@ onward-ends j next f e = rw e
 -- ---- i of m rule lines are read
 
 -- one line fewer is left, the next one has the next number, or none is left
-left-here : (m i : ℕ) → i < m → m - i ≡ suc (m - (i + 1))
+pub left-here : (m i : ℕ) → i < m → m - i ≡ suc (m - (i + 1))
 left-here m i h = omega arith
 
-next-line : (i : ℕ) → i + 1 + 4 ≡ suc (i + 4)
+pub next-line : (i : ℕ) → i + 1 + 4 ≡ suc (i + 4)
 next-line i = omega arith
 
-none-left : (m i : ℕ) → m ≤ i → m - i ≡ 0
+pub none-left : (m i : ℕ) → m ≤ i → m - i ≡ 0
 none-left m i h = omega arith
 
 -- a line that is refused ends it, and after one that is accepted the others are read
@@ -68,7 +68,7 @@ module _ (n limit m i : ℕ) (u : List ℕ) (h : i < m) where
 -- ---- what the checker has of it
 
 -- which rules there are does not matter to it
-checked-more : (n set m body : ℕ) (w : Written) (j : Judged (List Written))
+pub checked-more : (n set m body : ℕ) (w : Written) (j : Judged (List Written))
     → checkedRules n set m body (onward j (λ rs. accepted (w ∷ rs))) ≡ checkedRules n set m body j
 unfolding onward checkedRules
 checked-more n set m body w (accepted rs u) = refl

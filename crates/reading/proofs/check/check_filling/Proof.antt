@@ -65,7 +65,7 @@ returns-2 : tie.Need-returns-2
 returns-2 c = let e = c .before in let b = e .before .before in let k = b .before in let g = k .before .header .given .0 in
     let p : RulesFilled (g .0) (g .1 .0) (limitOf k) (g .1 .1 .0) (g .1 .1 .1 .0) (textOf k) _ _ _ = rw (limit-is b) at (e .check-rules .ensures) in
     text-filled (paperOf k) (textOf k) (g .0) (g .1 .0) (g .1 .1 .0) (g .1 .1 .1 .0) _ _ _ (found k .high)
-    (p .reply ∙ rules-checked (paperOf k) (textOf k) (g .0) (g .1 .0) (g .1 .1 .0) (g .1 .1 .1 .0) (found k)) p
+    (p .reply ∙ rules-checked (textOf k) (g .0) (g .1 .0) (g .1 .1 .0) (g .1 .1 .1 .0) (found k) (paperOf k)) p
 
 pub check-filling-spec : {M : Type 1} → statement M
 check-filling-spec =

@@ -1,0 +1,44 @@
+-- `tell` meets its contract. Assumes nothing.
+use borrow.Author.Needs.{needs}
+use Rattle.acornsled.proofs.Promised.{told-refused, told-accepted}
+use Rattle.acornsled.proofs.tell.Statement.{statement}
+use Rattle.acornsled.proofs.tell.Tie as tie
+
+value-requires : tie.Need-value-requires
+value-requires c κs = search needs
+
+enum-known-reading : tie.Need-enum-known-reading
+enum-known-reading c = search needs
+
+enum-told : tie.Need-enum-told
+enum-told c = search needs
+
+number-requires : tie.Need-number-requires
+number-requires c κs = search needs
+
+same-length : tie.Need-same-length
+same-length c = search needs
+
+returns : tie.Need-returns
+returns c = let v = c .before .before .before in
+    told-refused _ _ _ _ _ _ (c .before .enum-told .given .1) (c .number .ensures) (v .value .ensures)
+
+same-length-2 : tie.Need-same-length-2
+same-length-2 c = search needs
+
+returns-2 : tie.Need-returns-2
+returns-2 c = let v = c .before .before .before in
+    told-accepted _ _ _ _ _ _ (c .before .reading .given .1) (v .value .ensures)
+
+pub tell-spec : {M : Type 1} → statement M
+tell-spec =
+    tie.close
+    (tie.spec
+    value-requires
+    enum-known-reading
+    enum-told
+    number-requires
+    same-length
+    returns
+    same-length-2
+    returns-2)

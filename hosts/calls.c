@@ -187,6 +187,81 @@ static void refusals(void)
         ACORNSLED_SIZE, 0);
 }
 
+/* A bank sheet of these lines after the first two is accepted, and the writer writes it again. */
+static void banked(const char *rules)
+{
+    char text[200];
+    snprintf(text, sizeof text, "quantities=3\nhidden=2\n%s", rules);
+    lend(NULL, 0);
+    due(text, acornsled_bank_read((const uint8_t *)text, strlen(text), table, LARGEST, &quantities, &hidden, &value),
+        ACORNSLED_DONE, 0);
+    holds(quantities == N && hidden == HIDDEN && kept(table, WORDS), "a bank sheet's n and hidden set are read");
+    due(text, acornsled_write(N, HIDDEN, table, WORDS, out, sizeof out, &value), ACORNSLED_DONE, strlen(text));
+    holds(wrote(text), "an accepted bank sheet is what the writer writes");
+}
+
+/* A bank sheet of these lines after the first two is refused, with its number and its line; all but `value` stays. */
+static void bank_refused(const char *rules, uint32_t number, size_t line)
+{
+    char text[200];
+    snprintf(text, sizeof text, "quantities=3\nhidden=2\n%s", rules);
+    lend(NULL, 0);
+    due(text, acornsled_bank_read((const uint8_t *)text, strlen(text), table, LARGEST, &quantities, &hidden, &value), number,
+        line);
+    holds(kept(table, 0) && quantities == BEFORE && hidden == BEFORE, "a refused bank sheet changes nothing");
+}
+
+/* 9, and the numbers that come before it or after it. */
+static void banking_order(void)
+{
+    bank_refused("rules=1\nrule=+1+1:7\n", ACORNSLED_NOT_CANONICAL, 4);
+    bank_refused("rules=1\nrule=-3-3:7\n", ACORNSLED_NOT_CANONICAL, 4);
+    bank_refused("rules=1\nrule=+2+1:7\n", ACORNSLED_NOT_CANONICAL, 4);
+    /* a place twice, with any bound, also where it is not that of the line before; the order is that of places */
+    bank_refused("rules=2\nrule=+1+2:5\nrule=+1+2:5\n", ACORNSLED_NOT_CANONICAL, 5);
+    bank_refused("rules=2\nrule=+1+2:5\nrule=+1+2:4\n", ACORNSLED_NOT_CANONICAL, 5);
+    bank_refused("rules=3\nrule=+1:5\nrule=+2:5\nrule=+1:5\n", ACORNSLED_NOT_CANONICAL, 6);
+    bank_refused("rules=2\nrule=+1+2:5\nrule=+2:5\n", ACORNSLED_NOT_CANONICAL, 5);
+    bank_refused("rules=2\nrule=-1+2:5\nrule=+1-2:5\n", ACORNSLED_NOT_CANONICAL, 5);
+    bank_refused("rules=2\nrule=+1+3:5\nrule=-2:5\n", ACORNSLED_NOT_CANONICAL, 5);
+    /* 2, 3 and 4 before 9 on one line */
+    bank_refused("rules=1\nrule=+2+1:07\n", ACORNSLED_MALFORMED, 4);
+    bank_refused("rules=1\nrule=+2+1:1000000001\n", ACORNSLED_PAST_LIMIT, 4);
+    bank_refused("rules=1\nrule=+1-1:0\n", ACORNSLED_CANCELLING, 4);
+    bank_refused("rules=2\nrule=+3:0\nrule=-2+2:0\n", ACORNSLED_CANCELLING, 5);
+    /* the line that fails ends the reading */
+    bank_refused("rules=3\nrule=+1:0\nrule=+2+1:0\nrule=\n", ACORNSLED_NOT_CANONICAL, 5);
+    bank_refused("rules=2\nrule=+1:0\nrule=+1:0\nrule=+1:0\n", ACORNSLED_NOT_CANONICAL, 5);
+    bank_refused("rules=3\nrule=+1:0\nrule=+4:0\nrule=+1:0\n", ACORNSLED_PAST_LIMIT, 5);
+    bank_refused("rules=1\nrule=+1:0\nrule=+1:0\n", ACORNSLED_MALFORMED, 5);
+    bank_refused("rules=2\nrule=+1:0\n", ACORNSLED_MALFORMED, 5);
+}
+
+/* Document 02, request 5: sheet A is no bank sheet as document 01 has it, and is one as the writer has it. */
+static void banking(void)
+{
+    const uint8_t *text = (const uint8_t *)sheet, *bank = (const uint8_t *)written;
+    lend(NULL, 0);
+    due("bank_read", acornsled_bank_read(text, strlen(sheet), table, 0, &quantities, &hidden, &value),
+        ACORNSLED_NOT_CANONICAL, 6);
+    due("bank_read", acornsled_bank_read(bank, strlen(written), table, WORDS - 1, &quantities, &hidden, &value),
+        ACORNSLED_TOO_SHORT, WORDS);
+    due("bank_read", acornsled_bank_read(out, ACORNSLED_MOST_BYTES + 1, table, 0, &quantities, &hidden, &value),
+        ACORNSLED_SIZE, 0);
+    due("bank_read", acornsled_bank_read(out, ACORNSLED_MOST_BYTES, table, 0, &quantities, &hidden, &value),
+        ACORNSLED_MALFORMED, 1);
+    holds(kept(table, 0) && quantities == BEFORE && hidden == BEFORE, "a refused bank reading changes nothing");
+    due("bank_read", acornsled_bank_read(bank, strlen(written), table, LARGEST, &quantities, &hidden, &value),
+        ACORNSLED_DONE, 0);
+    holds(quantities == N && hidden == HIDDEN && held(sheet_table), "sheet A is read by the bank");
+
+    banked("rules=0\n");
+    banked("rules=1\nrule=-2-3:-1000000000\n");
+    banked("rules=3\nrule=+1+2:5\nrule=+1-2:2\nrule=-2+3:0\n");
+    banked("rules=4\nrule=+1-2:1\nrule=-1+2:1\nrule=+3:1\nrule=+1+3:1\n");
+    banking_order();
+}
+
 static void assigning(void)
 {
     static const int64_t half[] = {0, -1}; /* 2x is at most 1 and -2x at most -1 */
@@ -577,6 +652,7 @@ int main(void)
 {
     reading();
     refusals();
+    banking();
     assigning();
     keying();
     keying_tight();

@@ -38,6 +38,13 @@ static void *call_read(void *unused)
     return unused;
 }
 
+/* The sheet has its rules in place order, and is a bank sheet as well. */
+static void *call_bank_read(void *unused)
+{
+    answer = acornsled_bank_read((uint8_t *)sheet, sheet_length, table, WORDS, &quantities, &hidden, &value);
+    return unused;
+}
+
 static void *call_write(void *unused)
 {
     answer = acornsled_write(N, hidden, table, WORDS, out, sizeof out, &value);
@@ -158,6 +165,7 @@ int main(void)
     script_length = paper(script, 2, 999);
     measure("a thread alone", call_nothing, ACORNSLED_DONE);
     measure("acornsled_read", call_read, ACORNSLED_DONE);
+    measure("acornsled_bank_read", call_bank_read, ACORNSLED_DONE);
     measure("acornsled_write", call_write, ACORNSLED_DONE);
     measure("acornsled_assignment", call_assignment, ACORNSLED_DONE);
     for (int at = 0; at < ACORNSLED_MOST_QUESTIONS; at++) {

@@ -29,8 +29,8 @@
  * too. A script's other limits are the same; for its bounds ACORNSLED_MOST_BOUND is doubled once for each quantity that is
  * hidden, in a text by its own hidden list. The bounds of acornsled_key's key are never past that: handed in as the script of
  * its sheet, it is equal. Those of acornsled_tight_key's may be; where none is, that is equal too. acornsled_read,
- * acornsled_key, acornsled_tight_key, acornsled_step, acornsled_assignment and acornsled_ask hold what they are given to a
- * sheet's limits, so that a key may be past them (3); acornsled_write writes any bound.
+ * acornsled_bank_read, acornsled_key, acornsled_tight_key, acornsled_step, acornsled_assignment and acornsled_ask hold what they
+ * are given to a sheet's limits, so that a key may be past them (3); acornsled_write writes any bound.
  */
 #define ACORNSLED_MOST_QUANTITIES 32
 #define ACORNSLED_MOST_BOUND INT64_C(1000000000)
@@ -62,6 +62,7 @@ enum {
     ACORNSLED_TOO_SHORT = 6,     /* what is lent to be written to is too short */
     ACORNSLED_MISMATCH = 7,      /* the script has another n or hidden list, or a rule that names a hidden quantity */
     ACORNSLED_LIST_SIZE = 8,     /* the list of questions is empty or has more than 64 */
+    ACORNSLED_NOT_CANONICAL = 9, /* a bank sheet's rule is doubled, has its higher quantity first, or is out of place order */
     ACORNSLED_EQUAL = 100,       /* the script allows what the sheet allows */
     ACORNSLED_LOOSE = 101,       /* it allows something that the sheet does not, whatever it forbids */
     ACORNSLED_TIGHT = 102        /* it only forbids more */
@@ -80,8 +81,8 @@ extern "C" {
 #endif
 
 /*
- * The first seven calls write to `value` what stands beside their number: with 2, 3 and 4 of a text the line, with 6 the
- * length needed, with 0 of acornsled_write the text's length, and 0 with all others. A refusal changes nothing else, but 5
+ * The first eight calls write to `value` what stands beside their number: with 2, 3 and 4 of a text, and with 9, the line, with
+ * 6 the length needed, with 0 of acornsled_write the text's length, and 0 with all others. A refusal changes nothing else, but 5
  * leaves the first 2n^2 words of the workspace free.
  */
 
@@ -91,6 +92,20 @@ extern "C" {
  */
 uint32_t acornsled_read(const uint8_t *text, size_t text_length, int64_t *table, size_t table_length,
                         size_t *quantities, uint32_t *hidden, size_t *value);
+
+/*
+ * Reads the text of a bank sheet, a sheet whose rules stand in place order, each place once, the lower quantity first and no
+ * term doubled: 0, or 1, 2, 3, 4, 6, 9. With 0 all is as after acornsled_read. So each table has one text: what acornsled_write
+ * writes of a table whose bounds are in a sheet's limits is accepted, and gives n, the hidden set and the table back; and every
+ * text that is accepted is, byte for byte, what acornsled_write writes of what was read.
+ *
+ * 1 comes first, for the size, then the lines from the first, and the line that fails ends the reading. On the line of a rule 2,
+ * 3 and 4 are those of acornsled_read, and 9 comes after them: for a doubled term, as +1+1, for the higher quantity first, as
+ * +3-2, and for a place that is not after that of the rule before it. So a 9 at line 5 is told before a 2 at line 6. 6 comes
+ * last.
+ */
+uint32_t acornsled_bank_read(const uint8_t *text, size_t text_length, int64_t *table, size_t table_length,
+                             size_t *quantities, uint32_t *hidden, size_t *value);
 
 /*
  * Writes a table and a hidden set as a text: 0, or 1, 3, 6; 3 is for the set alone, a bound may be any word. With 0 the first

@@ -52,8 +52,8 @@ pub fn read(text: &[u8], table: &mut [i64], header: &mut Header) -> Reply {
     Reply { number, value }
 }
 
-/// As [`read`], of a text in bank form: a rule line that is fine by itself is refused with 9 where its term is doubled, its
-/// higher quantity stands first, or its place is not after that of the rule before it.
+/// As [`read`], of a bank sheet: after 2, 3 and 4 on one line comes 9, for a rule that has a doubled term or its higher quantity
+/// first, or whose place is not after that of the rule before it.
 pub fn bank_read(text: &[u8], table: &mut [i64], header: &mut Header) -> Reply {
     let mut value = UNWRITTEN;
     // SAFETY: as above.

@@ -24,8 +24,8 @@ pub enum Refusal {
     Mismatch,
     /// 8: the list of questions is empty or has more than 64
     ListSize,
-    /// 9: a rule of a bank sheet has a doubled term or its higher quantity first, or its place is not after that of the rule
-    /// before it
+    /// 9: a rule of a bank sheet has a doubled term, as `+1+1`, or its higher quantity first, as `+3-2`, or its place is not after
+    /// that of the rule before it
     NotCanonical { line: usize },
 }
 
@@ -94,7 +94,7 @@ impl fmt::Display for Refusal {
             Refusal::TooShort { needed } => return write!(f, "refused with 6: what is lent is shorter than {needed}"),
             Refusal::Mismatch => "the script does not fit the sheet",
             Refusal::ListSize => "the list of questions is empty or has more than 64",
-            Refusal::NotCanonical { .. } => "a rule that is not in bank form, or not in place order",
+            Refusal::NotCanonical { .. } => "a rule is doubled, has its higher quantity first, or is out of order",
         };
         match self.line() {
             0 => write!(f, "refused with {}: {what}", self.number()),

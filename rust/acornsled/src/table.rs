@@ -24,13 +24,28 @@ impl Table {
         Table::read_by(calls::read, text)
     }
 
-    /// The table of a text in bank form: its rules in place order, each place once, the lower quantity first and no doubled
-    /// term, so that the text is the table's own, as [`Table::text`] gives it. Any other text that [`Table::read`] accepts is
-    /// refused with 9.
+    /// The table of a bank sheet, a text whose rules stand in place order, each place once, the lower quantity first and no
+    /// term doubled. It is the table that [`Table::read`] gives, and the text is, byte for byte, what [`Table::text`] gives for
+    /// it, so that each table has one. A rule that is fine by itself and stands otherwise is refused with 9; its line ends the
+    /// reading, as every line does that fails.
+    ///
+    /// ```no_run
+    /// use acornsled::{Refusal, Table};
+    ///
+    /// # fn main() -> Result<(), Refusal> {
+    /// let sheet = b"quantities=2\nhidden=\nrules=2\nrule=+2+1:5\nrule=+1+1:7\n";
+    /// assert_eq!(Table::read_bank(sheet), Err(Refusal::NotCanonical { line: 4 }));
+    /// let bank = Table::read(sheet)?.text()?;
+    /// assert_eq!(bank, b"quantities=2\nhidden=\nrules=2\nrule=+1:3\nrule=+1+2:5\n");
+    /// assert_eq!(Table::read_bank(&bank)?, Table::read(sheet)?);
+    /// # Ok(())
+    /// # }
+    /// ```
     pub fn read_bank(text: &[u8]) -> Result<Table, Refusal> {
         Table::read_by(calls::bank_read, text)
     }
 
+    /// The table that a call reads of a text.
     fn read_by(call: fn(&[u8], &mut [i64], &mut Header) -> Reply, text: &[u8]) -> Result<Table, Refusal> {
         let mut words = vec![0; TABLE_WORDS];
         let mut header = Header { quantities: 0, hidden: 0 };
@@ -40,7 +55,8 @@ impl Table {
         Ok(Table { quantities, hidden, words })
     }
 
-    /// The table's text.
+    /// The table's text, with its rules in place order. Where the bounds are in a sheet's limits it is a bank sheet, and
+    /// [`Table::read_bank`] gives the table back.
     pub fn text(&self) -> Result<Vec<u8>, Refusal> {
         let mut out = vec![0; TEXT_BYTES];
         let length = done(calls::write(self.quantities, self.hidden, &self.words, &mut out))?;

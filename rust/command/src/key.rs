@@ -3,7 +3,6 @@
 use crate::source::Source;
 use crate::status::Status;
 use crate::{arguments, output, usage};
-use acornsled::{Paper, Refusal, Refused};
 use std::ffi::OsString;
 
 /// Prints the key's text or the refusal, and tells why it is refused.
@@ -16,15 +15,6 @@ pub fn run(given: &[OsString]) -> Status {
     let sheet = source.held(source.to_string());
     match acornsled::tight_key(&sheet.bytes) {
         Ok(key) => output::answer(&key),
-        Err(refusal) => {
-            let printed = output::answer(lines(refusal).as_bytes());
-            sheet.tell_refusal(Refused { paper: Paper::Sheet, refusal });
-            printed.max(sheet.status).max(Status::Refused)
-        }
+        Err(refusal) => sheet.refuse(refusal),
     }
-}
-
-/// What is printed for a refusal.
-fn lines(refusal: Refusal) -> String {
-    format!("refused={}\nline={}\n", refusal.number(), refusal.line())
 }

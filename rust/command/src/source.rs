@@ -1,9 +1,9 @@
 //! Where a text comes from, a file that is named or standard input, and the text that was read there.
 
-use crate::output::tell;
+use crate::output::{self, tell};
 use crate::status::Status;
 use crate::{files, reason, visible};
-use acornsled::Refused;
+use acornsled::{Paper, Refusal, Refused};
 use std::ffi::OsStr;
 use std::fmt;
 use std::io;
@@ -72,6 +72,14 @@ pub struct Held {
 }
 
 impl Held {
+    /// Prints the refusal of a sheet, as the program *key* prints it, and tells why it is refused.
+    pub fn refuse(&self, refusal: Refusal) -> Status {
+        let lines = format!("refused={}\nline={}\n", refusal.number(), refusal.line());
+        let printed = output::answer(lines.as_bytes());
+        self.tell_refusal(Refused { paper: Paper::Sheet, refusal });
+        printed.max(self.status).max(Status::Refused)
+    }
+
     /// Tells why the text is refused; of one that cannot be read this is told already.
     pub fn tell_refusal(&self, refused: Refused) {
         if self.status == Status::Answered {

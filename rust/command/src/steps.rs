@@ -5,7 +5,7 @@ use crate::source::Source;
 use crate::status::Status;
 use crate::{arguments, output, usage, visible};
 use acornsled::limits::NO_RULE;
-use acornsled::{Paper, Refusal, Refused, Table};
+use acornsled::{Refusal, Table};
 use std::ffi::{OsStr, OsString};
 use std::fmt::Write;
 
@@ -25,11 +25,7 @@ pub fn run(given: &[OsString]) -> Status {
     let sheet = source.held(source.to_string());
     let table = match keyed(&sheet.bytes) {
         Ok(table) => table,
-        Err(refusal) => {
-            let printed = output::answer(lines(refusal).as_bytes());
-            sheet.tell_refusal(Refused { paper: Paper::Sheet, refusal });
-            return printed.max(sheet.status).max(Status::Refused);
-        }
+        Err(refusal) => return sheet.refuse(refusal),
     };
     let hidden = Hidden(table.hidden).quantities();
     match quantity {
@@ -110,9 +106,4 @@ fn not_hidden(named: &OsStr, hidden: &[usize]) -> String {
     // nothing at all would be seen of an empty one
     let shown = if named.is_empty() { "''".to_string() } else { visible::name(named) };
     format!("{shown} is no quantity that is hidden: {due}")
-}
-
-/// What is printed for a refusal.
-fn lines(refusal: Refusal) -> String {
-    format!("refused={}\nline={}\n", refusal.number(), refusal.line())
 }

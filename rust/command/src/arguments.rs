@@ -11,19 +11,30 @@ use std::os::unix::ffi::OsStrExt;
 /// The files that are named, or the status where there is no more to do: help or the version was asked for, or the use is
 /// wrong. `--` ends the options, and `-` is a file.
 pub fn files<'a>(given: &'a [OsString], page: &Page, due: RangeInclusive<usize>) -> Result<Vec<&'a OsStr>, Status> {
-    let mut files: Vec<&OsStr> = Vec::new();
+    files_and_option(given, page, due, None).map(|(files, _)| files)
+}
+
+/// The same of a command that may have an option of its own, and whether that is given.
+pub fn files_and_option<'a>(
+    given: &'a [OsString],
+    page: &Page,
+    due: RangeInclusive<usize>,
+    option: Option<&str>,
+) -> Result<(Vec<&'a OsStr>, bool), Status> {
+    let (mut files, mut is_given): (Vec<&OsStr>, bool) = (Vec::new(), false);
     let mut rest = given.iter().map(OsString::as_os_str);
     while let Some(argument) = rest.next() {
         match argument.as_bytes() {
             b"--" => files.extend(rest.by_ref()),
             b"--help" | b"-h" => return Err(output::answer(page.help.as_bytes())),
             b"--version" | b"-V" => return Err(output::answer(usage::VERSION.as_bytes())),
+            own if option.is_some_and(|option| option.as_bytes() == own) => is_given = true,
             [b'-', _, ..] => return Err(usage::wrong(page.usage, &unknown(argument))),
             _ => files.push(argument),
         }
     }
     if due.contains(&files.len()) {
-        return Ok(files);
+        return Ok((files, is_given));
     }
     Err(usage::wrong(page.usage, &miscounted(files.len(), due)))
 }

@@ -2,6 +2,7 @@
 
 pub mod arguments;
 pub mod ask;
+pub mod bank;
 pub mod descriptors;
 pub mod explain;
 pub mod files;
@@ -45,6 +46,7 @@ fn named(name: &OsStr, rest: &[OsString]) -> Option<Status> {
         Some("sitting") => Some(sitting::run(rest)),
         Some("ask") => Some(ask::run(rest)),
         Some("steps") => Some(steps::run(rest)),
+        Some("bank") => Some(bank::run(rest)),
         Some("explain") => Some(explain::run(rest)),
         _ => None,
     }

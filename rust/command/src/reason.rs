@@ -2,6 +2,7 @@
 //! by a reading of its own that knows the usual causes.
 
 pub mod announced;
+pub mod bank;
 pub mod behind;
 pub mod cause;
 pub mod contradiction;
@@ -19,6 +20,7 @@ pub mod limit;
 pub mod lines;
 pub mod malformed;
 pub mod misfit;
+pub mod place;
 pub mod pointer;
 pub mod questions;
 pub mod relation;
@@ -54,6 +56,7 @@ pub fn of(name: &str, text: &[u8], refused: Refused) -> Reason {
         Refusal::OutOfLimit { line } => at_line(line, limit::outside(&lines, line, paper)),
         Refusal::Cancelling { line } => at_line(line, limit::cancelling(&lines, line)),
         Refusal::NoAssignment => (": no integers satisfy its rules".to_string(), unsatisfied(text)),
+        Refusal::NotCanonical { line } => at_line(line, bank::told(&lines, line)),
         // 6, 7 and 8 are about no text by itself
         _ => (String::new(), Vec::new()),
     };

@@ -11,6 +11,7 @@ usage: acornsled key [FILE]
        acornsled sitting SHEET FOLDER
        acornsled ask SHEET QUESTIONS
        acornsled steps SHEET [QUANTITY]
+       acornsled bank [--check] [FILE]
        acornsled explain [FILE]
        acornsled --help | --version
 ";
@@ -31,6 +32,7 @@ pub const MARK: Page = Page { usage: "usage: acornsled mark SHEET SCRIPT\n", hel
 pub const ASK: Page = Page { usage: "usage: acornsled ask SHEET QUESTIONS\n", help: include_str!("usage/ask.txt") };
 pub const STEPS: Page =
     Page { usage: "usage: acornsled steps SHEET [QUANTITY]\n", help: include_str!("usage/steps.txt") };
+pub const BANK: Page = Page { usage: "usage: acornsled bank [--check] [FILE]\n", help: include_str!("usage/bank.txt") };
 pub const EXPLAIN: Page = Page { usage: "usage: acornsled explain [FILE]\n", help: include_str!("usage/explain.txt") };
 
 /// Tells what is wrong with the arguments, and how the command is used.

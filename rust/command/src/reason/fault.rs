@@ -42,3 +42,8 @@ impl Fault {
         Told { at: Some(self.at), details }
     }
 }
+
+/// All that is told of a line with a fault, which is always found where the reading here agrees with the library's.
+pub fn told(line: &[u8], fault: Option<Fault>, expected: &str) -> Told {
+    fault.unwrap_or_else(|| Fault::new(0, line.len(), "this line")).told(line, expected)
+}

@@ -37,6 +37,12 @@ impl Term<'_> {
 }
 
 impl RuleLine<'_> {
+    /// Where the terms begin in the line, and how many bytes they take.
+    pub fn terms(&self) -> (usize, usize) {
+        let (from, last) = (self.first.quantity.at - 1, self.second.as_ref().unwrap_or(&self.first).quantity);
+        (from, last.at + last.digits.len() - from)
+    }
+
     /// The rule by value, as it is written. Its numbers are within their limits.
     pub fn rule(&self) -> Rule {
         let magnitude = self.bound.value().and_then(|value| i64::try_from(value).ok()).unwrap_or(i64::MAX);

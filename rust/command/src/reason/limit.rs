@@ -1,8 +1,8 @@
 //! Numbers outside their limits, and quantities that cancel, on lines that are well formed.
 
 use super::cursor::Numeral;
-use super::fault::Fault;
-use super::form::{self, RuleLine, Term};
+use super::fault::{self, Fault};
+use super::form::{self, RuleLine};
 use super::grouped;
 use super::hidden::Hidden;
 use super::kind::Kind;
@@ -19,18 +19,13 @@ const OWN: &str =
 /// What is told of a line with a number outside its limit for this paper.
 pub fn outside(lines: &Lines, line: usize, paper: Paper) -> Told {
     let expected = Kind::of(line, lines).expected();
-    told(lines.bytes(line), first(lines, line, paper), &expected)
+    fault::told(lines.bytes(line), first(lines, line, paper), &expected)
 }
 
 /// What is told of a rule `+q-q` or `-q+q`.
 pub fn cancelling(lines: &Lines, line: usize) -> Told {
     let bytes = lines.bytes(line);
-    told(bytes, form::rule(bytes).ok().and_then(|rule| cancelled(&rule)), DISTINCT)
-}
-
-/// A fault is always found where the reading here agrees with the library's.
-fn told(line: &[u8], fault: Option<Fault>, expected: &str) -> Told {
-    fault.unwrap_or_else(|| Fault::new(0, line.len(), "this line")).told(line, expected)
+    fault::told(bytes, form::rule(bytes).ok().and_then(|rule| cancelled(&rule)), DISTINCT)
 }
 
 /// The first number of the line that is outside its limit.
@@ -95,10 +90,8 @@ fn bound(rule: &RuleLine, paper: Paper, hidden: Hidden) -> Option<Fault> {
 
 /// The two quantities of a rule that cancel.
 fn cancelled(rule: &RuleLine) -> Option<Fault> {
-    let Term { quantity, .. } = rule.first;
-    let end = rule.second?.quantity;
-    let from = quantity.at - 1;
-    let (q, length) = (quantity.shown(), end.at + end.digits.len() - from);
+    rule.second?;
+    let ((from, length), q) = (rule.terms(), rule.first.quantity.shown());
     let what = match rule.minus {
         false => format!("quantity {q} is added and taken away, so that the rule is always met: leave it out"),
         true => format!("quantity {q} is added and taken away, so that the rule is never met"),

@@ -55,6 +55,8 @@ fn a_file_that_cannot_be_read_counts_as_empty_is_told_and_gives_status_2() {
         due(["ask".as_ref(), sheet, path], "refused=2\npaper=questions\nline=1\n", told("the questions "));
         due(["steps".as_ref(), path, "none".as_ref()], "refused=2\nline=1\n", told(""));
         due(["steps".as_ref(), path, "2".as_ref()], "refused=2\nline=1\n", told(""));
+        due(["bank".as_ref(), path, "none".as_ref()], "refused=2\nline=1\n", told(""));
+        due(["bank".as_ref(), "--check".as_ref(), path], "refused=2\nline=1\n", told(""));
         due(["explain".as_ref(), path, "none".as_ref()], "", format!("acornsled: {shown} cannot be read: {why}"));
     }
 }
@@ -97,16 +99,20 @@ fn names_of_any_bytes_are_opened_and_shown_harmlessly() {
 }
 
 /// What each of these prints is lost.
-fn printing(room: &Room) -> [Vec<PathBuf>; 9] {
+fn printing(room: &Room) -> [Vec<PathBuf>; 12] {
     let (sheet, bad) = (room.file("sheet", SHEET), room.file("bad", "x"));
     let script = room.file("script", "quantities=3\nhidden=2\nrules=0\n");
+    let check: [PathBuf; 2] = ["bank", "--check"].map(PathBuf::from);
     [
         vec!["key".into(), sheet.clone()],
         vec!["key".into(), bad],
-        vec!["mark".into(), sheet.clone(), script],
+        vec!["mark".into(), sheet.clone(), script.clone()],
         vec!["ask".into(), sheet.clone(), sheet.clone()],
         vec!["steps".into(), sheet.clone()],
         vec!["steps".into(), sheet.clone(), "2".into()],
+        vec!["bank".into(), sheet.clone()],
+        [&check[..], &[sheet.clone()]].concat(),
+        [&check[..], &[script]].concat(),
         vec!["explain".into(), sheet],
         vec!["--help".into()],
         vec!["key".into(), "--version".into()],

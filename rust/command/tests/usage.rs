@@ -29,6 +29,9 @@ fn help_goes_to_standard_output() {
         (&["steps", "--help"], "acornsled steps - "),
         (&["steps", "a", "2", "-h"], "acornsled steps - "),
         (&["help", "steps"], "acornsled steps - "),
+        (&["bank", "--help"], "acornsled bank - "),
+        (&["bank", "--check", "a", "b", "-h"], "acornsled bank - "),
+        (&["help", "bank"], "acornsled bank - "),
         (&["explain", "--help"], "acornsled explain - "),
         (&["help", "explain"], "acornsled explain - "),
     ];
@@ -51,6 +54,7 @@ fn the_version_goes_to_standard_output() {
         &["mark", "-V"],
         &["ask", "-V"],
         &["steps", "-V"],
+        &["bank", "--check", "-V"],
         &["explain", "--version"],
     ];
     for arguments in asked {
@@ -77,6 +81,13 @@ fn the_examples_of_the_help_hold() {
     let questions = room.file("questions.txt", lines.collect::<String>());
     assert_eq!(ran(acornsled(["ask"]).arg(&sheet).arg(questions)).output, shown("ask"));
     assert_eq!(ran(acornsled(["steps"]).arg(&sheet)).output, shown("steps"));
+    assert_eq!(ran(acornsled(["bank"]).arg(&sheet)).output, shown("bank"));
+    let page = called(&["bank", "--help"]).output;
+    let (_, after) = page.split_once("\n    $ acornsled bank --check sheet.txt\n").expect("the page shows a check");
+    let lines: String =
+        after.lines().take_while(|line| !line.contains('$')).map(|line| format!("{}\n", &line[4..])).collect();
+    let got = ran(acornsled(["bank", "--check", "sheet.txt"]).current_dir(room.at("")));
+    assert_eq!(got.output + &got.told, lines);
     assert_eq!(ran(acornsled(["explain"]).arg(&sheet)).output, shown("explain"));
 
     let page = called(&["--help"]).output;
@@ -121,6 +132,14 @@ fn wrong_use_is_told_with_the_usage_and_status_2() {
             "there is no option -2; a file of that name is given after --",
             "steps SHEET [QUANTITY]",
         ),
+        (&["bank", "a", "b"], "at most 1 file is due, and 2 are given", "bank [--check] [FILE]"),
+        (&["bank", "--check", "a", "b"], "at most 1 file is due, and 2 are given", "bank [--check] [FILE]"),
+        (
+            &["bank", "--chekc", "a"],
+            "there is no option --chekc; a file of that name is given after --",
+            "bank [--check] [FILE]",
+        ),
+        (&["key", "--check", "a"], "there is no option --check; a file of that name is given after --", "key [FILE]"),
         (&["explain", "a", "b"], "at most 1 file is due, and 2 are given", "explain [FILE]"),
         (
             &["key", "--\n\x1b[2J"],

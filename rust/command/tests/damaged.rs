@@ -1,5 +1,5 @@
 //! Texts damaged at random: whatever the bytes are, the reason agrees with the library's refusal and points to the fault, as a
-//! sheet and as a script.
+//! sheet, as a script and as a bank sheet.
 
 mod random;
 
@@ -119,14 +119,6 @@ fn lines_moved(text: &mut Vec<u8>, random: &mut Random) {
     *text = lines.concat();
 }
 
-/// Why the library refuses the text: *key* refuses a sheet too that no integers satisfy.
-fn refusal(text: &[u8], paper: Paper) -> Option<Refusal> {
-    match paper {
-        Paper::Script => Written::of(text, paper).err(),
-        Paper::Sheet | Paper::Both => Table::read(text).and_then(|table| table.assignment()).err(),
-    }
-}
-
 /// The number and the line are the library's, something is expected, and nothing is printed that moves the cursor.
 fn assert_agrees(text: &[u8], refusal: Refusal, reason: &Reason) {
     let shown = text.escape_ascii();
@@ -211,6 +203,12 @@ fn assert_specific(text: &[u8], refused: Refused, reason: &Reason) {
             let (_, _, what) = told.expect("a number outside its limit is pointed to");
             assert_ne!(what, "this line", "{}", text.escape_ascii());
         }
+        (Refusal::NotCanonical { .. }, told) => {
+            let (at, width, what) = told.expect("the terms of a rule are pointed to");
+            let terms = Lines::of(text).bytes(line).iter().take_while(|&&byte| byte != b':').count();
+            assert_eq!((at, at + width), ("rule=".len(), terms), "{}: {reason}", text.escape_ascii());
+            assert!(!["this line", "not in place order"].contains(&what), "{}", text.escape_ascii());
+        }
         _ => (),
     }
 }
@@ -235,11 +233,11 @@ fn joined(numbers: &[usize]) -> String {
 }
 
 /// How often which refusal came of damaged texts, each of which is told of as the library refuses it.
-fn counted(paper: Paper) -> [usize; 8] {
-    let mut counts = [0; 8];
+fn counted(paper: Paper, refusal: impl Fn(&[u8]) -> Option<Refusal>) -> [usize; 10] {
+    let mut counts = [0; 10];
     for round in 0..ROUNDS {
         let text = damaged(&mut Random(round));
-        let Some(refusal) = refusal(&text, paper) else {
+        let Some(refusal) = refusal(&text) else {
             counts[0] += 1;
             assert_read(&text, paper);
             continue;
@@ -256,15 +254,23 @@ fn counted(paper: Paper) -> [usize; 8] {
 /// The rounds have all kinds but 1, for which a text has to be long, and 6 and 7, which are no refusals of a text.
 #[test]
 fn damaged_sheets_are_told_of_as_the_library_refuses_them() {
-    let counts = counted(Paper::Sheet);
+    // *key* refuses a sheet too that no integers satisfy
+    let counts = counted(Paper::Sheet, |text| Table::read(text).and_then(|table| table.assignment()).err());
     assert!([0, 2, 3, 4, 5].iter().all(|&number| counts[number] > 50), "{counts:?}");
 }
 
 /// A script that nothing satisfies is no refusal.
 #[test]
 fn damaged_scripts_are_told_of_as_the_library_refuses_them() {
-    let counts = counted(Paper::Script);
+    let counts = counted(Paper::Script, |text| Written::of(text, Paper::Script).err());
     assert!([0, 2, 3, 4].iter().all(|&number| counts[number] > 50), "{counts:?}");
+}
+
+/// So it is by bank reading, which refuses many with 9.
+#[test]
+fn damaged_bank_sheets_are_told_of_as_the_library_refuses_them() {
+    let counts = counted(Paper::Sheet, |text| Table::read_bank(text).err());
+    assert!([0, 2, 3, 4, 9].iter().all(|&number| counts[number] > 20), "{counts:?}");
 }
 
 /// Whatever refusal it is given, fitting or not, and whatever the text, a reason is found without a panic.
@@ -282,6 +288,8 @@ fn a_reason_is_found_for_every_refusal_of_every_text() {
             Refusal::NoAssignment,
             Refusal::TooShort { needed: line },
             Refusal::Mismatch,
+            Refusal::ListSize,
+            Refusal::NotCanonical { line },
         ];
         for refusal in refusals {
             for paper in [Paper::Sheet, Paper::Script, Paper::Both] {

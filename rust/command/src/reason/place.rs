@@ -13,14 +13,13 @@ pub fn held(rule: Rule) -> Rule {
     }
 }
 
-/// The place of a rule that is held so. The block of a quantity has it alone first, then with each lower one.
-pub fn of(rule: Rule) -> u64 {
-    let block = |quantity: i64| 2 * quantity.unsigned_abs().saturating_sub(1).pow(2);
+/// The place of a rule that is held so; of whatever quantities are given, it fits.
+pub fn of(rule: Rule) -> u128 {
+    let below = |term: i64| u128::from(term.unsigned_abs()).saturating_sub(1);
+    let block = |term: i64| 2 * below(term).pow(2) + u128::from(term < 0);
     match rule {
-        Rule::One { term, .. } => block(term) + u64::from(term < 0),
-        Rule::Two { first, second, .. } => {
-            let pair = 4 * first.unsigned_abs().saturating_sub(1) + 2;
-            block(second) + pair + 2 * u64::from(first < 0) + u64::from(second < 0)
-        }
+        Rule::One { term, .. } => block(term),
+        // behind the two places of the higher quantity alone, four for each lower one
+        Rule::Two { first, second, .. } => block(second) + 2 + 4 * below(first) + 2 * u128::from(first < 0),
     }
 }

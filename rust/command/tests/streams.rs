@@ -102,7 +102,6 @@ fn names_of_any_bytes_are_opened_and_shown_harmlessly() {
 fn printing(room: &Room) -> [Vec<PathBuf>; 12] {
     let (sheet, bad) = (room.file("sheet", SHEET), room.file("bad", "x"));
     let script = room.file("script", "quantities=3\nhidden=2\nrules=0\n");
-    let check: [PathBuf; 2] = ["bank", "--check"].map(PathBuf::from);
     [
         vec!["key".into(), sheet.clone()],
         vec!["key".into(), bad],
@@ -111,8 +110,8 @@ fn printing(room: &Room) -> [Vec<PathBuf>; 12] {
         vec!["steps".into(), sheet.clone()],
         vec!["steps".into(), sheet.clone(), "2".into()],
         vec!["bank".into(), sheet.clone()],
-        [&check[..], &[sheet.clone()]].concat(),
-        [&check[..], &[script]].concat(),
+        vec!["bank".into(), "--check".into(), sheet.clone()],
+        vec!["bank".into(), "--check".into(), script],
         vec!["explain".into(), sheet],
         vec!["--help".into()],
         vec!["key".into(), "--version".into()],

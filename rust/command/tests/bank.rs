@@ -151,10 +151,11 @@ fn exchanged(text: &str, line: usize) -> String {
     lines.iter().map(|line| format!("{line}\n")).collect()
 }
 
-/// A text has one bank form, which is in bank form, and any other text is not: also the bank form with two lines exchanged.
+/// A text has one bank form, which is in bank form, and any other text is not: also the bank form with two lines exchanged. A
+/// key is in bank form, for the library writes it.
 #[test]
 fn random_sheets_are_put_into_bank_form() {
-    let mut random = Random(5);
+    let (mut random, mut keys) = (Random(5), 0);
     for _ in 0..300 {
         let n = random.pick(&[1, 2, 3, 12, 32]);
         let rules: Vec<String> = (0..random.below(40)).map(|_| random.rule(n, 9)).collect();
@@ -162,9 +163,14 @@ fn random_sheets_are_put_into_bank_form() {
         let form = form(&text);
         assert_eq!(Table::read_bank(form.as_bytes()), Table::read(text.as_bytes()), "{text}");
         assert_eq!(Table::read_bank(text.as_bytes()).is_ok(), text == form, "{text}");
+        if let Ok(key) = acornsled::tight_key(text.as_bytes()) {
+            assert!(Table::read_bank(&key).is_ok(), "{text}");
+            keys += 1;
+        }
         for line in 4..form.lines().count() {
             let refused = Table::read_bank(exchanged(&form, line).as_bytes());
             assert_eq!(refused, Err(Refusal::NotCanonical { line: line + 1 }), "{form}");
         }
     }
+    assert!(keys > 50, "{keys} of the sheets have keys");
 }

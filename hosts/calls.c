@@ -221,6 +221,7 @@ static void banking_order(void)
     bank_refused("rules=2\nrule=+1+2:5\nrule=+1+2:5\n", ACORNSLED_NOT_CANONICAL, 5);
     bank_refused("rules=2\nrule=+1+2:5\nrule=+1+2:4\n", ACORNSLED_NOT_CANONICAL, 5);
     bank_refused("rules=3\nrule=+1:5\nrule=+2:5\nrule=+1:5\n", ACORNSLED_NOT_CANONICAL, 6);
+    bank_refused("rules=3\nrule=+1:5\nrule=+2:5\nrule=-1:5\n", ACORNSLED_NOT_CANONICAL, 6);
     bank_refused("rules=2\nrule=+1+2:5\nrule=+2:5\n", ACORNSLED_NOT_CANONICAL, 5);
     bank_refused("rules=2\nrule=-1+2:5\nrule=+1-2:5\n", ACORNSLED_NOT_CANONICAL, 5);
     bank_refused("rules=2\nrule=+1+3:5\nrule=-2:5\n", ACORNSLED_NOT_CANONICAL, 5);

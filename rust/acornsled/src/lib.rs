@@ -4,8 +4,8 @@
 //! inequalities); some quantities are hidden. [`key`] gives what a sheet implies for the visible ones alone, [`tight_key`] the
 //! same with every rule that follows, each at its least bound, [`step`] the way to the first, block by block, [`mark`] the verdict
 //! on a candidate's script, and [`ask`] says of each of some rules whether the sheet implies it. All work on texts held as bytes;
-//! [`Table`] has the calls on tables, and with [`Table::text`] and [`Table::read_bank`] the one text that a table has in a bank of
-//! sheets, which finds duplicates by bytes.
+//! [`Table`] has the calls on tables, and with [`Table::text`] and [`Table::read_bank`] the one text that a table has in a bank
+//! of sheets, which finds duplicates by bytes.
 //!
 //! ```no_run
 //! let sheet = b"quantities=3\nhidden=2\nrules=3\nrule=+1+2:5\nrule=+1-2:2\nrule=+3-2:0\n";

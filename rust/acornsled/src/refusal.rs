@@ -24,8 +24,8 @@ pub enum Refusal {
     Mismatch,
     /// 8: the list of questions is empty or has more than 64
     ListSize,
-    /// 9: a rule of a bank sheet has a doubled term, as `+1+1`, or its higher quantity first, as `+3-2`, or its place is not after
-    /// that of the rule before it
+    /// 9: a rule of a bank sheet has a doubled term, as `+1+1`, or its higher quantity first, as `+3-2`, or its place is not
+    /// after that of the rule before it
     NotCanonical { line: usize },
 }
 

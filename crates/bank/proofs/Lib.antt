@@ -12,3 +12,4 @@ pub mod BankChecking
 pub mod OrderTold
 pub mod Means
 pub mod Promised
+pub mod Worked

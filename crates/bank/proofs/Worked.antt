@@ -56,4 +56,4 @@ cases =
 
 pub all-returned : AllReturned cases
 unfolding cases reading putting canonicalPlace fromPlace orderedFrom bankLines bankText bankReply
-all-returned = (refl, refl, refl, refl, refl, refl, refl, refl, refl, refl, refl, refl, refl, refl, refl, refl, refl, refl, tt)
+all-returned = (refl, (refl, (refl, (refl, (refl, (refl, (refl, (refl, (refl, (refl, (refl, (refl, (refl, (refl, (refl, (refl, (refl, (refl, tt))))))))))))))))))

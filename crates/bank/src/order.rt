@@ -5,7 +5,7 @@ ghost use mathlib.Core.Path.{_≡_};
 ghost use Rattle.bank.specs.Banking.{canonicalPlace};
 
 // Where a rule's term stands that is of one quantity, or of two with the lower one first; any other rule, as one with a doubled term, has no place here.
-pub fn canonical_place(rule: Rule) -> Place
+pub(crate) fn canonical_place(rule: Rule) -> Place
     ensures { λ r. ⌜ r ≡ canonicalPlace rule ⌝ }
 {
     match rule {

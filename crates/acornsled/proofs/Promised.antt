@@ -119,13 +119,13 @@ assignment-answer n t w u w' u' reply r v k e d = record {
 -- ---- reading
 
 -- a text that is refused leaves n and the hidden set
-pub told-refused : (reply : Reading) (n set : ℕ) (f : Refusal) (r v : ℕ) → reply ≡ Refused f → r ≡ readingNumber reply → v ≡ readingValue reply
+pub reading-refused : (reply : Reading) (n set : ℕ) (f : Refusal) (r v : ℕ) → reply ≡ Refused f → r ≡ readingNumber reply → v ≡ readingValue reply
     → ReadingTold reply n set r v n set
-told-refused reply n set f r v q e d = record { number = e; value = d; count = sym (ap (countRead n) q); hidden = sym (ap (setRead set) q) }
+reading-refused reply n set f r v q e d = record { number = e; value = d; count = sym (ap (countRead n) q); hidden = sym (ap (setRead set) q) }
 
 -- one that is accepted gives them
-pub told-accepted : (reply : Reading) (n set n' set' v : ℕ) → reply ≡ Accepted n' set' → v ≡ readingValue reply → ReadingTold reply n set 0 v n' set'
-told-accepted reply n set n' set' v q d =
+pub reading-accepted : (reply : Reading) (n set n' set' v : ℕ) → reply ≡ Accepted n' set' → v ≡ readingValue reply → ReadingTold reply n set 0 v n' set'
+reading-accepted reply n set n' set' v q d =
     record { number = sym (ap readingNumber q); value = d; count = sym (ap (countRead n) q); hidden = sym (ap (setRead set) q) }
 
 -- 0 is the number of an accepted text, with n and the hidden set afterwards

@@ -14,7 +14,7 @@ same-length : tie.Need-same-length
 same-length c = search needs
 
 returns : tie.Need-returns
-returns c = ?
+returns c = let t = c .before .before .before .before in bank-answer _ _ _ _ _ _ _ _ _ _ (t .before .read .ensures) (c .tell .ensures)
 
 pub acornsled-bank-read-spec : {M : Type 1} → statement M
 acornsled-bank-read-spec = tie.close (tie.spec read-requires tell-requires same-length returns)

@@ -1,6 +1,6 @@
 -- `tell` meets its contract. Assumes nothing.
 use borrow.Author.Needs.{needs}
-use Rattle.acornsled.proofs.Promised.{told-refused, told-accepted}
+use Rattle.acornsled.proofs.Promised.{reading-refused, reading-accepted}
 use Rattle.acornsled.proofs.tell.Statement.{statement}
 use Rattle.acornsled.proofs.tell.Tie as tie
 
@@ -16,19 +16,13 @@ enum-told c = search needs
 number-requires : tie.Need-number-requires
 number-requires c κs = search needs
 
-same-length : tie.Need-same-length
-same-length c = search needs
-
 returns : tie.Need-returns
 returns c = let v = c .before .before .before in
-    told-refused _ _ _ _ _ _ (c .before .enum-told .given .1) (c .number .ensures) (v .value .ensures)
-
-same-length-2 : tie.Need-same-length-2
-same-length-2 c = search needs
+    reading-refused _ _ _ _ _ _ (c .before .enum-told .given .1) (c .number .ensures) (v .value .ensures)
 
 returns-2 : tie.Need-returns-2
 returns-2 c = let v = c .before .before .before in
-    told-accepted _ _ _ _ _ _ (c .before .reading .given .1) (v .value .ensures)
+    reading-accepted _ _ _ _ _ _ (c .before .reading .given .1) (v .value .ensures)
 
 pub tell-spec : {M : Type 1} → statement M
 tell-spec =
@@ -38,7 +32,5 @@ tell-spec =
     enum-known-reading
     enum-told
     number-requires
-    same-length
     returns
-    same-length-2
     returns-2)

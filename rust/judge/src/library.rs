@@ -1,7 +1,7 @@
-//! The ten calls of the library, and their replies. The judge knows the calls as traits, so that it can be tried on
+//! The eleven calls of the library, and their replies. The judge knows the calls as traits, so that it can be tried on
 //! wrong answers too: one for the keys and the assignment of a table, one for the call that begins to hide a quantity, one for the
-//! call that puts questions to a table, one for the calls on texts, one for the two that mark two texts, one for the call that
-//! marks two tables.
+//! call that puts questions to a table, one for the calls on texts, one for bank reading beside them, one for the two that mark
+//! two texts, one for the call that marks two tables.
 
 pub use acornsled::calls::{Header, Reply, Told};
 
@@ -33,6 +33,11 @@ pub fn past_limit(line: usize) -> Reply {
 /// A line of a text is a rule `+q-q` or `-q+q`.
 pub fn cancelling(line: usize) -> Reply {
     Reply { number: 4, value: line }
+}
+
+/// A line of a bank sheet is a rule that is fine by itself, but not in bank form, or not after the rule before it.
+pub fn not_canonical(line: usize) -> Reply {
+    Reply { number: 9, value: line }
 }
 
 /// A text of this length is written.
@@ -110,6 +115,13 @@ pub trait Texts: Sync {
 
     /// Writes the table's text to the first bytes of `out`.
     fn write(&self, n: usize, hidden: u32, table: &[i64], out: &mut [u8]) -> Reply;
+}
+
+/// Shared by threads, as above. Bank reading is held against the calls on any text, so that it comes with them.
+pub trait BankReader: Texts {
+    /// As `read`, of a bank sheet: one whose rules stand in place order, each place once, the lower quantity first and no term
+    /// doubled.
+    fn bank_read(&self, text: &[u8], table: &mut [i64], header: &mut Header) -> Reply;
 }
 
 /// What marking answers where nothing is refused (document 01, 'Programs and host').

@@ -1,7 +1,9 @@
 //! The library that this program is linked with, by the numbers that C gets: the calls of the crate `acornsled`, which are
 //! judged here with the library.
 
-use crate::library::{Asker, Header, Library, Marker, Papers, Reply, Step, Stepper, TableMarker, Texts, Told};
+use crate::library::{
+    Asker, BankReader, Header, Library, Marker, Papers, Reply, Step, Stepper, TableMarker, Texts, Told,
+};
 use acornsled::calls;
 
 pub struct Linked;
@@ -40,6 +42,12 @@ impl Texts for Linked {
 
     fn write(&self, n: usize, hidden: u32, table: &[i64], out: &mut [u8]) -> Reply {
         calls::write(n, hidden, table, out)
+    }
+}
+
+impl BankReader for Linked {
+    fn bank_read(&self, text: &[u8], table: &mut [i64], header: &mut Header) -> Reply {
+        calls::bank_read(text, table, header)
     }
 }
 

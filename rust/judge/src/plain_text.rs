@@ -1,17 +1,26 @@
-//! The two calls on texts in ordinary Rust: what the library's times are measured against. It is written for its speed
-//! and shares nothing with `text`, so that a slip in one shows against the other.
+//! The calls on texts in ordinary Rust, bank reading among them: what the library's times are measured against. It is written
+//! for its speed and shares nothing with `text` and `banking`, so that a slip in one shows against the other.
 
 pub(crate) mod parser;
 mod place;
 mod printer;
 
-use crate::library::{too_short, written, Header, Reply, Texts, DONE, PAST_LIMIT, SIZE};
+use crate::library::{too_short, written, BankReader, Header, Reply, Texts, DONE, PAST_LIMIT, SIZE};
 use crate::meaning::{MOST_QUANTITIES, NO_RULE};
-use parser::Parser;
+use parser::{Parsed, Parser};
 
 /// The rules are collected before the table is filled, so that a refusal changes nothing.
 pub fn read(text: &[u8], table: &mut [i64], header: &mut Header) -> Reply {
-    let sheet = match Parser::sheet(text) {
+    filled(Parser::sheet(text), table, header)
+}
+
+/// The same of a bank sheet.
+pub fn bank_read(text: &[u8], table: &mut [i64], header: &mut Header) -> Reply {
+    filled(Parser::bank_sheet(text), table, header)
+}
+
+fn filled(parsed: Result<Parsed, Reply>, table: &mut [i64], header: &mut Header) -> Reply {
+    let sheet = match parsed {
         Ok(sheet) => sheet,
         Err(refusal) => return refusal,
     };
@@ -42,7 +51,7 @@ pub fn write(n: usize, hidden: u32, table: &[i64], out: &mut [u8]) -> Reply {
     written(text.len())
 }
 
-/// The two calls as a library.
+/// The calls as a library.
 pub struct Plain;
 
 impl Texts for Plain {
@@ -52,5 +61,11 @@ impl Texts for Plain {
 
     fn write(&self, n: usize, hidden: u32, table: &[i64], out: &mut [u8]) -> Reply {
         write(n, hidden, table, out)
+    }
+}
+
+impl BankReader for Plain {
+    fn bank_read(&self, text: &[u8], table: &mut [i64], header: &mut Header) -> Reply {
+        bank_read(text, table, header)
     }
 }

@@ -1,4 +1,4 @@
-//! The static library's ten functions over `plain`, `plain_text`, `plain_mark`, `plain_reasons` and `plain_tables`, under
+//! The static library's eleven functions over `plain`, `plain_text`, `plain_mark`, `plain_reasons` and `plain_tables`, under
 //! the same names: with the feature `plain` the declarations of the crate `acornsled` are tried where no archive is built
 //! (`tests/linked.rs`).
 
@@ -130,6 +130,27 @@ unsafe extern "C" fn acornsled_read(
     let (quantities, hidden) = unsafe { (&mut *quantities, &mut *hidden) };
     let mut header = Header { quantities: *quantities, hidden: *hidden };
     let reply = plain_text::read(text, table, &mut header);
+    (*quantities, *hidden, *value) = (header.quantities, header.hidden, reply.value);
+    reply.number
+}
+
+#[no_mangle]
+unsafe extern "C" fn acornsled_bank_read(
+    text: *const u8,
+    text_len: usize,
+    table: *mut i64,
+    table_len: usize,
+    quantities: *mut usize,
+    hidden: *mut u32,
+    value: *mut usize,
+) -> u32 {
+    // SAFETY: as above.
+    let (text, table, value) =
+        unsafe { (from_raw_parts(text, text_len), from_raw_parts_mut(table, table_len), &mut *value) };
+    // SAFETY: as above.
+    let (quantities, hidden) = unsafe { (&mut *quantities, &mut *hidden) };
+    let mut header = Header { quantities: *quantities, hidden: *hidden };
+    let reply = plain_text::bank_read(text, table, &mut header);
     (*quantities, *hidden, *value) = (header.quantities, header.hidden, reply.value);
     reply.number
 }

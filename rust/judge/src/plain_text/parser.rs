@@ -1,8 +1,8 @@
 //! One pass over a text, byte by byte. A line is read to its end before its numbers are compared with their limits, so
-//! that 2 comes before 3 and 3 before 4.
+//! that 2 comes before 3, 3 before 4 and, on a bank sheet, 4 before 9.
 
 use super::place;
-use crate::library::{cancelling, malformed, past_limit, Reply, SIZE};
+use crate::library::{cancelling, malformed, not_canonical, past_limit, Reply, SIZE};
 use crate::meaning::{script_limit, LIMIT, MOST_BYTES, MOST_QUANTITIES, MOST_RULES};
 
 pub struct Parser<'a> {
@@ -29,15 +29,21 @@ impl Parsed {
 
 impl Parser<'_> {
     pub fn sheet(text: &[u8]) -> Result<Parsed, Reply> {
-        Parser::paper(text, |_| LIMIT)
+        Parser::paper::<false>(text, |_| LIMIT)
+    }
+
+    /// A sheet in bank form.
+    pub fn bank_sheet(text: &[u8]) -> Result<Parsed, Reply> {
+        Parser::paper::<true>(text, |_| LIMIT)
     }
 
     /// Its own hidden list decides how large a bound may be.
     pub fn script(text: &[u8]) -> Result<Parsed, Reply> {
-        Parser::paper(text, script_limit)
+        Parser::paper::<false>(text, script_limit)
     }
 
-    fn paper(text: &[u8], most: impl Fn(u32) -> i64) -> Result<Parsed, Reply> {
+    /// Whether it has to be in bank form is known when this is compiled, so that other papers are read without a thought of it.
+    fn paper<const BANK: bool>(text: &[u8], most: impl Fn(u32) -> i64) -> Result<Parsed, Reply> {
         if text.len() > MOST_BYTES {
             return Err(SIZE);
         }
@@ -47,8 +53,12 @@ impl Parser<'_> {
         let count = parser.count(b"rules=", 0, MOST_RULES)?;
         let most = most(hidden);
         let mut rules = Vec::with_capacity(count);
+        // the first place that the next rule may have
+        let mut least = 0;
         for _ in 0..count {
-            rules.push(parser.rule(n, most)?);
+            let rule = parser.rule::<BANK>(n, most, least)?;
+            least = rule.0 + 1;
+            rules.push(rule);
         }
         if parser.at < text.len() {
             return Err(malformed(parser.line));
@@ -98,10 +108,10 @@ impl Parser<'_> {
         Ok(set)
     }
 
-    /// The place and the bound of a rule, a doubled term halved. It stands in the loop of either paper, or reading would be
-    /// slower by a twentieth.
+    /// The place and the bound of a rule, a doubled term halved; in bank form none is doubled, the lower quantity comes first,
+    /// and the place is `least` or later. It stands in the loop of either paper, or reading would be slower by a twentieth.
     #[inline(always)]
-    fn rule(&mut self, n: usize, most: i64) -> Result<(usize, i64), Reply> {
+    fn rule<const BANK: bool>(&mut self, n: usize, most: i64, least: usize) -> Result<(usize, i64), Reply> {
         self.expect(b"rule=")?;
         let first = self.signed()?;
         let second = if self.peek() == Some(b':') { None } else { Some(self.signed()?) };
@@ -115,10 +125,14 @@ impl Parser<'_> {
         let literal = |(minus, q): (bool, u64)| 2 * (q as usize - 1) + usize::from(minus);
         let rule = match (literal(first), second.map(literal)) {
             (x, None) => (place::of_one(x), bound),
-            (x, Some(y)) if x == y => (place::of_one(x), bound.div_euclid(2)),
             (x, Some(y)) if x ^ y == 1 => return Err(cancelling(self.line)),
+            (x, Some(y)) if BANK && x >= y => return Err(not_canonical(self.line)),
+            (x, Some(y)) if x == y => (place::of_one(x), bound.div_euclid(2)),
             (x, Some(y)) => (place::of_two(x, y), bound),
         };
+        if BANK && rule.0 < least {
+            return Err(not_canonical(self.line));
+        }
         self.line += 1;
         Ok(rule)
     }

@@ -24,6 +24,7 @@
 
 pub mod alike;
 pub mod asking;
+pub mod banking;
 pub mod brute;
 pub mod calls;
 pub mod check;

@@ -3,6 +3,7 @@
 
 use judge::alike;
 use judge::asking;
+use judge::banking;
 use judge::enums;
 use judge::linked::Linked;
 use judge::marking;
@@ -41,6 +42,12 @@ fn the_linked_library_is_accepted_on_lists_of_questions() {
 fn the_linked_library_is_accepted_on_texts() {
     // so many that every kind of reply has to be met
     text::run::all(&Linked, 1, 2000).unwrap_or_else(|failure| panic!("{failure}"));
+}
+
+#[test]
+fn the_linked_library_is_accepted_on_bank_sheets() {
+    // so many that every kind of text has to be met
+    banking::run::all(&Linked, 1, 5000).unwrap_or_else(|failure| panic!("{failure}"));
 }
 
 #[test]

@@ -1,11 +1,12 @@
 //! judge [SEED [COUNT]]: judges the linked library on COUNT random sheets, then on a quarter as many pairs of sheets, hiding steps
-//! and lists of questions, on COUNT random texts, on as many random pairs of texts, on which the crate's enums are judged too, and on a
-//! quarter as many random pairs of tables; what the built programs print on a tenth as many sheets and pairs, and what the
-//! command `acornsled` says on these. Prints a line for each; at the first failure it prints what failed and the input, and
-//! exits with 1.
+//! and lists of questions, on COUNT random texts, on a quarter as many bank sheets, on COUNT random pairs of texts, on which the
+//! crate's enums are judged too, and on a quarter as many random pairs of tables; what the built programs print on a tenth as many
+//! sheets and pairs, and what the command `acornsled` says on these. Prints a line for each; at the first failure it prints what
+//! failed and the input, and exits with 1.
 
 use judge::alike;
 use judge::asking;
+use judge::banking;
 use judge::command;
 use judge::command::program::Acornsled;
 use judge::enums;
@@ -33,6 +34,9 @@ const STEPPING_SHARE: u64 = 4;
 /// A list has up to 64 questions, and is asked in several ways.
 const ASKING_SHARE: u64 = 4;
 
+/// Of each bank sheet several texts are made.
+const BANKING_SHARE: u64 = 4;
+
 /// Verdicts on tables are found as on texts, so that fewer of them are enough.
 const TABLES_SHARE: u64 = 4;
 
@@ -54,6 +58,7 @@ fn main() {
     report(seed, stepping::run::all(&Linked, seed, count / STEPPING_SHARE));
     report(seed, asking::run::all(&Linked, seed, count / ASKING_SHARE));
     report(seed, text::run::all(&Linked, seed, count));
+    report(seed, banking::run::all(&Linked, seed, count / BANKING_SHARE));
     report(seed, marking::run::all(&Linked, seed, count));
     report(seed, table_marking::run::all(&Linked, seed, count / TABLES_SHARE));
     report(seed, enums::run::all(seed, count));

@@ -23,3 +23,14 @@ pub fn damaged(paper: &Paper, random: &mut Random) -> Vec<u8> {
     }
     damaged.text
 }
+
+/// A text damaged in its bytes alone, in one way or two.
+pub fn in_bytes(text: Vec<u8>, random: &mut Random) -> Vec<u8> {
+    let mut damaged = DamagedBytes { text };
+    for _ in 0..random.pick(&[1, 1, 2]) {
+        if !damaged.text.is_empty() {
+            random.pick(&DamagedBytes::WAYS)(&mut damaged, random);
+        }
+    }
+    damaged.text
+}

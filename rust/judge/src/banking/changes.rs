@@ -163,7 +163,7 @@ impl Bank {
             4 => rules = "rules=2049".into(),
             _ => rules = random.pick(&["rules=", "rules=+1", "rules=00"]).into(),
         }
-        let refusal = if way % 2 == 0 { past_limit(way / 2 + 1) } else { malformed(way / 2 + 1) };
+        let refusal = if way.is_multiple_of(2) { past_limit(way / 2 + 1) } else { malformed(way / 2 + 1) };
         Changed { text: lines(&[quantities, hidden], &rules, &self.rules), refusal: Some(refusal) }
     }
 }

@@ -12,26 +12,31 @@ const ROOM: usize = size(MOST_QUANTITIES);
 
 /// A text that the bank accepts is what the writer makes of what was read, and ordinary reading reads it alike. One that it refuses
 /// with 9 is fine to ordinary reading up to that line, which is the first that a bank sheet may not have. With any other number
-/// ordinary reading refuses it alike.
+/// ordinary reading refuses it alike, and the rules before, with 6 all of them, are a bank sheet.
 pub fn between_calls(library: &dyn BankReader, text: &[u8], table: usize) -> Result<(), String> {
     let (bank, read) = called(table, |words, header| library.bank_read(text, words, header));
     let (ordinary, alike) = called(table, |words, header| library.read(text, words, header));
     match bank {
-        DONE if ordinary != DONE => {
-            Err(format!("read by the bank, where ordinary reading replies {}", spelled(ordinary)))
-        }
-        DONE => {
+        DONE if ordinary == DONE => {
             if (read.n, read.hidden) != (alike.n, alike.hidden) {
                 return Err("n or the hidden set is not that of ordinary reading".into());
             }
             same_words(&read.table, &alike.table).map_err(|e| format!("by the bank and by ordinary reading: {e}"))?;
             own_text(library, &read, text)
         }
-        Reply { number: 9, value } => refused(library, text, value, ordinary),
-        _ if bank != ordinary => {
-            Err(format!("reply {}, where ordinary reading replies {}", spelled(bank), spelled(ordinary)))
+        Reply { number: 9, value: line } if is_later(ordinary, line) => {
+            begun(library, text, line - HEADER - 1, DONE, bank)?;
+            begun(library, text, line - HEADER, not_canonical(line), bank)
         }
-        _ => Ok(()),
+        Reply { number: 2..=4, value: line } if bank == ordinary && line > HEADER => {
+            begun(library, text, line - HEADER - 1, DONE, bank)
+        }
+        Reply { number: 6, .. } if bank == ordinary => {
+            let lines = text.iter().filter(|&&byte| byte == b'\n').count();
+            begun(library, text, lines - HEADER, DONE, bank)
+        }
+        Reply { number: 1..=3, .. } if bank == ordinary => Ok(()),
+        _ => Err(format!("reply {}, where ordinary reading replies {}", spelled(bank), spelled(ordinary))),
     }
 }
 
@@ -67,30 +72,31 @@ fn own_text(library: &dyn BankReader, read: &Sheet, text: &[u8]) -> Result<(), S
     // one byte more, so that a longer text is seen
     let mut out = vec![0; text.len() + 1];
     let reply = library.write(read.n, read.hidden, &read.table, &mut out);
-    if reply != written(text.len()) || out[..text.len()] != *text {
-        let made = out[..reply.value.min(out.len())].escape_ascii();
-        return Err(format!("read by the bank, though the writer's text is another one: {made}"));
+    match reply == written(text.len()) && out[..text.len()] == *text {
+        true => Ok(()),
+        false => Err("read by the bank, though the writer makes another text of it".into()),
     }
-    Ok(())
 }
 
-/// The rules before the line are a bank sheet by themselves, those up to it are refused for it, and ordinary reading ends later if at
-/// all.
-fn refused(library: &dyn BankReader, text: &[u8], line: usize, ordinary: Reply) -> Result<(), String> {
-    let later = match ordinary.number {
+/// Does ordinary reading end behind this rule line, if at all?
+fn is_later(ordinary: Reply, line: usize) -> bool {
+    let behind = match ordinary.number {
         0 | 6 => true,
         2..=4 => ordinary.value > line,
         _ => false,
     };
-    if !later || line <= HEADER {
-        return Err(format!("9 at line {line}, where ordinary reading replies {}", spelled(ordinary)));
-    }
-    for (rules, due) in [(line - HEADER - 1, DONE), (line - HEADER, not_canonical(line))] {
-        let begun = cut(text, rules);
-        let (reply, _) = called(ROOM, |words, header| library.bank_read(&begun, words, header));
-        if reply != due {
-            return Err(format!("9 at line {line}, but reply {} to its first {rules} rules alone", spelled(reply)));
+    line > HEADER && behind
+}
+
+/// Is this the reply to the first so many rules alone, where the whole text has another?
+fn begun(library: &dyn BankReader, text: &[u8], rules: usize, due: Reply, whole: Reply) -> Result<(), String> {
+    let begun = cut(text, rules);
+    let (reply, _) = called(ROOM, |words, header| library.bank_read(&begun, words, header));
+    match reply == due {
+        true => Ok(()),
+        false => {
+            let (reply, due, whole) = (spelled(reply), spelled(due), spelled(whole));
+            Err(format!("reply {whole}, but to the first {rules} rules alone {reply}, due {due}"))
         }
     }
-    Ok(())
 }

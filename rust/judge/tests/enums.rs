@@ -1,6 +1,7 @@
 //! Is the judge of the crate's enums worth believing? It accepts what the numbers say, and refuses what they do not.
 
-use acornsled::{Paper, Refusal, Refused, Rule, Verdict};
+use acornsled::limits::NO_RULE;
+use acornsled::{Paper, Refusal, Refused, Rule, Table, Verdict};
 use judge::enums::mark::{same, Numbers};
 use judge::enums::table::{self, same_refusal};
 use judge::library::{Reply, Told, BOTH, EQUAL, LOOSE, NOTHING, SCRIPT, TIGHT};
@@ -88,6 +89,31 @@ fn other_answers_are_refused() {
     assert_eq!(Refusal::ListSize.to_string(), "refused with 8: the list of questions is empty or has more than 64");
 }
 
+/// Of bank sheets it is the table, or the line of the rule.
+#[test]
+fn other_tables_of_bank_sheets_are_refused() {
+    let table = Table { quantities: 1, hidden: 0, words: vec![3, NO_RULE] };
+    let done = Reply { number: 0, value: 0 };
+    assert!(table::same(&Ok(table.clone()), done, &table).is_ok());
+    for wrong in [
+        Table { quantities: 2, ..table.clone() },
+        Table { hidden: 1, ..table.clone() },
+        Table { words: vec![3, 3], ..table.clone() },
+        Table { words: vec![3], ..table.clone() },
+    ] {
+        assert!(table::same(&Ok(wrong.clone()), done, &table).is_err(), "{wrong:?}");
+    }
+    let out = Reply { number: 9, value: 5 };
+    let refusal = Refusal::NotCanonical { line: 5 };
+    assert!(table::same(&Err(refusal), out, &table).is_ok());
+    assert!(table::same(&Ok(table.clone()), out, &table).is_err());
+    for wrong in [Refusal::NotCanonical { line: 4 }, Refusal::Malformed { line: 5 }, Refusal::Cancelling { line: 5 }] {
+        assert!(table::same(&Err(wrong), out, &table).is_err(), "{wrong:?}");
+    }
+    let told = "refused with 9 at line 5: a rule that is not in bank form, or not in place order";
+    assert_eq!(refusal.to_string(), told);
+}
+
 #[test]
 fn each_refusal_is_that_of_its_number_alone() {
     let each = |line| {
@@ -100,10 +126,11 @@ fn each_refusal_is_that_of_its_number_alone() {
             (6, Refusal::TooShort { needed: line }),
             (7, Refusal::Mismatch),
             (8, Refusal::ListSize),
+            (9, Refusal::NotCanonical { line }),
         ]
     };
     for (number, refusal) in each(0) {
-        for replied in 0..10 {
+        for replied in 0..11 {
             let accepted = same_refusal(refusal, Reply { number: replied, value: 0 }).is_ok();
             assert_eq!(accepted, number == replied, "{refusal:?} for {replied}");
         }

@@ -68,6 +68,8 @@ fn the_crates_enums_say_what_the_numbers_say() {
     assert!(counts.table_pairs > 0);
     let numbers: Vec<u32> = counts.numbers.keys().copied().collect();
     assert_eq!(numbers, [1, 2, 3, 4, 7, 100, 101, 102]);
+    let banks: Vec<u32> = counts.banks.keys().copied().collect();
+    assert_eq!(banks, [0, 1, 2, 3, 4, 9]);
     let steps: Vec<u32> = counts.steps.keys().copied().collect();
     assert_eq!(steps, [0, 1, 3, 5]);
     let lists: Vec<u32> = counts.lists.keys().copied().collect();

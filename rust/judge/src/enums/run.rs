@@ -1,6 +1,6 @@
 //! A whole run over the crate's functions, on the texts that `marking` draws for the same seed.
 
-use super::{ask, mark, pair, step, table};
+use super::{ask, bank, mark, pair, step, table};
 use crate::halves::{self, add_kinds, Tally};
 use crate::marking::run::drawn;
 use crate::random::Random;
@@ -8,12 +8,13 @@ use crate::text::check::shown;
 use std::collections::BTreeMap;
 use std::fmt;
 
-/// What a run has judged: pairs of texts by their numbers, texts whose tables were tried, hiding steps on tables and lists of
-/// questions to them by their numbers, pairs whose tables were marked.
+/// What a run has judged: pairs of texts by their numbers, texts whose tables were tried, bank sheets, hiding steps on tables and
+/// lists of questions to them by their numbers, pairs whose tables were marked.
 #[derive(Default)]
 pub struct Counts {
     pub numbers: BTreeMap<u32, usize>,
     pub tables: usize,
+    pub banks: BTreeMap<u32, usize>,
     pub steps: BTreeMap<u32, usize>,
     pub lists: BTreeMap<u32, usize>,
     pub table_pairs: usize,
@@ -34,11 +35,12 @@ fn numbered(seed: u64, number: u64, counts: &mut Counts) -> Result<(), String> {
         *counts.numbers.entry(mark::texts(&sheet, &script).map_err(stated)?).or_default() += 1;
         for text in [&sheet, &script] {
             counts.tables += usize::from(table::text(text, &mut random).map_err(stated)?);
-            for number in step::text(text, &mut random).map_err(stated)? {
-                *counts.steps.entry(number).or_default() += 1;
-            }
-            for number in ask::text(text, &mut random).map_err(stated)? {
-                *counts.lists.entry(number).or_default() += 1;
+            for (counted, numbers) in [
+                (&mut counts.banks, bank::text(text, &mut random)),
+                (&mut counts.steps, step::text(text, &mut random)),
+                (&mut counts.lists, ask::text(text, &mut random)),
+            ] {
+                numbers.map_err(stated)?.into_iter().for_each(|number| *counted.entry(number).or_default() += 1);
             }
         }
         counts.table_pairs += usize::from(pair::texts(&sheet, &script, &mut random).map_err(stated)?);
@@ -51,6 +53,7 @@ impl Tally for Counts {
         self.tables += other.tables;
         self.table_pairs += other.table_pairs;
         add_kinds(&mut self.numbers, &other.numbers);
+        add_kinds(&mut self.banks, &other.banks);
         add_kinds(&mut self.steps, &other.steps);
         add_kinds(&mut self.lists, &other.lists);
     }
@@ -61,6 +64,7 @@ impl fmt::Display for Counts {
         write!(f, "enums-of-pairs={}", self.numbers.values().sum::<usize>())?;
         self.numbers.iter().try_for_each(|(number, count)| write!(f, " number-{number}={count}"))?;
         write!(f, " enums-of-tables={} enums-of-table-pairs={}", self.tables, self.table_pairs)?;
+        write!(f, " enums-of-bank-sheets={}", self.banks.values().sum::<usize>())?;
         write!(f, " enums-of-steps={}", self.steps.values().sum::<usize>())?;
         write!(f, " enums-of-lists={}", self.lists.values().sum::<usize>())
     }

@@ -104,6 +104,7 @@ pub fn same_refusal(refusal: Refusal, reply: Reply) -> Result<(), String> {
         Refusal::TooShort { needed } => (6, needed),
         Refusal::Mismatch => (7, 0),
         Refusal::ListSize => (8, 0),
+        Refusal::NotCanonical { line } => (9, line),
         // the crate's users have to expect further ones
         _ => (0, 0),
     };

@@ -2,6 +2,7 @@
 
 use judge::command::answer::{judged, Kind, Said};
 use judge::command::ask;
+use judge::command::bank;
 use judge::command::steps::{self, Due};
 use std::fs;
 use std::path::Path;
@@ -80,6 +81,43 @@ fn steps_are_printed_as_it_is_stored() {
             (true, Some(_)) => Due::Misused,
         };
         assert_eq!(steps::due(&sheet, quantity), Ok(due), "{}", case.display());
+    }
+}
+
+/// What is stored for bank sheets, too.
+#[test]
+fn bank_sheets_are_printed_as_it_is_stored() {
+    let folder = Path::new(env!("CARGO_MANIFEST_DIR")).join("../../tests/bank");
+    let cases: Vec<_> = fs::read_dir(folder).expect("the cases are there").map(|case| case.unwrap().path()).collect();
+    assert!(cases.len() > 20, "{} cases", cases.len());
+    for case in cases {
+        let sheet = fs::read(case.join("sheet")).unwrap_or_default();
+        let [stored, check] =
+            ["stdout", "check"].map(|name| fs::read_to_string(case.join(name)).expect("what is printed is stored"));
+        assert_eq!(bank::printed(&sheet), stored, "{}", case.display());
+        assert_eq!(bank::checked(&sheet), Ok(check), "{}", case.display());
+    }
+}
+
+#[test]
+fn other_answers_about_bank_sheets_are_refused() {
+    let sheet = b"quantities=2\nhidden=\nrules=2\nrule=+2+1:5\nrule=+1+1:7\n";
+    let (form, refusal) = (bank::printed(sheet), bank::checked(sheet).unwrap_or_else(|failure| panic!("{failure}")));
+    assert_eq!(form, "quantities=2\nhidden=\nrules=2\nrule=+1:3\nrule=+1+2:5\n");
+    assert_eq!(refusal, "refused=9\nline=4\n");
+    assert_eq!(bank::checked(form.as_bytes()), Ok("bank=yes\n".into()));
+    let told = "acornsled: sheet: refused with 9 at line 4\n";
+    assert_eq!(judged(refusal.as_bytes(), &said(Some(1), &refusal, told), false), Ok(Kind::Refusal));
+    for (due, wrong) in [
+        (&form, said(Some(0), "quantities=2\nhidden=\nrules=2\nrule=+1+2:5\nrule=+1:3\n", "")),
+        (&form, said(Some(0), "bank=no\n", "")),
+        (&form, said(Some(1), &refusal, told)),
+        (&refusal, said(Some(0), "bank=yes\n", "")),
+        (&refusal, said(Some(0), &refusal, told)),
+        (&refusal, said(Some(1), "refused=9\nline=5\n", told)),
+        (&refusal, said(Some(1), &refusal, "acornsled: sheet: not in bank form\n")),
+    ] {
+        assert!(judged(due.as_bytes(), &wrong, false).is_err(), "{}", wrong.output.escape_ascii());
     }
 }
 

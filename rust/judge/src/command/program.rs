@@ -76,6 +76,22 @@ impl Acornsled {
         said(self.with(&["steps", "sheet"]).args(quantity).current_dir(folder).stdin(Stdio::null()).output())
     }
 
+    /// A text in a file or on standard input put into bank form, or only looked at whether it is in it.
+    pub fn bank(&self, text: &[u8], check: bool, fed_with_text: bool) -> Result<Said, String> {
+        if fed_with_text {
+            return said(fed(self.with(&["bank"]).args(check.then_some("--check")), text));
+        }
+        let folder = Folder::holding(&[("sheet", text)]).map_err(|e| format!("no folder is made: {e}"))?;
+        self.bank_in(folder.path(), check)
+    }
+
+    /// The same of the file `sheet` of a folder, be it there or not.
+    pub fn bank_in(&self, folder: &Path, check: bool) -> Result<Said, String> {
+        let mut command = self.with(&["bank"]);
+        command.args(check.then_some("--check")).arg("sheet").current_dir(folder);
+        said(command.stdin(Stdio::null()).output())
+    }
+
     fn with(&self, given: &[&str]) -> Command {
         let mut command = Command::new(&self.path);
         command.args(given);

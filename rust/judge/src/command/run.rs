@@ -1,10 +1,10 @@
 //! A whole run over the command: the stored cases, then the inputs that the programs are judged on, for the same seed, and lists of
-//! questions and hiding steps, which no program prints.
+//! questions, hiding steps and bank sheets, about which no program prints anything.
 
 use super::answer::{judged, Kind};
 use super::ask;
 use super::program::Acornsled;
-use super::{steps, stored};
+use super::{bank, steps, stored};
 use crate::halves::{self, Tally};
 use crate::printed::inputs::{drawn, Input};
 use crate::printed::programs::Printer;
@@ -23,13 +23,17 @@ pub struct Counts {
     /// the same of `ask`, and of `steps`, wrong use among what is no answer
     ask: [usize; 2],
     steps: [usize; 2],
+    /// the same of `bank`; and of `bank --check`, at last with 9
+    bank: [usize; 2],
+    check: [usize; 3],
 }
 
 /// What was judged, or the first failure with its input.
 pub fn all(printer: &dyn Printer, command: &Acornsled, seed: u64, count: u64) -> Result<Counts, String> {
     let stored = stored::all(printer, command)?.len();
     let counts = Counts { stored, ..random(printer, command, seed, count)? };
-    if count >= ENOUGH && [counts.key, counts.mark, counts.ask, counts.steps].concat().contains(&0) {
+    let met = [&counts.key[..], &counts.mark, &counts.ask, &counts.steps, &counts.bank, &counts.check].concat();
+    if count >= ENOUGH && met.contains(&0) {
         return Err(format!("not all is met: {counts}"));
     }
     Ok(counts)
@@ -39,7 +43,8 @@ fn random(printer: &dyn Printer, command: &Acornsled, seed: u64, count: u64) -> 
     halves::both(count, |number, counts| {
         numbered(printer, command, seed, number, counts)?;
         asked(command, seed, number, counts)?;
-        stepped(command, seed, number, counts)
+        stepped(command, seed, number, counts)?;
+        banked(command, seed, number, counts)
     })
 }
 
@@ -66,6 +71,21 @@ fn stepped(command: &Acornsled, seed: u64, number: u64, counts: &mut Counts) -> 
             format!("seed {seed}, command's steps {number}: {e}\nquantity {quantity:?}, sheet, {}", shown(&sheet))
         })?;
         counts.steps[at(kind)] += 1;
+    }
+    Ok(())
+}
+
+/// The bank sheets with this number, and what is none.
+fn banked(command: &Acornsled, seed: u64, number: u64, counts: &mut Counts) -> Result<(), String> {
+    for text in bank::drawn(seed, number) {
+        let told = |e| format!("seed {seed}, command's bank sheet {number}: {e}\n{}", shown(&text));
+        let fed = number % 4 < 2;
+        let kind = judged(bank::printed(&text).as_bytes(), &command.bank(&text, false, fed)?, false).map_err(told)?;
+        counts.bank[at(kind)] += 1;
+        let due = bank::checked(&text)?;
+        let kind = judged(due.as_bytes(), &command.bank(&text, true, fed)?, false)
+            .map_err(|e| told(format!("with --check: {e}")))?;
+        counts.check[at(kind) + usize::from(due.starts_with("refused=9\n"))] += 1;
     }
     Ok(())
 }
@@ -114,7 +134,9 @@ impl Tally for Counts {
             self.mark[kind] += other.mark[kind];
             self.ask[kind] += other.ask[kind];
             self.steps[kind] += other.steps[kind];
+            self.bank[kind] += other.bank[kind];
         }
+        (0..3).for_each(|kind| self.check[kind] += other.check[kind]);
     }
 }
 
@@ -124,6 +146,8 @@ impl fmt::Display for Counts {
         let Counts { ask: [answered, unanswered], steps: [steps, no_steps], .. } = self;
         write!(f, "command-stored={stored} command-key={keys} refused={no_keys}")?;
         write!(f, " command-mark={verdicts} refused={refusals} command-ask={answered} refused={unanswered}")?;
-        write!(f, " command-steps={steps} refused={no_steps}")
+        let Counts { bank: [banked, no_bank], check: [yes, refused, unordered], .. } = self;
+        write!(f, " command-steps={steps} refused={no_steps} command-bank={banked} refused={no_bank}")?;
+        write!(f, " command-check={yes} refused={refused} refused-with-9={unordered}")
     }
 }

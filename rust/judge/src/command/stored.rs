@@ -1,7 +1,8 @@
 //! The stored cases: in each folder of tests/mark a sheet, a script, either of which may be missing, and what *mark* prints; in
 //! each of tests/key a sheet and what *key* prints; in each of tests/ask a sheet, questions, either of which may be missing, and
 //! what `acornsled ask` prints; in each of tests/steps a sheet and a quantity, which may be missing too, and what `acornsled steps`
-//! prints; and the sample sheets, whose keys *key* prints.
+//! prints; in each of tests/bank a sheet, which may be missing, what `acornsled bank` prints and, in `check`, what it prints with
+//! `--check`; and the sample sheets, whose keys *key* prints.
 
 use super::answer::{judged, Kind};
 use super::program::Acornsled;
@@ -23,6 +24,9 @@ pub fn all(printer: &dyn Printer, command: &Acornsled) -> Result<Vec<Kind>, Stri
     kinds.extend(asked(command)?);
     for folder in listed(&root.join("tests/steps"))? {
         kinds.push(stepped(command, &folder).map_err(|e| format!("{}: {e}", folder.display()))?);
+    }
+    for folder in listed(&root.join("tests/bank"))? {
+        kinds.extend(banked(command, &folder).map_err(|e| format!("{}: {e}", folder.display()))?);
     }
     for path in listed(&root.join("sheets"))?.iter().filter(|path| path.is_file()) {
         let text = fs::read(path).map_err(|e| format!("{}: {e}", path.display()))?;
@@ -55,6 +59,16 @@ fn stepped(command: &Acornsled, folder: &Path) -> Result<Kind, String> {
     };
     let unread = fs::read(folder.join("sheet")).is_err();
     steps::judged(&due, &command.steps_in(folder, quantity)?, unread)
+}
+
+/// Judges the command on a stored bank sheet, or on what is none, as it is and with `--check`.
+fn banked(command: &Acornsled, folder: &Path) -> Result<Vec<Kind>, String> {
+    let unread = fs::read(folder.join("sheet")).is_err();
+    let both = [("stdout", false), ("check", true)].into_iter().map(|(name, check)| {
+        let printed = fs::read(folder.join(name)).map_err(|e| format!("{name}: {e}"))?;
+        judged(&printed, &command.bank_in(folder, check)?, unread).map_err(|e| format!("{name}: {e}"))
+    });
+    both.collect()
 }
 
 fn marked(command: &Acornsled, folder: &Path) -> Result<Kind, String> {

@@ -1,4 +1,4 @@
-//! What `acornsled bank` has to print for a text, and what with `--check`, and random texts for both. No proved program prints that:
+//! What `acornsled bank` has to print for a text, and what with `--check`, and random texts. No proved program prints that:
 //! the text is read here as `text` reads it, its one text is made by the list of terms, and whether it is a bank sheet is decided as
 //! `banking` does.
 
@@ -32,13 +32,13 @@ fn refused(Reply { number, value }: Reply) -> String {
     format!("refused={number}\nline={value}\n")
 }
 
-/// The texts with this number: a bank sheet, or one that was changed, and some other text made of it.
-pub fn drawn(seed: u64, number: u64) -> [Vec<u8>; 2] {
+/// The text with this number: a bank sheet, one that was changed, or some other text made of it.
+pub fn drawn(seed: u64, number: u64) -> Vec<u8> {
     let mut random = Random::new(seed, number);
     let sheet = inputs::sheet(&mut random);
-    let own = match number % 3 {
+    match number % 4 {
         0 => list::text(&sheet).into_bytes(),
-        _ => changes::drawn(&sheet, &mut random).text,
-    };
-    [own, inputs::text(&sheet, &mut random)]
+        1 | 2 => changes::drawn(&sheet, &mut random).text,
+        _ => inputs::text(&sheet, &mut random),
+    }
 }

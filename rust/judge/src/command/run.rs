@@ -75,18 +75,17 @@ fn stepped(command: &Acornsled, seed: u64, number: u64, counts: &mut Counts) -> 
     Ok(())
 }
 
-/// The bank sheets with this number, and what is none.
+/// The bank sheet with this number, or what is none.
 fn banked(command: &Acornsled, seed: u64, number: u64, counts: &mut Counts) -> Result<(), String> {
-    for text in bank::drawn(seed, number) {
-        let told = |e| format!("seed {seed}, command's bank sheet {number}: {e}\n{}", shown(&text));
-        let fed = number % 4 < 2;
-        let kind = judged(bank::printed(&text).as_bytes(), &command.bank(&text, false, fed)?, false).map_err(told)?;
-        counts.bank[at(kind)] += 1;
-        let due = bank::checked(&text)?;
-        let kind = judged(due.as_bytes(), &command.bank(&text, true, fed)?, false)
-            .map_err(|e| told(format!("with --check: {e}")))?;
-        counts.check[at(kind) + usize::from(due.starts_with("refused=9\n"))] += 1;
-    }
+    let text = bank::drawn(seed, number);
+    let fed = number % 8 < 4;
+    let told = |e| format!("seed {seed}, command's bank sheet {number}: {e}\n{}", shown(&text));
+    let kind = judged(bank::printed(&text).as_bytes(), &command.bank(&text, false, fed)?, false).map_err(told)?;
+    counts.bank[at(kind)] += 1;
+    let due = bank::checked(&text)?;
+    let kind = judged(due.as_bytes(), &command.bank(&text, true, fed)?, false)
+        .map_err(|e| told(format!("with --check: {e}")))?;
+    counts.check[at(kind) + usize::from(due.starts_with("refused=9\n"))] += 1;
     Ok(())
 }
 

@@ -17,9 +17,10 @@ mod times;
 use grid::{Call, Grid};
 use times::{ROUNDS, TURNS};
 
-const CALLS: [Call; 13] = [
+const CALLS: [Call; 14] = [
     Call { name: "Reading the sheet", batches: texts::read_sheet, parts: 1 },
     Call { name: "Reading the script", batches: texts::read_script, parts: 1 },
+    Call { name: "Bank reading the sheet", batches: texts::read_bank, parts: 1 },
     Call { name: "Key", batches: tables::key, parts: 1 },
     Call { name: "Tight key", batches: tables::tight_key, parts: 1 },
     Call { name: "Assignment", batches: tables::assignment, parts: 1 },
@@ -33,6 +34,9 @@ const CALLS: [Call; 13] = [
     Call { name: "Writing the sheet", batches: texts::write_sheet, parts: 1 },
 ];
 
+/// What being in bank form costs: the library's bank reading beside its own ordinary reading.
+const TWOFOLD: Call = Call { name: "Bank reading, ordinary reading", batches: texts::read_twofold, parts: 1 };
+
 fn main() {
     let papers = papers::all();
     println!("Sparse: sheets of 2n rules at random places. Dense: sheets of 2n² rules, one at every place.");
@@ -41,6 +45,8 @@ fn main() {
     println!("\nTimes: library / plain Rust = ratio, in microseconds a call, medians of {} batches.", ROUNDS * TURNS);
     let grids = CALLS.map(|call| Grid::measured(call, &papers));
     grids.iter().for_each(Grid::print);
+    println!("\nThe same sheets, both times by the library: bank reading / ordinary reading = ratio.");
+    Grid::measured(TWOFOLD, &papers).print();
     beyond::print();
     large::print();
     println!("\nGrowth: by what factor the library's time grows from each n to the next, then that of plain Rust.");

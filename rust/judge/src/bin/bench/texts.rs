@@ -2,7 +2,7 @@
 
 use crate::papers::Pair;
 use crate::times::{take_turns, timed, Batches, Side};
-use judge::library::{written, Header, Texts, DONE, EQUAL};
+use judge::library::{written, BankReader, Header, Reply, Texts, DONE, EQUAL};
 use judge::linked::Linked;
 use judge::meaning::{size, MOST_QUANTITIES};
 use judge::plain_text;
@@ -11,7 +11,25 @@ use std::hint::black_box;
 
 /// Times the reading of each sheet.
 pub fn read_sheet(pairs: &[Pair]) -> Batches {
-    read(&pairs.iter().map(|pair| &pair.text[..]).collect::<Vec<_>>())
+    read(&sheets(pairs))
+}
+
+/// Times the bank reading of each sheet, whose text is in bank form.
+pub fn read_bank(pairs: &[Pair]) -> Batches {
+    reading(&sheets(pairs), |text, table, header| Linked.bank_read(text, table, header), plain_text::bank_read)
+}
+
+/// Times the bank reading of each sheet by the library, and in the place of plain Rust its ordinary reading of the same text.
+pub fn read_twofold(pairs: &[Pair]) -> Batches {
+    let (bank, ordinary) = (
+        |text: &[u8], table: &mut [i64], header: &mut Header| Linked.bank_read(text, table, header),
+        |text: &[u8], table: &mut [i64], header: &mut Header| Linked.read(text, table, header),
+    );
+    reading(&sheets(pairs), bank, ordinary)
+}
+
+fn sheets(pairs: &[Pair]) -> Vec<&[u8]> {
+    pairs.iter().map(|pair| &pair.text[..]).collect()
 }
 
 /// Times the reading of each sheet's equal script.
@@ -26,6 +44,15 @@ pub fn write_sheet(pairs: &[Pair]) -> Batches {
 
 /// Times the reading of these texts.
 pub fn read(texts: &[&[u8]]) -> Batches {
+    reading(texts, |text, table, header| Linked.read(text, table, header), plain_text::read)
+}
+
+/// Times two ways of reading these texts.
+fn reading(
+    texts: &[&[u8]],
+    library: impl Fn(&[u8], &mut [i64], &mut Header) -> Reply,
+    plain: impl Fn(&[u8], &mut [i64], &mut Header) -> Reply,
+) -> Batches {
     let mut table = [0; size(MOST_QUANTITIES)];
     let mut header = Header { quantities: 0, hidden: 0 };
     take_turns(texts.len(), |side| {
@@ -33,8 +60,8 @@ pub fn read(texts: &[&[u8]]) -> Batches {
             texts.iter().all(|text| {
                 let (table, header) = (black_box(&mut table[..]), black_box(&mut header));
                 let reply = match side {
-                    Side::Library => Linked.read(text, table, header),
-                    Side::Plain => plain_text::read(text, table, header),
+                    Side::Library => library(text, table, header),
+                    Side::Plain => plain(text, table, header),
                 };
                 reply == DONE
             })

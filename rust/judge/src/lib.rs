@@ -9,7 +9,8 @@
 //! step are decided by the same sums, one block after another, and by what is to hold between them (`stepping`). The answers to
 //! questions are decided by the same two ways as a sheet, on the questions as they are written (`asking`).
 //!
-//! What a text says is decided by spelling (`text`), and held against a parser in ordinary Rust (`plain_text`).
+//! What a text says is decided by spelling (`text`), and held against a parser in ordinary Rust (`plain_text`). Whether it is a bank
+//! sheet is decided by a list of all terms, and by the text of its own table (`banking`).
 //!
 //! What a script is worth is decided by the same two ways as a sheet's meaning, and no key is made for it; the rule and the
 //! integers of a verdict are held against the meaning, for two texts (`marking`) and for two tables (`table_marking`). All

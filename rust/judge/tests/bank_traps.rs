@@ -1,4 +1,5 @@
-//! Is the judge of bank reading worth believing? It accepts rules compared by the formula of places, and refuses each of the traps.
+//! Is the judge of bank reading worth believing? It accepts rules compared by the formula of places, and refuses each of
+//! the traps.
 
 mod wrong_bank;
 
@@ -167,8 +168,8 @@ fn a_refused_second_caller_is_seen() {
     assert!(said.starts_with("reply 1 with value 0, due "), "{said}");
 }
 
-/// What the judge says of the first failure, behind the sheet's number and the words lent. Of a header it is left out what it holds,
-/// which may be anything.
+/// What the judge says of the first failure, behind the sheet's number and the words lent. Of a header it is left out what
+/// it holds, which may be anything.
 fn seen(trap: Trap) -> String {
     let failure = run::random(&Wrong::new(trap), 1, SHEETS).err().unwrap_or_else(|| panic!("{trap:?} goes unseen"));
     let line = failure.lines().next().unwrap_or_default();

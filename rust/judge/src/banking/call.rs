@@ -26,7 +26,8 @@ impl BankCall {
         library.bank_read(self.text.left(), self.table.slice(), &mut self.header.within)
     }
 
-    /// Has the call changed nothing but the header and the first 2n² words, and without a text that was read nothing at all?
+    /// Has the call changed nothing but the header and the first 2n² words, and without a text that was read nothing at
+    /// all?
     pub fn memory(&self, read: Option<Header>) -> Result<(), String> {
         kept("text", &self.text, 0)?;
         kept("table", &self.table, read.map_or(0, |header| size(header.quantities)))?;

@@ -1,5 +1,5 @@
-//! Bank sheets changed at one rule or several, behind their rules or before them. What is due is known from the changes: the lines
-//! before the first of them are as they were, and that one ends the reading.
+//! Bank sheets changed at one rule or several, behind their rules or before them. What is due is known from the changes:
+//! the lines before the first of them are as they were, and that one ends the reading.
 
 use super::cut::HEADER;
 use super::list;
@@ -52,8 +52,8 @@ fn places(rules: usize, random: &mut Random) -> Vec<usize> {
 }
 
 impl Bank {
-    /// A rule that a bank sheet may not have there, or one that no sheet may have, or one that is both, which is then refused as
-    /// by ordinary reading.
+    /// A rule that a bank sheet may not have there, or one that no sheet may have, or one that is both, which is then
+    /// refused as by ordinary reading.
     fn change(&mut self, at: usize, random: &mut Random) {
         let line = if random.chance(75) { self.put_out(at, random) } else { at };
         let refused = if line == at && !self.is_out(at) || random.chance(30) { self.spoil(line, random) } else { 9 };
@@ -168,8 +168,8 @@ impl Bank {
     }
 }
 
-/// Magnitudes past the limit of a sheet's bounds: one more, twice as much, which a script may have with one hidden, and some that fit
-/// no smaller word.
+/// Magnitudes past the limit of a sheet's bounds: one more, twice as much, which a script may have with one hidden, and
+/// some that fit no smaller word.
 const PAST: [i128; 6] = [LIMIT as i128 + 1, LIMIT as i128 + 1, 2 * LIMIT as i128, 1 << 32, 1 << 63, 10_i128.pow(29)];
 
 /// The term and the bound of a rule within the limits.

@@ -1,5 +1,5 @@
-//! What is due of bank reading: what ordinary reading has to reply, unless a rule before the line at which that ends is one that a
-//! bank sheet may not have there.
+//! What is due of bank reading: what ordinary reading has to reply, unless a rule before the line at which that ends is one
+//! that a bank sheet may not have there.
 
 use super::cut::{cut, HEADER};
 use super::list;
@@ -14,16 +14,16 @@ use crate::text::written::Written;
 pub struct Owed {
     /// what ordinary reading finds
     pub ordinary: Result<Paper, Refusal>,
-    /// what the lines say before the one at which ordinary reading ends, none of which it refuses; nothing if that is before the
-    /// rules
+    /// what the lines say before the one at which ordinary reading ends, none of which it refuses; nothing if that is
+    /// before the rules
     pub fine: Paper,
     /// which of these is the first that a bank sheet may not have there, counted from 0
     pub out: Option<usize>,
 }
 
 impl Owed {
-    /// What is due of a text, where so many words are lent for the table. That two ways of deciding differ is a failure of the
-    /// judge.
+    /// What is due of a text, where so many words are lent for the table. That two ways of deciding differ is a failure of
+    /// the judge.
     pub fn of(text: &[u8], table: usize) -> Result<Owed, String> {
         let ordinary = reader::due(text, table);
         let fine = fine(text, &ordinary)?;
@@ -65,8 +65,8 @@ fn by_list(rules: &[Written]) -> Option<usize> {
     (0..places.len()).find(|&at| places[at].is_none() || at > 0 && places[at] <= places[at - 1])
 }
 
-/// The first rule with which the rules so far are no longer those of their own table, in its order. They never are again with
-/// further ones: what is lost is a spelling or an order.
+/// The first rule with which the rules so far are no longer those of their own table, in its order. They never are again
+/// with further ones: what is lost is a spelling or an order.
 fn by_table(paper: &Paper) -> Option<usize> {
     let Paper { n, hidden, ref rules } = *paper;
     let own = |count: usize| {

@@ -95,8 +95,8 @@ pub fn all(library: &dyn BankReader, counts: &mut Counts) -> Result<(), String> 
     others(library, counts)
 }
 
-/// What stands behind the rules, lines that are missing, too short a table and too long a text, each alone and behind a rule that a
-/// bank sheet may not have.
+/// What stands behind the rules, lines that are missing, too short a table and too long a text, each alone and behind a
+/// rule that a bank sheet may not have.
 fn others(library: &dyn BankReader, counts: &mut Counts) -> Result<(), String> {
     let fine = text(3, "", 2, &["+1:0", "+2:0"]);
     let out = text(3, "", 2, &["+2:0", "+1:0"]);

@@ -1,5 +1,5 @@
-//! What is to hold between bank reading and the library's other calls on texts, by document 02's words; what is due of a text does
-//! not come in.
+//! What is to hold between bank reading and the library's other calls on texts, by document 02's words; what is due of a
+//! text does not come in.
 
 use super::cut::{cut, HEADER};
 use crate::calls::same_words;
@@ -10,9 +10,9 @@ use crate::sheets::Sheet;
 /// Room for every table.
 const ROOM: usize = size(MOST_QUANTITIES);
 
-/// A text that the bank accepts is what the writer makes of what was read, and ordinary reading reads it alike. One that it refuses
-/// with 9 is fine to ordinary reading up to that line, which is the first that a bank sheet may not have. With any other number
-/// ordinary reading refuses it alike, and the rules before, with 6 all of them, are a bank sheet.
+/// A text that the bank accepts is what the writer makes of what was read, and ordinary reading reads it alike. One that it
+/// refuses with 9 is fine to ordinary reading up to that line, which is the first that a bank sheet may not have. With any
+/// other number ordinary reading refuses it alike, and the rules before, with 6 all of them, are a bank sheet.
 pub fn between_calls(library: &dyn BankReader, text: &[u8], table: usize) -> Result<(), String> {
     let (bank, read) = called(table, |words, header| library.bank_read(text, words, header));
     let (ordinary, alike) = called(table, |words, header| library.read(text, words, header));

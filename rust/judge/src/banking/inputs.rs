@@ -9,7 +9,8 @@ use crate::text::paper::Paper;
 use crate::text::written::Written;
 use crate::text::{damage, drafts, noise};
 
-/// A table whose words are within a sheet's limits: few quantities often, for there places are dense, and few rules of many.
+/// A table whose words are within a sheet's limits: few quantities often, for there places are dense, and few rules of
+/// many.
 pub fn sheet(random: &mut Random) -> Sheet {
     let n = match random.below(8) {
         0 => 1,
@@ -33,8 +34,8 @@ pub fn sheet(random: &mut Random) -> Sheet {
     Sheet { n, hidden: hidden_set(n, random), table }
 }
 
-/// A text about which nothing is known: the sheet's own, damaged, or with its rules in another order or otherwise spelled, or no
-/// bank sheet at all.
+/// A text about which nothing is known: the sheet's own, damaged, or with its rules in another order or otherwise spelled,
+/// or no bank sheet at all.
 pub fn text(sheet: &Sheet, random: &mut Random) -> Vec<u8> {
     let own = Paper::of(sheet);
     match random.below(14) {

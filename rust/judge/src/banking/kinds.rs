@@ -1,5 +1,5 @@
-//! The kinds of texts, of which a run has to meet all: by what a rule was one that a bank sheet may not have, and what a refusal
-//! came before.
+//! The kinds of texts, of which a run has to meet all: by what a rule was one that a bank sheet may not have, and what a
+//! refusal came before.
 
 use super::due::Owed;
 use super::list;
@@ -10,8 +10,8 @@ use crate::text::paper::Paper;
 use crate::text::refusal::Refusal;
 use crate::text::rule_line::RuleLine;
 
-/// What a run is to meet. `9 doubled` is a term that is doubled and nothing else, `9 before 2` one with a malformed line behind it,
-/// and `2, doubled` a malformed line with a doubled term.
+/// What a run is to meet. `9 doubled` is a term that is doubled and nothing else, `9 before 2` one with a malformed line
+/// behind it, and `2, doubled` a malformed line with a doubled term.
 pub const KINDS: [&str; 64] = [
     "1",
     "quantities 2",
@@ -137,7 +137,8 @@ fn of_out(Paper { n, rules, .. }: &Paper, at: usize) -> Vec<(bool, &'static str)
     ]
 }
 
-/// A refusal as by ordinary reading: what else a bank sheet has against the line, and whether it has something against a later one.
+/// A refusal as by ordinary reading: what else a bank sheet has against the line, and whether it has something against a
+/// later one.
 fn of_refused(text: &[u8], owed: &Owed, refusal: &Refusal) -> Vec<String> {
     let (number, line) = (refusal.reply.number, refusal.reply.value);
     let on_rule = refusal.kind.starts_with("rule ");

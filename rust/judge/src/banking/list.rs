@@ -1,5 +1,6 @@
-//! Every term as a bank sheet spells it, in place order: document 01's words ('The table') written out. No formula and no quantity
-//! decides about a place, only the list. A term that is spelled otherwise, doubled or with its higher quantity first, is not in it.
+//! Every term as a bank sheet spells it, in place order: document 01's words ('The table') written out. No formula and no
+//! quantity decides about a place, only the list. A term that is spelled otherwise, doubled or with its higher quantity
+//! first, is not in it.
 
 use crate::meaning::{is_in, MOST_QUANTITIES, NO_RULE};
 use crate::sheets::Sheet;

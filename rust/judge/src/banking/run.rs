@@ -1,5 +1,6 @@
-//! A whole run over bank sheets: examples, all orders of a few rules and all short lines, then random tables, each written and read by
-//! the bank, changed in ways of which it is known what is due, and made into other texts, on two threads at once.
+//! A whole run over bank sheets: examples, all orders of a few rules and all short lines, then random tables, each written
+//! and read by the bank, changed in ways of which it is known what is due, and made into other texts, on two threads at
+//! once.
 
 use super::changes::{self, Changed};
 use super::check;

@@ -1,5 +1,5 @@
-//! All orders of up to three rules over two quantities, in all spellings, and all short rule lines behind some others: there nothing
-//! is left to chance.
+//! All orders of up to three rules over two quantities, in all spellings, and all short rule lines behind some others:
+//! there nothing is left to chance.
 
 use super::check;
 use super::counts::Counts;
@@ -13,7 +13,8 @@ const SIGNED: [&str; 4] = ["+1", "-1", "+2", "-2"];
 /// The most rules of an order.
 const RULES: u32 = 3;
 
-/// Two quantities have 8 places. Of lists of up to 3 rules with one bound those are bank sheets that choose 0, 1, 2 or 3 of them.
+/// Two quantities have 8 places. Of lists of up to 3 rules with one bound those are bank sheets that choose 0, 1, 2 or 3 of
+/// them.
 const BANK_SHEETS: usize = 1 + 8 + 28 + 56;
 
 /// Of these, up to so many, lines are made, and put behind these others.

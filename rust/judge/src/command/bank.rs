@@ -1,6 +1,6 @@
 //! What `acornsled bank` has to print for a text, and what with `--check`, and random texts. No proved program prints that:
-//! the text is read here as `text` reads it, its one text is made by the list of terms, and whether it is a bank sheet is decided as
-//! `banking` does.
+//! the text is read here as `text` reads it, its one text is made by the list of terms, and whether it is a bank sheet is
+//! decided as `banking` does.
 
 use crate::banking::due::Owed;
 use crate::banking::{changes, inputs, list};

@@ -13,8 +13,8 @@ use acornsled::Table;
 /// One table of so many is tried with its own text, for bank sheets are much alike.
 const SHARE: usize = 4;
 
-/// Holds what the crate makes of a text as a bank sheet against the call; if the text is read, at times also of its table's own text,
-/// which has to give the table again, and of that text changed. Gives the numbers that were replied.
+/// Holds what the crate makes of a text as a bank sheet against the call; if the text is read, at times also of its table's
+/// own text, which has to give the table again, and of that text changed. Gives the numbers that were replied.
 pub fn text(text: &[u8], random: &mut Random) -> Result<Vec<u32>, String> {
     let mut numbers = vec![banked(text)?];
     if random.below(SHARE) > 0 {

@@ -1,5 +1,5 @@
-//! A bank reading that compares places by their formula, rule after rule, and falls into one of the traps that the judge has to see.
-//! Ordinary reading and writing are right.
+//! A bank reading that compares places by their formula, rule after rule, and falls into one of the traps that the judge
+//! has to see. Ordinary reading and writing are right.
 
 mod order;
 mod reading;

@@ -98,7 +98,7 @@ fn places_compared_by_their_formula_are_accepted() {
 #[test]
 fn a_run_that_meets_nothing_fails() {
     let counts = run::random(&Wrong::new(Trap::Nothing), 1, 0).unwrap_or_else(|failure| panic!("{failure}"));
-    assert_eq!(counts.all_met(), Err("no text was of the kind '1'".into()));
+    assert_eq!(counts.all_met(), Err("no bank sheet of 1 quantities was read".into()));
 }
 
 #[test]

@@ -1,5 +1,7 @@
-//! The two judges against each other on small sheets: least bounds, keys that are spoilt a little, and scripts.
+//! The two judges against each other on small sheets: least bounds, keys that are spoilt a little, and scripts; and the list of
+//! terms of bank sheets against document 01.
 
+use judge::banking::list;
 use judge::brute;
 use judge::graph::{self, Closure};
 use judge::library::DONE;
@@ -87,4 +89,20 @@ fn scripts_are_judged_alike() {
         seen[2 * usize::from(found.wide) + usize::from(found.narrow)] += 1;
     }
     assert!(seen.iter().all(|&count| count > 50), "too few of a kind: {seen:?}");
+}
+
+/// Quantity 3 starts at 8, and +1+3 has place 10; of n quantities there are 2n² places, each with one spelling.
+#[test]
+fn the_list_of_terms_has_the_documents_places() {
+    let stated = [("+1", 0), ("-1", 1), ("+2", 2), ("-2", 3), ("+1+2", 4), ("-1-2", 7), ("+3", 8), ("+1+3", 10)];
+    for (term, place) in stated {
+        assert_eq!(list::place(term), Some(place), "{term}");
+    }
+    for term in ["+1+1", "-2-2", "+1-1", "+2+1", "-3+2", "+33", "+1+33", "1", "+01", "+1+2+3", ""] {
+        assert_eq!(list::place(term), None, "{term}");
+    }
+    for n in 1..=32 {
+        assert_eq!(list::spellings(n).len(), size(n));
+        assert!(terms(n).iter().enumerate().all(|(place, term)| list::place(&term.to_string()) == Some(place)));
+    }
 }

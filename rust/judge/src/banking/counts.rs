@@ -3,6 +3,7 @@
 use super::due::Owed;
 use super::kinds::{self, KINDS};
 use crate::halves::{add_kinds, Tally};
+use crate::meaning::MOST_QUANTITIES;
 use std::collections::BTreeMap;
 use std::fmt;
 
@@ -15,6 +16,8 @@ pub struct Counts {
     pub tables: usize,
     /// other texts by the number of the reply
     numbers: BTreeMap<u32, usize>,
+    /// bank sheets that are read, by their quantities
+    quantities: BTreeMap<usize, usize>,
     kinds: BTreeMap<String, usize>,
 }
 
@@ -22,11 +25,17 @@ impl Counts {
     pub fn text(&mut self, text: &[u8], owed: &Owed) {
         let number = owed.read().map_or_else(|refusal| refusal.number, |_| 0);
         *self.numbers.entry(number).or_default() += 1;
+        if let Ok(paper) = owed.read() {
+            *self.quantities.entry(paper.n).or_default() += 1;
+        }
         kinds::of(text, owed).into_iter().for_each(|kind| *self.kinds.entry(kind).or_default() += 1);
     }
 
-    /// Nothing is shown by a run in which some kind of text was never met.
+    /// Nothing is shown by a run in which some kind of text was never met, or no bank sheet of so many quantities.
     pub fn all_met(&self) -> Result<(), String> {
+        if let Some(n) = (1..=MOST_QUANTITIES).find(|n| !self.quantities.contains_key(n)) {
+            return Err(format!("no bank sheet of {n} quantities was read"));
+        }
         match KINDS.iter().find(|&&kind| !self.kinds.contains_key(kind)) {
             Some(kind) => Err(format!("no text was of the kind '{kind}'")),
             None => Ok(()),
@@ -40,6 +49,7 @@ impl Tally for Counts {
         self.short += other.short;
         self.tables += other.tables;
         add_kinds(&mut self.numbers, &other.numbers);
+        add_kinds(&mut self.quantities, &other.quantities);
         add_kinds(&mut self.kinds, &other.kinds);
     }
 }

@@ -82,14 +82,13 @@ pub const KINDS: [&str; 64] = [
 /// The kinds that a text is of.
 pub fn of(text: &[u8], owed: &Owed) -> Vec<String> {
     match (owed.out, &owed.ordinary) {
-        (Some(at), ordinary) => {
-            let mut kinds = named(of_out(&owed.fine, at));
-            let more = ordinary.is_ok() && at + 1 < owed.fine.rules.len();
-            kinds.push(if more { "9 with rules behind" } else { "9 at the last rule" }.into());
-            kinds.push(
-                ordinary.as_ref().map_or_else(|refusal| format!("9 before {}", ended(refusal)), |_| "9 alone".into()),
-            );
-            kinds
+        (Some(at), Err(refusal)) => {
+            named(of_out(&owed.fine, at)).into_iter().chain([format!("9 before {}", ended(refusal))]).collect()
+        }
+        (Some(at), Ok(paper)) => {
+            let last = at + 1 == paper.rules.len();
+            let alone = [(true, "9 alone"), (last, "9 at the last rule"), (!last, "9 with rules behind")];
+            named(of_out(paper, at).into_iter().chain(alone).collect())
         }
         (None, Err(refusal)) => of_refused(text, owed, refusal),
         (None, Ok(paper)) => named(of_read(paper)),

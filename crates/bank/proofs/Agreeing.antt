@@ -25,8 +25,8 @@ use Rattle.reading.specs.Meaning.{Fine, AllFine}
 use Rattle.reading.specs.Reading.{onward, rulesFrom}
 use Rattle.reading.proofs.RuleLines.{not-accepted}
 use Rattle.reading.proofs.Headers.{rule-read}
+use Rattle.reading.specs.Ordered.{canonicalPlace, fromPlace, orderedFrom}
 use Rattle.bank.specs.Order.{LowerFirst, InBankOrder, OutOfOrder}
-use Rattle.bank.specs.Banking.{canonicalPlace, fromPlace, orderedFrom}
 use Rattle.bank.proofs.CanonicalRules.{canonical-rule}
 use Rattle.bank.proofs.Ordering.{leastAfter, least-last, ordered-more, nowhere-out, at-lower, early-out, out-refused}
 
@@ -68,24 +68,6 @@ pub any-goes : (n limit k line : ℕ) (u : List ℕ) (w : Written) (v : List ℕ
     → rulesFrom n limit (suc k) line u ≡ onward (rulesFrom n limit k (suc line) v) (λ rs. accepted (w ∷ rs))
 unfolding rulesFrom onward
 any-goes n limit k line u w v e = rw e
-
--- in bank order
-pub ordered-ends : (n limit least k line : ℕ) (u : List ℕ) (f : Refusal) → ruleJudged n limit line u ≡ refused f
-    → orderedFrom n limit least (suc k) line u ≡ refused f
-unfolding orderedFrom onward
-ordered-ends n limit least k line u f e = rw e
-
-pub ordered-goes : (n limit least k line : ℕ) (u : List ℕ) (w : Written) (v : List ℕ) (p : ℕ) → ruleJudged n limit line u ≡ accepted w v
-    → canonicalPlace (writtenRule w) ≡ At p → least ≤ p
-    → orderedFrom n limit least (suc k) line u ≡ onward (orderedFrom n limit (suc p) k (suc line) v) (λ rs. accepted (w ∷ rs))
-unfolding orderedFrom onward fromPlace
-ordered-goes n limit least k line u w v p e d h = rw (e, d, le-leb least p h)
-
-pub ordered-stops : (n limit least k line : ℕ) (u : List ℕ) (w : Written) (v : List ℕ) → ruleJudged n limit line u ≡ accepted w v
-    → ((next : ℕ → Judged (List Written)) → fromPlace least line (canonicalPlace (writtenRule w)) next ≡ refused (NotCanonical line))
-    → orderedFrom n limit least (suc k) line u ≡ refused (NotCanonical line)
-unfolding orderedFrom onward
-ordered-stops n limit least k line u w v e d = rw e (d _)
 
 -- ---- lines that are refused
 

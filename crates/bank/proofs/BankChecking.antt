@@ -8,12 +8,12 @@ use Rattle.rules.specs.declared.refusal.Refusal.{Refusal}
 use Rattle.rules.specs.Limits.{maxBound, boundLimit}
 use Rattle.reading.specs.declared.check.Checked.{Checked}
 use Rattle.reading.specs.declared.check.Checked.the-variants.{Refused as Failed}
-use Rattle.reading.specs.Reading.{checkHeader, headerOf, checkedOf}
-use Rattle.reading.specs.Inner.{checkedRules}
+use Rattle.reading.specs.Reading.{checkHeader, headerOf, checkedOf, checkedRules}
 use Rattle.reading.proofs.CheckedHeaders.{HeaderFound, header-failed, header-ends, header-goes}
 use Rattle.reading.proofs.Checking.{lines-checked}
-use Rattle.bank.specs.Banking.{orderedFrom, bankLines, bankText}
-use Rattle.bank.proofs.OrderedLines.{ordered-count}
+use Rattle.reading.specs.Ordered.{orderedFrom}
+use Rattle.reading.proofs.OrderedLines.{ordered-count}
+use Rattle.bank.specs.Banking.{bankLines, bankText}
 
 -- the size or the header is refused
 pub header-checked : (s : List ℕ) (r : Checked) (f : Refusal) → r ≡ headerOf s (checkHeader s) → r ≡ Failed f → r ≡ checkedOf (bankText s)

@@ -23,8 +23,9 @@ use Rattle.lines.specs.Spelling.{Term, Written, one, two, rule, lineWithin, can
 use Rattle.reading.specs.Meaning.{Fine}
 use Rattle.reading.proofs.FineRules.{signCode, TermIn, term-in, bound-within, within-rule}
 use Rattle.writing.specs.Writing.{literalTerm, writtenOf}
+use Rattle.reading.specs.Ordered.{canonicalPlace}
+use Rattle.reading.proofs.OrderedLines.{lower-found}
 use Rattle.bank.specs.Order.{LowerFirst, Doubled, HigherFirst}
-use Rattle.bank.specs.Banking.{canonicalPlace}
 
 -- ---- the terms of a fine rule
 
@@ -114,11 +115,6 @@ one-canonical n x c w h b e f = record {
   back = rw (e, one-isOne x, one-higher x) f;
   bound = rw e b;
 }
-
--- two literals, that of the lower quantity first, stand where the pair does
-pub lower-found : (x y : ℕ) → x / 2 < y / 2 → findTwo x y ≡ At (placeOfPair x y)
-unfolding findTwo placeOfTwo
-lower-found x y l = rw (ne-eqb (x / 2) (y / 2) (omega arith), lt-ltb x y (omega arith))
 
 -- of two, the lower one first
 two-canonical : (n x y : ℕ) (c : ℤ) (w : Written) → x / 2 < y / 2 → y / 2 < n → hasRule c ≡ true → writtenRule w ≡ Two x y c

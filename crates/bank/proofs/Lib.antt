@@ -7,7 +7,6 @@ pub mod WrittenTexts
 pub mod Ordering
 pub mod Headers
 pub mod Agreeing
-pub mod OrderedLines
 pub mod BankChecking
 pub mod OrderTold
 pub mod Means

@@ -27,12 +27,14 @@ use Rattle.reading.proofs.AfterOpenings.{reached}
 use Rattle.reading.proofs.Ending.{allOf, sheet-lines}
 use Rattle.reading.proofs.Means.{text-means, reads-check, small-check}
 use Rattle.writing.proofs.Past.{lines-count}
+use Rattle.reading.specs.Ordered.{orderedFrom}
+use Rattle.reading.proofs.OrderedLines.{ordered-stops}
 use Rattle.bank.specs.Order.{InBankOrder}
-use Rattle.bank.specs.Banking.{orderedFrom, bankLines, bankText}
+use Rattle.bank.specs.Banking.{bankLines, bankText}
 use Rattle.bank.specs.Meaning.{BankReads, rulesRead, openingOf, NotCanonicalAt, BankLineFails, line-fails, not-canonical-at, BankFails}
 use Rattle.bank.proofs.Headers.{HeaderAt, header-next, header-same, header-reaches, reaches-header, reaches-more, same-rules}
 use Rattle.bank.proofs.Ordering.{leastAfter, out-refused}
-use Rattle.bank.proofs.Agreeing.{any-line, ordered-stops}
+use Rattle.bank.proofs.Agreeing.{any-line}
 use Rattle.bank.proofs.OrderTold.{AllRead, LineFailed, OrderFailed, Told, fine-front, lines-told, lines-passed, lines-stop}
 
 -- what checking a bank sheet has to answer: what it writes, with nothing after it, or the refusal

@@ -24,11 +24,12 @@ use Rattle.reading.specs.Meaning.{Fine, AllFine}
 use Rattle.reading.specs.Reading.{onward, rulesFrom}
 use Rattle.reading.proofs.LineAnswers.{onward-onward, onward-same}
 use Rattle.reading.proofs.Headers.{rule-read}
+use Rattle.reading.specs.Ordered.{canonicalPlace, fromPlace, orderedFrom}
+use Rattle.reading.proofs.OrderedLines.{ordered-ends, ordered-goes, ordered-stops}
 use Rattle.bank.specs.Order.{LowerFirst, InBankOrder, OutOfOrder}
-use Rattle.bank.specs.Banking.{canonicalPlace, fromPlace, orderedFrom}
 use Rattle.bank.proofs.CanonicalRules.{Canonical, canonical-rule}
 use Rattle.bank.proofs.Ordering.{onePast, leastAfter, least-last, ordered-more, nowhere-out, at-lower, early-out, out-refused}
-use Rattle.bank.proofs.Agreeing.{RuleHere, rule-here, rule-line, any-ends, any-goes, ordered-ends, ordered-goes, ordered-stops, any-line, rule-refused}
+use Rattle.bank.proofs.Agreeing.{RuleHere, rule-here, rule-line, any-ends, any-goes, any-line, rule-refused}
 
 -- one rule more is fine
 pub fine-more : (n limit : ℕ) (rs : List Written) (w : Written) → AllFine n limit (ruleLines rs) → Fine n limit (rule w) → AllFine n limit (ruleLines (rs ++ w ∷ []))

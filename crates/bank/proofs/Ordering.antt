@@ -17,8 +17,9 @@ use Rattle.lines.specs.Spelling.{Written, one, two, rule, writtenRule}
 use Rattle.lines.specs.Lines.{Judged, refused}
 use Rattle.reading.specs.Texts.{ruleLines}
 use Rattle.reading.specs.Meaning.{Fine, AllFine}
+use Rattle.reading.specs.Ordered.{canonicalPlace, fromPlace}
+use Rattle.reading.proofs.OrderedLines.{nowhere-refused, early-refused}
 use Rattle.bank.specs.Order.{LowerFirst, Doubled, HigherFirst, PlaceNotAfter, InBankOrder, OutOfOrder, doubled, higher-first, not-after}
-use Rattle.bank.specs.Banking.{canonicalPlace, fromPlace}
 use Rattle.bank.proofs.CanonicalRules.{canonical-rule, doubled-nowhere, higher-nowhere, not-lower}
 
 -- ---- the least place
@@ -42,16 +43,6 @@ least-last (u ∷ []) v k e = rw e
 least-last (u ∷ w ∷ rs) v k e = least-last (w ∷ rs) v k e
 
 -- ---- rules in order, and one more
-
--- no canonical place is 9, and so is one before the least
-pub nowhere-refused : {A : Type 0} (least line : ℕ) (x : Place) (next : ℕ → Judged A) → x ≡ Nowhere → fromPlace least line x next ≡ refused (NotCanonical line)
-unfolding fromPlace
-nowhere-refused least line x next e = rw e
-
-pub early-refused : {A : Type 0} (least line : ℕ) (x : Place) (k : ℕ) (next : ℕ → Judged A) → x ≡ At k → k < least
-    → fromPlace least line x next ≡ refused (NotCanonical line)
-unfolding fromPlace
-early-refused least line x k next e h = rw (e, lt-leb least k h)
 
 module _ (n limit : ℕ) (below : limit < cap) where
   -- with a rule behind them that has its lower quantity first, and a place from the least one on, they stay in order
@@ -117,7 +108,7 @@ module _ (n limit : ℕ) (below : limit < cap) where
       last (v ∷ []) fine ordered h =
           let c = canonical-rule n limit v below (fine .0) (ordered .0) in
           let l : k < suc (c .0) = rw (c .1 .found) at h in
-          ([], v, refl, record { before = c .0; place = k; first = c .1 .found; second = found; not-after = omega arith })
+          ([], v, refl, record { earlier = c .0; later = k; first = c .1 .found; second = found; not-after = omega arith })
       last (v ∷ u ∷ rs) fine ordered h =
           let p = last (u ∷ rs) (fine .1) (ordered .2) h in (v ∷ p .0, p .1, ap (λ (l : List Written). v ∷ l) (p .2), p .3)
 
@@ -129,13 +120,13 @@ module _ (n limit : ℕ) (below : limit < cap) where
   out-refused rs w line next f (higher-first h) = nowhere-refused (leastAfter rs) line _ next (higher-nowhere n limit w f h)
   out-refused rs w line next f (not-after earlier v e p) = go (lower-or-not w)
     where
-      least : leastAfter rs ≡ suc (p .before)
-      least = ap leastAfter e ∙ least-last earlier v (p .before) (p .first)
+      least : leastAfter rs ≡ suc (p .earlier)
+      least = ap leastAfter e ∙ least-last earlier v (p .earlier) (p .first)
 
       go : LowerFirst w ⊎ (LowerFirst w → ⊥) → fromPlace (leastAfter rs) line (canonicalPlace (writtenRule w)) next ≡ refused (NotCanonical line)
       go (inl l) =
           let c = canonical-rule n limit w below f l in
-          let d : At (c .0) ≡ At (p .place) = sym (c .1 .found) ∙ p .second in
-          let same : c .0 ≡ p .place = cc in
+          let d : At (c .0) ≡ At (p .later) = sym (c .1 .found) ∙ p .second in
+          let same : c .0 ≡ p .later = cc in
           early-refused (leastAfter rs) line _ (c .0) next (c .1 .canonical) (omega (arith, least, p .not-after))
       go (inr h) = nowhere-refused (leastAfter rs) line _ next (not-lower n limit w f h .0)

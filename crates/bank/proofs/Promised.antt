@@ -28,7 +28,7 @@ use Rattle.reading.specs.declared.read.Reading.{Reading}
 use Rattle.reading.specs.declared.read.Reading.the-variants.{Accepted, Refused}
 use Rattle.reading.specs.Texts.{Contents}
 use Rattle.reading.specs.Meaning.{Reads}
-use Rattle.reading.specs.Reading.{checkText, checkedOf, replyTo, readReply, filled, isAccepted, readTable, replyAfter, tableAfter, readingReturned, readingNumber}
+use Rattle.reading.specs.Reading.{checkText, checkedOf, replyTo, readReply, filled, isAccepted, readTable, replyAfter, tableAfter, textAccepted, readingReturned, readingNumber}
 use Rattle.reading.specs.Promises.{Vouched, CheckedRead, TableRead, ReadInto}
 use Rattle.reading.proofs.Answered.{PassedWith, ShortWith, AcceptedWith, failed-judged, passed-judged, refused-judged, accepted-judged}
 use Rattle.reading.proofs.Numbers.{returned-failed, returned-passed, returned-refused, returned-accepted}
@@ -41,7 +41,7 @@ use Rattle.writing.proofs.Meanings.{Clean}
 use Rattle.writing.proofs.Back.{sheet-reads, written-back}
 use Rattle.bank.specs.Banking.{bankText, bankReply, bankTable}
 use Rattle.bank.specs.Meaning.{BankReads, BankPasses, BankRefusedFor, BankAcceptedAs}
-use Rattle.bank.specs.Promises.{BankChecked, acceptedAs, SheetTable, BankBack, BankRead}
+use Rattle.bank.specs.Promises.{BankChecked, SheetTable, BankBack, BankRead}
 use Rattle.bank.proofs.TableOrder.{table-ordered}
 use Rattle.bank.proofs.Canonical.{ordered-rules}
 use Rattle.bank.proofs.SheetTables.{read-sheet}
@@ -188,7 +188,7 @@ module _ (s : List ℕ) (t : List ℤ) where
   pub made-banked : (n set : ℕ) (table : List ℤ) → Reads Sheet s (contentsOf n set table) → ReadBack n set table s t → BankBack n set table s t
   made-banked n set table p b =
       let q : BankReads s (contentsOf n set table) = record { reads = p; ordered = table-ordered n table } in
-      record { reply = same-reply (contentsOf n set table) q ∙ b .reply; words = same-table (contentsOf n set table) q ∙ b .words }
+      record { reply = ap readingReturned (same-reply (contentsOf n set table) q ∙ b .reply); words = same-table (contentsOf n set table) q ∙ b .words }
 
   -- the text of a table whose bounds lie in the sheet's limits
   module _ (n set : ℕ) (table : List ℤ) (w : SheetTable n set table) (e : s ≡ writtenText n set table) (l : blockStart n ≤ length t) where
@@ -225,11 +225,11 @@ module _ (s : List ℕ) (t : List ℤ) where
     read = bank-table-read;
     kept = bank-kept;
     ordinary = λ n set z. let p = reads-of n set z in (same-reply (p .0) (p .1), same-table (p .0) (p .1));
-    written = λ n set table w e l. let b = written-banked n set table w e l in (returned-accepted (bankReply s (length t)) n set .1 (b .reply), b .words);
+    written = λ n set table w e l. let b = written-banked n set table w e l in (b .reply, b .words);
     canonical = λ n set z. bank-canonical n set (bank-accepted n set .0 (returned-accepted (bankReply s (length t)) n set .0 z));
   }
     where
-      reads-of : (n set : ℕ) → readingReturned (bankReply s (length t)) ≡ acceptedAs n set → (c : Contents) × BankReads s c
+      reads-of : (n set : ℕ) → readingReturned (bankReply s (length t)) ≡ textAccepted n set → (c : Contents) × BankReads s c
       reads-of n set z =
           let h = bank-accepted n set .0 (returned-accepted (bankReply s (length t)) n set .0 z) in
           (h .accepted .contents, record { reads = h .accepted .reads; ordered = h .ordered })

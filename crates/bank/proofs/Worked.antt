@@ -8,7 +8,8 @@ use Rattle.numerals.specs.Bytes.{bytes}
 use Rattle.rules.specs.Refusal.{Returned}
 use Rattle.reading.specs.Reading.{readingReturned}
 use Rattle.reading.proofs.Frauds.{reading, putting}
-use Rattle.bank.specs.Banking.{canonicalPlace, fromPlace, orderedFrom, bankLines, bankText, bankReply}
+use Rattle.reading.specs.Ordered.{canonicalPlace, fromPlace, orderedFrom}
+use Rattle.bank.specs.Banking.{bankLines, bankText, bankReply}
 
 -- a text, the words of the table that is lent, and what is returned: a number, and n and the hidden set or what stands beside a refusal
 pub record BankCase : Type 0 where

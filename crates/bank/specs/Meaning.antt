@@ -2,7 +2,7 @@
 -- fine by itself, with 9; the lines before it are fine, and their rules in bank order.
 use mathlib.Core.Path.{_≡_}
 use mathlib.Core.Logic.{_⊎_}
-use mathlib.Core.List.{List, [], _∷_, _++_}
+use mathlib.Core.List.{List, [], _++_}
 use Prim.Native.Nat.{ℕ, _≤_, _<_}
 use lib.ListN.{length}
 use Rattle.rules.specs.declared.paper.Paper.{Paper}
@@ -18,10 +18,12 @@ use Rattle.bank.specs.Order.{InBankOrder, OutOfOrder}
 
 -- ---- a text that is fine
 
+-- the text s is fine as a sheet, these are its contents, and its rules are in bank order
 pub record BankReads (s : List ℕ) (c : Contents) : Type 0 where
   pub reads : Reads Sheet s c
   pub ordered : InBankOrder (c .written)
 
+-- it is fine as a bank sheet
 pub record BankReadable (s : List ℕ) : Type 0 where
   pub contents : Contents
   pub reads : BankReads s contents

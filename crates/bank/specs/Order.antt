@@ -35,15 +35,15 @@ pub record PlaceAfter (v w : Written) : Type 0 where
 
 -- both have a place, and that of the second is not after that of the first
 pub record PlaceNotAfter (v w : Written) : Type 0 where
-  pub before : ℕ
-  pub place : ℕ
-  pub first : findPlace (writtenRule v) ≡ At before
-  pub second : findPlace (writtenRule w) ≡ At place
-  pub not-after : place ≤ before
+  pub earlier : ℕ
+  pub later : ℕ
+  pub first : findPlace (writtenRule v) ≡ At earlier
+  pub second : findPlace (writtenRule w) ≡ At later
+  pub not-after : later ≤ earlier
 
 -- ---- the rules of a bank sheet
 
--- a rule comes next after v
+-- the next rule, where there is one, has its place after that of v
 abbrev pub NextAfter : Written → List Written → Type 0
 NextAfter v [] = Unit {0}
 NextAfter v (w ∷ ws) = PlaceAfter v w

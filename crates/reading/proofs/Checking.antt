@@ -15,8 +15,7 @@ use Rattle.lines.proofs.Found.{by-accepted}
 use Rattle.reading.specs.declared.check.Checked.the-variants.{Passed}
 use Rattle.reading.specs.declared.check.Checked.the-variants.{Refused as Failed}
 use Rattle.reading.specs.Texts.{Contents, linesText, headerText}
-use Rattle.reading.specs.Reading.{onward, rulesFrom, linesFrom, checkText, checkHeader, checkedOf}
-use Rattle.reading.specs.Inner.{checkedRules}
+use Rattle.reading.specs.Reading.{onward, rulesFrom, linesFrom, checkText, checkHeader, checkedOf, checkedRules}
 use Rattle.reading.proofs.Limits.{list-limit}
 use Rattle.reading.proofs.RuleLines.{rules-count}
 use Rattle.reading.proofs.CheckedHeaders.{HeaderFound, header-ends, header-goes}

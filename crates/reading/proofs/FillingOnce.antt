@@ -29,15 +29,16 @@ use Rattle.reading.specs.declared.check.Checked.{Checked}
 use Rattle.reading.specs.declared.check.Checked.the-variants.{Passed}
 use Rattle.reading.specs.declared.check.Checked.the-variants.{Refused as Failed}
 use Rattle.reading.specs.Meaning.{Passes}
-use Rattle.reading.specs.Reading.{rulesFrom, checkText, checkHeader, headerOf, checkedOf, filled}
-use Rattle.reading.specs.Inner.{checkedRules, RulesFilled}
-use Rattle.reading.specs.Promises.{TextFilled}
+use Rattle.reading.specs.Reading.{rulesFrom, checkText, checkHeader, headerOf, checkedOf, checkedRules, filled}
+use Rattle.reading.specs.Ordered.{linesBy}
+use Rattle.reading.specs.Promises.{RulesFilled, TextFilled}
 use Rattle.reading.proofs.Means.{reads-check}
 use Rattle.reading.proofs.CheckedTexts.{checked-passes, check-promised}
 use Rattle.reading.proofs.Answered.{not-failed}
 use Rattle.reading.proofs.CheckedHeaders.{header-failed}
 use Rattle.reading.proofs.Checking.{header-checked}
 use Rattle.reading.proofs.Headers.{Opened, passed-opened}
+use Rattle.reading.proofs.OrderedLines.{by-any}
 use Rattle.reading.proofs.Fronts.{put-past, filled-from}
 use Rattle.reading.proofs.Filling.{Filling, emptied-table, put-table, found-accepted, filling-begins, filling-again, filling-over}
 
@@ -108,23 +109,24 @@ module _ (limit : ℕ) (s : List ℕ) (n count body : ℕ) (fills : Bool) (t₀ 
 
   -- ---- after the loop
 
-  -- what was asked for, where lines that are all fine are all read
-  pub once-filled : (set : ℕ) (before : List ℤ) (r : Checked) → fills ≡ leb (blockStart n) (length before) → Begun n fills before t₀
-      → r ≡ checkedRules n set count body (rulesFrom n limit count 4 (drop body s)) → (Filling limit s n count body t₀ t at i → count ≤ i)
-      → RulesFilled n set limit count body s before r t
-  once-filled set before r test b e all = record {
+  -- what was asked for, where lines that are all accepted are all read
+  pub once-filled : (ordered : Bool) (set : ℕ) (before : List ℤ) (r : Checked) → fills ≡ leb (blockStart n) (length before) → Begun n fills before t₀
+      → r ≡ checkedRules n set count body (linesBy ordered n limit 0 count 4 (drop body s))
+      → ((rs : List Written) → linesBy ordered n limit 0 count 4 (drop body s) ≡ accepted rs [] → Filling limit s n count body t₀ t at i → count ≤ i)
+      → RulesFilled ordered n set limit count body s before r t
+  once-filled ordered set before r test b e all = record {
     reply = e;
-    filled = λ l rs q. go (test ∙ le-leb (blockStart n) (length before) l) rs q;
+    filled = λ l rs q. go (test ∙ le-leb (blockStart n) (length before) l) rs q (by-any ordered n limit count 4 (drop body s) rs [] q);
     short = λ l. let y = test ∙ lt-leb (blockStart n) (length before) l in f .same y ∙ b .same y;
     rest = f .rest ∙ b .rest;
   }
     where
-      go : fills ≡ true → (rs : List Written) → rulesFrom n limit count 4 (drop body s) ≡ accepted rs []
-          → t ≡ putAll (emptyTable n ++ drop (blockStart n) before) (writtenRules rs)
-      go y rs q =
+      go : fills ≡ true → (rs : List Written) → linesBy ordered n limit 0 count 4 (drop body s) ≡ accepted rs []
+          → rulesFrom n limit count 4 (drop body s) ≡ accepted rs [] → t ≡ putAll (emptyTable n ++ drop (blockStart n) before) (writtenRules rs)
+      go y rs p q =
           let g : Filling limit s n count body t₀ t at i = f .filling y rs q in
           let z : g .all ≡ rs = cc (g .begun, q) in
-          filling-over limit s n count body t₀ t at i g (all g) ∙ rw (b .emptied y, z)
+          filling-over limit s n count body t₀ t at i g (all rs p g) ∙ rw (b .emptied y, z)
 
 -- ---- a text
 
@@ -152,7 +154,7 @@ header-refused paper s t r g e q = record {
 
 -- the rule lines of a text that passed fill the table that it asks for
 pub rules-fill : (paper : Paper) (s : List ℕ) (n set m body : ℕ) (before : List ℤ) (r : Checked) (after : List ℤ) → Passes paper s n set m body
-    → blockStart n ≤ length before → RulesFilled n set (boundLimit paper n set) m body s before r after → after ≡ filled (checkText paper s) before
+    → blockStart n ≤ length before → RulesFilled false n set (boundLimit paper n set) m body s before r after → after ≡ filled (checkText paper s) before
 rules-fill paper s n set m body before r after p l f =
     let o : Opened (boundLimit paper n set) s n m body (p .contents .written) = passed-opened paper s n set m body p in
     f .filled l (p .contents .written) (o .rest)
@@ -160,7 +162,7 @@ rules-fill paper s n set m body before r after p l f =
 
 -- so do those of a text that is checked
 pub text-filled : (paper : Paper) (s : List ℕ) (n set m body : ℕ) (before : List ℤ) (r : Checked) (after : List ℤ) → n ≤ maxQuantities
-    → r ≡ checkedOf (checkText paper s) → RulesFilled n set (boundLimit paper n set) m body s before r after → TextFilled paper s before r after
+    → r ≡ checkedOf (checkText paper s) → RulesFilled false n set (boundLimit paper n set) m body s before r after → TextFilled paper s before r after
 unfolding checkedRules
 text-filled paper s n set m body before r after most e f = record {
   checked = check-promised paper s r e;

@@ -17,6 +17,7 @@ pub mod Replies
 pub mod Numbers
 pub mod Promised
 pub mod RuleLines
+pub mod OrderedLines
 pub mod CheckedHeaders
 pub mod Checking
 pub mod Headers

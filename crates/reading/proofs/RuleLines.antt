@@ -11,8 +11,7 @@ use Rattle.lines.specs.Spelling.{Written}
 use Rattle.lines.specs.Lines.{Judged, accepted, refused, ruleJudged}
 use Rattle.reading.specs.declared.check.Checked.the-variants.{Passed}
 use Rattle.reading.specs.declared.check.Checked.the-variants.{Refused as Failed}
-use Rattle.reading.specs.Reading.{onward, rulesFrom}
-use Rattle.reading.specs.Inner.{checkedRules}
+use Rattle.reading.specs.Reading.{onward, rulesFrom, checkedRules}
 
 -- ---- one line after another
 

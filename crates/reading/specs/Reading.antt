@@ -74,6 +74,11 @@ unfoldable pub checkedOf : Judged Contents → Checked
 checkedOf (accepted c u) = Passed (c .count) (setOf (c .hiddens)) (length (c .written)) (length (headerText c))
 checkedOf (refused r) = Failed r
 
+-- of rule lines, where the header is read, the same; or their refusal
+unfoldable pub checkedRules : ℕ → ℕ → ℕ → ℕ → Judged (List Written) → Checked
+checkedRules n set m body (accepted rs u) = Passed n set m body
+checkedRules n set m body (refused r) = Failed r
+
 -- ---- a sheet into a table
 
 -- the reply of reading into a table of so many words: the last check is its length
@@ -99,7 +104,7 @@ isAccepted (Refused r) = false
 unfoldable pub readTable : List ℕ → List ℤ → List ℤ
 readTable s t = cond (isAccepted (readReply s (length t))) (filled (checkText Sheet s) t) t
 
--- the same of a text that was checked, by what its check has told, and of which the rules are read from the text
+-- the reply and the table where the text was checked before: by what the check has answered; the rules are those of the text
 unfoldable pub replyAfter : ℕ → Checked → Reading
 replyAfter words (Passed n set m body) = cond (ltb words (blockStart n)) (Refused (TooShort (blockStart n))) (Accepted n set)
 replyAfter words (Failed r) = Refused r
@@ -110,8 +115,11 @@ tableAfter s r t = cond (isAccepted (replyAfter (length t) r)) (filled (checkTex
 -- ---- as it is returned (document 01, 'Returned to the caller')
 
 -- 0 where the text is accepted, with n and the hidden set
+abbrev pub textAccepted : ℕ → ℕ → Returned
+textAccepted n set = record { number = 0; values = pos n ∷ pos set ∷ [] }
+
 abbrev pub readingReturned : Reading → Returned
-readingReturned (Accepted n set) = record { number = 0; values = pos n ∷ pos set ∷ [] }
+readingReturned (Accepted n set) = textAccepted n set
 readingReturned (Refused f) = refusedAs f
 
 abbrev pub readingNumber : Reading → ℕ

@@ -1,9 +1,11 @@
 // A text checked: its size, then its lines from the first. Each line is read once, and a table that is at hand is filled meanwhile.
+use crate::order;
 use lines::answer;
 use lines::answer::Answer;
 use lines::count;
 use lines::hidden;
 use lines::rule;
+use places::Place;
 use rules::hidden::Set;
 use rules::paper;
 use rules::paper::Paper;
@@ -15,8 +17,7 @@ ghost use Prim.Native.Nat.{_≤_, _<_};
 ghost use Rattle.numerals.specs.Decimal.{cap};
 ghost use Rattle.rules.specs.Limits.{maxQuantities, maxRules};
 ghost use Rattle.reading.specs.Reading.{checkHeader, headerOf};
-ghost use Rattle.reading.specs.Promises.{TextChecked, TextFilled};
-ghost use Rattle.reading.specs.Inner.{RulesFilled};
+ghost use Rattle.reading.specs.Promises.{RulesFilled, TextChecked, TextFilled};
 
 pub enum Checked {
     // n, the hidden set, the number of rules, and the cursor at which their lines begin
@@ -31,10 +32,12 @@ pub enum Checked {
     },
 }
 
-// Checks the lines of `count` rules from the cursor `body` on, the first being line 4, and that nothing follows them; `n` and `hidden` go into the answer. A table that is long enough is
-// filled with the rules meanwhile, and its words are free where a line is refused; a shorter one stays.
-pub(crate) fn check_rules(
+// Checks the lines of `count` rules from the cursor `body` on, the first being line 4, and that nothing follows them; where they are to be `ordered`, also that each rule is in place order after the
+// one before. `n` and `hidden` go into the answer. A table that is long enough is filled with the rules meanwhile, and its words are free where a line is refused; a shorter one stays.
+// One loop serves both readings, since a second caller of the line's reader would keep it from being compiled into the loop.
+pub fn check_rules(
     s: &[u8],
+    ordered: bool,
     n: usize,
     hidden: Set,
     limit: u64,
@@ -43,13 +46,15 @@ pub(crate) fn check_rules(
     table: &mut [i64],
 ) -> Checked
     requires { ⌜ (1 ≤ n) × (n ≤ maxQuantities) × (limit < cap) × (count ≤ maxRules) ⌝ }
-    ensures { λ r. ⌜ RulesFilled n hidden limit count body (now (s .entry)) (now (table .entry)) r (now (table .exit)) ⌝ }
+    ensures { λ r. ⌜ RulesFilled ordered n hidden limit count body (now (s .entry)) (now (table .entry)) r (now (table .exit)) ⌝ }
 {
     let fills = table::size(n) <= table.len();
     if fills {
         table::empty(n, table);
     }
     let mut at = body;
+    // the place of the rule before, where they are to be in order and there is one
+    let mut last = 0;
     let mut i = 0;
     while i < count {
         let got = rule::rule_line(s, at, n, limit, i + 4);
@@ -58,9 +63,16 @@ pub(crate) fn check_rules(
                 refusal: answer::refusal(got),
             };
         };
+        let place = order::place_after(ordered, i, last, rule);
+        let Place::At(k) = place else {
+            return Checked::Refused {
+                refusal: Refusal::NotCanonical { line: i + 4 },
+            };
+        };
         if fills {
             table::put(n, table, rule);
         }
+        last = k;
         at = next;
         i = i + 1;
     }
@@ -140,7 +152,7 @@ pub fn check_filling(s: &[u8], paper: Paper, table: &mut [i64]) -> Checked
         return header;
     };
     let limit = paper::bound_limit(paper, quantities, hidden) as u64;
-    check_rules(s, quantities, hidden, limit, rules, body, table)
+    check_rules(s, false, quantities, hidden, limit, rules, body, table)
 }
 
 // Checks a text and fills no table.

@@ -25,5 +25,5 @@ pub fn fill(
     ensures { λ _. ⌜ now (table .exit) ≡ filled (checkText paper (now (s .entry))) (now (table .entry)) ⌝ }
 {
     let limit = paper::bound_limit(paper, n, hidden) as u64;
-    check::check_rules(s, n, hidden, limit, count, body, table);
+    check::check_rules(s, false, n, hidden, limit, count, body, table);
 }

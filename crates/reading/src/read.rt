@@ -17,7 +17,7 @@ pub enum Reading {
 }
 
 impl Reading {
-    // Document 01's number of a refusal; 0 where the text is accepted.
+    // The number of a refusal; 0 where the text is accepted.
     pub fn number(self) -> u32
         ensures { λ r. ⌜ r ≡ readingNumber self ⌝ }
     {
@@ -44,7 +44,7 @@ impl Reading {
     }
 }
 
-// Reads a sheet's text that was checked into the first 2n² words of a table, where it passed and the table is long enough.
+// Reads a sheet's text whose check has answered `checked`: a refusal is handed back, a table that is too short is refused, and else its first 2n² words are filled.
 pub fn read_checked(s: &[u8], checked: Checked, table: &mut [i64]) -> Reading
     requires { ⌜ Vouched (now s) checked ⌝ }
     ensures { λ r. ⌜ CheckedRead (now (s .entry)) checked (now (table .entry)) r (now (table .exit)) ⌝ }

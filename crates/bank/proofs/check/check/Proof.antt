@@ -8,10 +8,10 @@ use borrow.Author.Needs.{needs}
 use Rattle.numerals.specs.Decimal.{cap}
 use Rattle.rules.specs.declared.paper.Paper.the-variants.{Sheet}
 use Rattle.rules.specs.Limits.{boundLimit}
-use Rattle.reading.specs.Inner.{checkedRules}
+use Rattle.reading.specs.Reading.{checkedRules}
 use Rattle.reading.proofs.Limits.{limit-told, unsigned, cap-casts, cap-value}
 use Rattle.reading.proofs.CheckedHeaders.{HeaderFound, header-found}
-use Rattle.bank.specs.Banking.{orderedFrom}
+use Rattle.reading.specs.Ordered.{orderedFrom}
 use Rattle.bank.proofs.Promised.{bank-checked}
 use Rattle.bank.proofs.BankChecking.{header-checked, rules-checked}
 use Rattle.bank.proofs.check.check.Statement.{statement}

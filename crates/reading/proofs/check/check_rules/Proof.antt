@@ -13,25 +13,27 @@ use borrow.Author.Needs.{needs}
 use borrow.Author.Tests.{leb-true}
 use Rattle.places.specs.Numbering.{blockStart}
 use Rattle.tables.proofs.Sizes.{size-known, long-serves}
+use Rattle.lines.specs.Spelling.{writtenRule}
 use Rattle.lines.specs.Lines.{ruleJudged}
 use Rattle.lines.proofs.Found.{LineRefused, RuleFound, rule-found, rule-refused, refused-by}
-use Rattle.reading.specs.Reading.{rulesFrom}
-use Rattle.reading.specs.Inner.{checkedRules}
-use Rattle.reading.proofs.RuleLines.{checked-ends, checked-goes, checked-over, checked-done}
+use Rattle.reading.specs.Reading.{checkedRules}
+use Rattle.reading.specs.Ordered.{linesBy}
+use Rattle.reading.specs.Inner.{leastOf, placeAfter}
+use Rattle.reading.proofs.OrderedLines.{by-ends, by-stops, by-goes, by-over, by-done, refused-passes}
 use Rattle.reading.proofs.Filling.{never-stuck}
 use Rattle.reading.proofs.FillingOnce.{Begun, begun-emptied, begun-same, FillingOnce, once-begins, once-puts, once-passes, once-filled}
 use Rattle.reading.proofs.check.check_rules.Statement.{statement}
 use Rattle.reading.proofs.check.check_rules.Tie as tie
 
 abbrev Inv-loop : tie.InvT-loop
-Inv-loop s n hidden limit count body table₀ fills at₀ i₀ table at i =
+Inv-loop s ordered n hidden limit count body table₀ fills at₀ last₀ i₀ table at last i =
     (i ≤ count)
-    × (checkedRules n hidden count body (rulesFrom n limit (count - i) (i + 4) (drop at s))
-    ≡ checkedRules n hidden count body (rulesFrom n limit count 4 (drop body s)))
+    × (checkedRules n hidden count body (linesBy ordered n limit (leastOf i last) (count - i) (i + 4) (drop at s))
+    ≡ checkedRules n hidden count body (linesBy ordered n limit 0 count 4 (drop body s)))
     × FillingOnce limit s n count body fills table₀ table at i
 
 abbrev μ-loop : tie.MeasureT-loop
-μ-loop s n hidden limit count body table₀ fills at₀ i₀ table at i = count - i
+μ-loop s ordered n hidden limit count body table₀ fills at₀ last₀ i₀ table at last i = count - i
 
 -- the test is whether the table is long enough
 test : (c : tie.After-size Inv-loop μ-loop) → let a = c .before .before .args in
@@ -92,13 +94,51 @@ same-length c = kept (c .before .before .before .before)
 returns : tie.Need-returns Inv-loop μ-loop
 returns c = let k = c .before in let g = k .before in let l = g .before .before in let a = l .before .before .before .before .args in
     let f = refused k in
-    once-filled (a .limit) (now (a .s)) (a .n) (a .count) (a .body) _ _ (l .loop .table) (l .loop .at) (l .loop .i) (l .loop .inv .2) (a .hidden)
+    once-filled (a .limit) (now (a .s)) (a .n) (a .count) (a .body) _ _ (l .loop .table) (l .loop .at) (l .loop .i) (l .loop .inv .2) (a .ordered) (a .hidden)
     (now (a .table)) _ (test (l .before .before)) (begun (l .before))
-    (sym (checked-ends (a .n) (a .hidden) (a .limit) (a .count) (a .body) (l .loop .i) (drop (l .loop .at) (now (a .s))) _ (g .before .loop-test .taken)
+    (sym (by-ends (a .ordered) (a .n) (a .hidden) (a .limit) (a .count) (a .body) (l .loop .i) (l .loop .last) (drop (l .loop .at) (now (a .s))) _ (g .before .loop-test .taken)
     (refused-by _ f (c .refusal .ensures)))
     ∙ l .loop .inv .1)
-    (λ w. absurd (never-stuck (a .limit) (now (a .s)) (a .n) (a .count) (a .body) _ (l .loop .table) (l .loop .at) (l .loop .i) w (f .refusal)
+    (λ rs q w. absurd (never-stuck (a .limit) (now (a .s)) (a .n) (a .count) (a .body) _ (l .loop .table) (l .loop .at) (l .loop .i) w (f .refusal)
     (g .before .loop-test .taken) (f .is)))
+
+-- the line is found
+found : (c : tie.After-known-told Inv-loop μ-loop) → let k = c .before in let l = k .before .before .before .before in
+    let a = l .before .before .before .before .args in
+    RuleFound (now (a .s)) (a .n) (a .limit) (l .loop .i + 4) (l .loop .at) (k .got .given .0 .0) (k .got .given .0 .1 .0)
+found c = let k = c .before in let g = k .before .before in let l = g .before .before in let a = l .before .before .before .before .args in
+    rule-found (now (a .s)) (a .n) (a .limit) (l .loop .i + 4) (l .loop .at) (k .got .given .0 .0) (k .got .given .0 .1 .0)
+    (sym (g .rule-line .ensures .reply) ∙ k .got .given .1)
+
+place-after-requires : tie.Need-place-after-requires Inv-loop μ-loop
+place-after-requires c κs = search needs
+
+enum-known-place : tie.Need-enum-known-place Inv-loop μ-loop
+enum-known-place c = search needs
+
+enum-told : tie.Need-enum-told Inv-loop μ-loop
+enum-told c = search needs
+
+-- the place that is told of the rule as it is written
+told : (c : tie.After-place-after Inv-loop μ-loop) → let d = c .before in let l = d .before .before .before .before .before in
+    let a = l .before .before .before .before .args in c .place-after .result ≡ placeAfter (a .ordered) (l .loop .i) (l .loop .last) (writtenRule (found d .written))
+told c = let d = c .before in let l = d .before .before .before .before .before in let a = l .before .before .before .before .args in
+    c .place-after .ensures ∙ ap (placeAfter (a .ordered) (l .loop .i) (l .loop .last)) (found d .told)
+
+add-t27 : tie.Need-add-t27 Inv-loop μ-loop
+add-t27 c = omega arith
+
+same-length-2 : tie.Need-same-length-2 Inv-loop μ-loop
+same-length-2 c = kept (c .before .before .before .before .before .before .before .before)
+
+returns-2 : tie.Need-returns-2 Inv-loop μ-loop
+returns-2 c = let p = c .before .before in let d = p .before in let g = d .before .before .before in let l = g .before .before in
+    let a = l .before .before .before .before .args in let f = found d in
+    let x = by-stops (a .ordered) (a .n) (a .hidden) (a .limit) (a .count) (a .body) (l .loop .i) (l .loop .last) (drop (l .loop .at) (now (a .s))) (f .written) _
+    (g .before .loop-test .taken) (f .is) (sym (told p) ∙ c .enum-told .given .1) in
+    once-filled (a .limit) (now (a .s)) (a .n) (a .count) (a .body) _ _ (l .loop .table) (l .loop .at) (l .loop .i) (l .loop .inv .2) (a .ordered) (a .hidden)
+    (now (a .table)) _ (test (l .before .before)) (begun (l .before)) (sym x ∙ l .loop .inv .1)
+    (λ rs q w. refused-passes (a .n) (a .hidden) (a .count) (a .body) _ _ (sym x ∙ l .loop .inv .1) rs q)
 
 put-requires : tie.Need-put-requires Inv-loop μ-loop
 put-requires c κs = search needs
@@ -109,20 +149,12 @@ add-i c = omega arith
 loop-less : tie.Need-loop-less Inv-loop μ-loop
 loop-less c = omega arith
 
--- the line is found
-found : (c : tie.After-known-told Inv-loop μ-loop) → let k = c .before in let l = k .before .before .before .before in
-    let a = l .before .before .before .before .args in
-    RuleFound (now (a .s)) (a .n) (a .limit) (l .loop .i + 4) (l .loop .at) (k .got .given .0 .0) (k .got .given .0 .1 .0)
-found c = let k = c .before in let g = k .before .before in let l = g .before .before in let a = l .before .before .before .before .args in
-    rule-found (now (a .s)) (a .n) (a .limit) (l .loop .i + 4) (l .loop .at) (k .got .given .0 .0) (k .got .given .0 .1 .0)
-    (sym (g .rule-line .ensures .reply) ∙ k .got .given .1)
-
 loop-again : tie.Need-loop-again Inv-loop μ-loop
-loop-again c = let k = c .before .before in let g = k .before .before in let l = g .before .before in let z = l .before .before in
-    let s = z .before .before in let a = s .args in let f = found (c .before) in (
+loop-again c = let q = c .before .before in let p = q .before .before in let d = p .before in let k = d .before in let g = k .before .before in
+    let l = g .before .before in let z = l .before .before in let s = z .before .before in let a = s .args in let f = found d in (
       omega arith,
-      sym (checked-goes (a .n) (a .hidden) (a .limit) (a .count) (a .body) (l .loop .i) (drop (l .loop .at) (now (a .s))) (f .written)
-          (drop (k .got .given .0 .1 .0) (now (a .s))) (g .before .loop-test .taken) (f .is))
+      sym (by-goes (a .ordered) (a .n) (a .hidden) (a .limit) (a .count) (a .body) (l .loop .i) (l .loop .last) (drop (l .loop .at) (now (a .s))) (f .written)
+          (drop (k .got .given .0 .1 .0) (now (a .s))) (q .place .given .0 .0) (g .before .loop-test .taken) (f .is) (sym (told p) ∙ q .place .given .1))
           ∙ l .loop .inv .1,
       ⊎-elim
           (λ x. let room : blockStart (a .n) ≤ length (l .loop .table) = omega (arith, kept l, long z (x .0 .taken)) in
@@ -134,32 +166,32 @@ loop-again c = let k = c .before .before in let g = k .before .before in let l =
           (c .if2 .came),
     )
 
-add-t26 : tie.Need-add-t26 Inv-loop μ-loop
-add-t26 c = omega arith
-
-same-length-2 : tie.Need-same-length-2 Inv-loop μ-loop
-same-length-2 c = kept (c .before .before)
-
-returns-2 : tie.Need-returns-2 Inv-loop μ-loop
-returns-2 c = let l = c .before .before in let a = l .before .before .before .before .args in
-    once-filled (a .limit) (now (a .s)) (a .n) (a .count) (a .body) _ _ (l .loop .table) (l .loop .at) (l .loop .i) (l .loop .inv .2) (a .hidden)
-    (now (a .table)) _ (test (l .before .before)) (begun (l .before))
-    (sym (checked-over (a .n) (a .hidden) (a .limit) (a .count) (a .body) (l .loop .i) (now (a .s)) (l .loop .at) (l .loop .inv .0)
-    (c .before .loop-test .left) (c .if3 .taken))
-    ∙ l .loop .inv .1)
-    (λ _. c .before .loop-test .left)
+add-t32 : tie.Need-add-t32 Inv-loop μ-loop
+add-t32 c = omega arith
 
 same-length-3 : tie.Need-same-length-3 Inv-loop μ-loop
 same-length-3 c = kept (c .before .before)
 
 returns-3 : tie.Need-returns-3 Inv-loop μ-loop
 returns-3 c = let l = c .before .before in let a = l .before .before .before .before .args in
-    once-filled (a .limit) (now (a .s)) (a .n) (a .count) (a .body) _ _ (l .loop .table) (l .loop .at) (l .loop .i) (l .loop .inv .2) (a .hidden)
+    once-filled (a .limit) (now (a .s)) (a .n) (a .count) (a .body) _ _ (l .loop .table) (l .loop .at) (l .loop .i) (l .loop .inv .2) (a .ordered) (a .hidden)
     (now (a .table)) _ (test (l .before .before)) (begun (l .before))
-    (sym (checked-done (a .n) (a .hidden) (a .limit) (a .count) (a .body) (l .loop .i) (now (a .s)) (l .loop .at) (c .before .loop-test .left)
+    (sym (by-over (a .ordered) (a .n) (a .hidden) (a .limit) (a .count) (a .body) (l .loop .i) _ (now (a .s)) (l .loop .at) (l .loop .inv .0)
+    (c .before .loop-test .left) (c .if3 .taken))
+    ∙ l .loop .inv .1)
+    (λ rs q w. c .before .loop-test .left)
+
+same-length-4 : tie.Need-same-length-4 Inv-loop μ-loop
+same-length-4 c = kept (c .before .before)
+
+returns-4 : tie.Need-returns-4 Inv-loop μ-loop
+returns-4 c = let l = c .before .before in let a = l .before .before .before .before .args in
+    once-filled (a .limit) (now (a .s)) (a .n) (a .count) (a .body) _ _ (l .loop .table) (l .loop .at) (l .loop .i) (l .loop .inv .2) (a .ordered) (a .hidden)
+    (now (a .table)) _ (test (l .before .before)) (begun (l .before))
+    (sym (by-done (a .ordered) (a .n) (a .hidden) (a .limit) (a .count) (a .body) (l .loop .i) _ (now (a .s)) (l .loop .at) (c .before .loop-test .left)
     (c .if3 .left))
     ∙ l .loop .inv .1)
-    (λ _. c .before .loop-test .left)
+    (λ rs q w. c .before .loop-test .left)
 
 pub check-rules-spec : {M : Type 1} → statement M
 check-rules-spec =
@@ -176,12 +208,18 @@ check-rules-spec =
     refusal-requires
     same-length
     returns
+    place-after-requires
+    enum-known-place
+    enum-told
+    add-t27
+    same-length-2
+    returns-2
     put-requires
     add-i
     loop-less
     loop-again
-    add-t26
-    same-length-2
-    returns-2
+    add-t32
     same-length-3
-    returns-3)
+    returns-3
+    same-length-4
+    returns-4)

@@ -1,10 +1,11 @@
 -- `fill::fill` meets its contract: the rule lines of a text that passed fill the table that it asks for. Assumes nothing.
 use mathlib.Core.Path.{_≡_}
+use mathlib.Core.Bool.{false}
 use native.Mathlib.Omega.{arith}
 use denote.Ref.{now}
 use borrow.Author.Needs.{needs}
 use Rattle.rules.specs.Limits.{boundLimit}
-use Rattle.reading.specs.Inner.{RulesFilled}
+use Rattle.reading.specs.Promises.{RulesFilled}
 use Rattle.reading.proofs.Limits.{unsigned, cap-casts, cap-value}
 use Rattle.reading.proofs.Headers.{Opened, passed-opened}
 use Rattle.reading.proofs.FillingOnce.{rules-fill}
@@ -41,7 +42,7 @@ returns c =
     let b = y .before .before in
     let s = b .before .before in
     let a = s .args in
-    let f : RulesFilled (a .n) (a .hidden) (boundLimit (a .paper) (a .n) (a .hidden)) (a .count) (a .body) (now (a .s)) _ _ _ =
+    let f : RulesFilled false (a .n) (a .hidden) (boundLimit (a .paper) (a .n) (a .hidden)) (a .count) (a .body) (now (a .s)) _ _ _ =
     rw (limit-is b) at (y .check-rules .ensures) in
     rules-fill (a .paper) (now (a .s)) (a .n) (a .hidden) (a .count) (a .body) _ _ _ (s .pre .0) (s .pre .1) f
 

@@ -6,10 +6,10 @@ use borrow.Author.Needs.{needs}
 use borrow.Author.Tests.{lt-ltb, le-ltb}
 use Rattle.places.specs.declared.Place.the-variants.{At}
 use Rattle.rules.specs.Literal.{quantityOf}
-use Rattle.bank.specs.Banking.{canonicalPlace}
-use Rattle.bank.proofs.CanonicalRules.{lower-found}
-use Rattle.bank.proofs.order.canonical_place.Statement.{statement}
-use Rattle.bank.proofs.order.canonical_place.Tie as tie
+use Rattle.reading.specs.Ordered.{canonicalPlace}
+use Rattle.reading.proofs.OrderedLines.{lower-found}
+use Rattle.reading.proofs.order.canonical_place.Statement.{statement}
+use Rattle.reading.proofs.order.canonical_place.Tie as tie
 
 enum-known-rule : tie.Need-enum-known-rule
 enum-known-rule c = search needs

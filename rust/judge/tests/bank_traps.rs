@@ -156,22 +156,26 @@ fn found(library: &Wrong) -> Result<(), String> {
 /// What is found, and by what, depends on the call before, which may be the other thread's.
 #[test]
 fn a_place_that_is_kept_is_seen() {
-    let failure =
-        run::random(&Wrong::new(Trap::PlaceKept), 1, SHEETS).err().unwrap_or_else(|| panic!("it goes unseen"));
-    assert!(failure.contains("reply 9 with value 4"), "{failure}");
+    let failure = failure(Trap::PlaceKept);
+    assert!(failure.contains("9 with value 4"), "{failure}");
 }
 
 /// Which of the calls meet is not known.
 #[test]
 fn a_refused_second_caller_is_seen() {
-    let said = seen(Trap::RefusesSecondCaller);
-    assert!(said.starts_with("reply 1 with value 0, due "), "{said}");
+    let failure = failure(Trap::RefusesSecondCaller);
+    assert!(failure.contains("1 with value 0"), "{failure}");
+}
+
+/// The first failure.
+fn failure(trap: Trap) -> String {
+    run::random(&Wrong::new(trap), 1, SHEETS).err().unwrap_or_else(|| panic!("{trap:?} goes unseen"))
 }
 
 /// What the judge says of the first failure, behind the sheet's number and the words lent. Of a header it is left out what
 /// it holds, which may be anything.
 fn seen(trap: Trap) -> String {
-    let failure = run::random(&Wrong::new(trap), 1, SHEETS).err().unwrap_or_else(|| panic!("{trap:?} goes unseen"));
+    let failure = failure(trap);
     let line = failure.lines().next().unwrap_or_default();
     let (_, said) = line.split_once(" words: ").unwrap_or_else(|| panic!("{failure}"));
     said.split(" {").next().unwrap_or_default().to_string()

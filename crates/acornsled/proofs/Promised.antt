@@ -157,8 +157,9 @@ pub bank-answer : (s : List ℕ) (t t' : List ℤ) (n set n' set' : ℕ) (reply 
     → BankAnswer s t n set r v n' set' t'
 bank-answer s t t' n set n' set' reply r v k e =
     let p = rw (k .reply) at k in
-    read-answer-by (bankReply s (length t)) (BankRefusedFor s (length t)) (BankAcceptedAs s (length t)) (BankRead s t (bankReply s (length t)) t') n set r v n' set'
-    (p .refused) (p .accepted) (rw (k .reply) at e) p
+    let a = read-answer-by (bankReply s (length t)) (BankRefusedFor s (length t)) (BankAcceptedAs s (length t)) (BankRead s t (bankReply s (length t)) t')
+    n set r v n' set' (p .refused) (p .accepted) (rw (k .reply) at e) p in
+    record { answer = a; canonical = λ z. p .canonical n' set' (p .accepted n' set' .1 (a .accepted .0 z)) }
 
 -- ---- writing
 

@@ -40,11 +40,11 @@ use Rattle.reading.specs.Reading.{readReply, readingNumber, readingValue}
 use Rattle.reading.specs.Promises.{ReadInto}
 use Rattle.reading.specs.Texts.{Contents}
 use Rattle.reading.specs.Meaning.{Reads, Readable, RefusedFor, AcceptedAs}
-use Rattle.writing.specs.Writing.{writeReply, writingNumber, writingValue}
+use Rattle.writing.specs.Writing.{writtenText, writeReply, writingNumber, writingValue}
 use Rattle.writing.specs.Promises.{writeNeeds, TextWritten}
 use Rattle.bank.specs.Banking.{bankReply}
 use Rattle.bank.specs.Meaning.{BankRefusedFor, BankAcceptedAs}
-use Rattle.bank.specs.Promises.{BankBack, BankRead}
+use Rattle.bank.specs.Promises.{SheetTable, BankBack, BankRead}
 use Rattle.scripts.specs.declared.reply.Subject.{Subject}
 use Rattle.scripts.specs.declared.room.Lengths.{Lengths}
 use Rattle.scripts.specs.declared.reply.TextMarking.{TextMarking}
@@ -89,11 +89,11 @@ ReadAnswer text table n set r v n' set' table' =
     ReadAnswerBy (readReply text (length table)) (RefusedFor text (length table)) (AcceptedAs text (length table))
     (ReadInto text table (readReply text (length table)) table') n set r v n' set'
 
--- of bank reading
-abbrev pub BankAnswer : List ℕ → List ℤ → ℕ → ℕ → ℕ → ℕ → ℕ → ℕ → List ℤ → Type 0
-BankAnswer text table n set r v n' set' table' =
-    ReadAnswerBy (bankReply text (length table)) (BankRefusedFor text (length table)) (BankAcceptedAs text (length table))
-    (BankRead text table (bankReply text (length table)) table') n set r v n' set'
+-- of bank reading; with 0 the text is, byte for byte, the writer's text of what the host has then
+pub record BankAnswer (text : List ℕ) (table : List ℤ) (n set r v n' set' : ℕ) (table' : List ℤ) : Type 0 where
+  pub answer : ReadAnswerBy (bankReply text (length table)) (BankRefusedFor text (length table)) (BankAcceptedAs text (length table))
+      (BankRead text table (bankReply text (length table)) table') n set r v n' set'
+  pub canonical : r ≡ 0 → SheetTable n' set' table' × (text ≡ writtenText n' set' table')
 
 -- writing's
 pub record WriteAnswer (n set : ℕ) (table : List ℤ) (out : List ℕ) (r v : ℕ) (out' : List ℕ) : Type 0 where

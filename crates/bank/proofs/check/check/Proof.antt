@@ -1,17 +1,16 @@
 -- `check::check` meets its contract: a header that is refused ends it with its refusal, and after another the lines of the rules decide. Assumes nothing.
 use mathlib.Core.Path.{_≡_, _∙_}
+use mathlib.Core.Bool.{true}
 use mathlib.Core.List.{List}
 use Prim.Native.Nat.{ℕ, _<_}
-use lib.ListN.{drop}
 use denote.Ref.{now}
 use borrow.Author.Needs.{needs}
 use Rattle.numerals.specs.Decimal.{cap}
 use Rattle.rules.specs.declared.paper.Paper.the-variants.{Sheet}
 use Rattle.rules.specs.Limits.{boundLimit}
-use Rattle.reading.specs.Reading.{checkedRules}
+use Rattle.reading.specs.Promises.{RulesFilled}
 use Rattle.reading.proofs.Limits.{limit-told, unsigned, cap-casts, cap-value}
 use Rattle.reading.proofs.CheckedHeaders.{HeaderFound, header-found}
-use Rattle.reading.specs.Ordered.{orderedFrom}
 use Rattle.bank.proofs.Promised.{bank-checked}
 use Rattle.bank.proofs.BankChecking.{header-checked, rules-checked}
 use Rattle.bank.proofs.check.check.Statement.{statement}
@@ -53,14 +52,16 @@ bound-limit-requires c κs = search needs
 cast-limit : tie.Need-cast-limit
 cast-limit c = cap-casts _ _ (c .bound-limit .ensures) (below (c .before))
 
+slice-aggregate-check-rules : tie.Need-slice-aggregate-check-rules
+slice-aggregate-check-rules c = search needs
+
 check-rules-requires : tie.Need-check-rules-requires
-check-rules-requires c κs = let h = found (c .before) in (h .low, h .high, rw (limit-is c) (below (c .before)), h .few)
+check-rules-requires c κs = let b = c .before in let h = found (b .before) in (h .low, h .high, rw (limit-is b) (below (b .before)), h .few)
 
 returns-2 : tie.Need-returns-2
-returns-2 c = let b = c .before in let k = b .before in let g = k .before .header .given .0 in
-    let e : c .check-rules .result ≡ checkedRules (g .0) (g .1 .0) (g .1 .1 .0) (g .1 .1 .1 .0) (orderedFrom (g .0) (limitOf k) 0 (g .1 .1 .0) 4
-    (drop (g .1 .1 .1 .0) (textOf k))) = rw (limit-is b) at (c .check-rules .ensures) in
-    bank-checked (textOf k) _ (e ∙ rules-checked (textOf k) (g .0) (g .1 .0) (g .1 .1 .0) (g .1 .1 .1 .0) (found k))
+returns-2 c = let x = c .before in let b = x .before .before in let k = b .before in let g = k .before .header .given .0 in
+    let p : RulesFilled true (g .0) (g .1 .0) (limitOf k) (g .1 .1 .0) (g .1 .1 .1 .0) (textOf k) _ _ _ = rw (limit-is b) at (x .check-rules .ensures) in
+    bank-checked (textOf k) _ (p .reply ∙ rules-checked (textOf k) (g .0) (g .1 .0) (g .1 .1 .0) (g .1 .1 .1 .0) (found k))
 
 pub check-spec : {M : Type 1} → statement M
 check-spec =
@@ -72,5 +73,6 @@ check-spec =
     returns
     bound-limit-requires
     cast-limit
+    slice-aggregate-check-rules
     check-rules-requires
     returns-2)

@@ -14,6 +14,7 @@ use Rattle.places.specs.declared.Place.the-variants.{At, Nowhere}
 use Rattle.places.specs.Numbering.{placeOfPair, placeOfTwo, findTwo}
 use Rattle.rules.specs.declared.refusal.Refusal.{Refusal}
 use Rattle.rules.specs.declared.refusal.Refusal.the-variants.{Malformed, NotCanonical}
+use Rattle.tables.proofs.Tests.{clash}
 use Rattle.lines.specs.Spelling.{Written, writtenRule}
 use Rattle.lines.specs.Lines.{Judged, accepted, refused, ruleJudged}
 use Rattle.reading.specs.declared.check.Checked.the-variants.{Passed}
@@ -122,20 +123,20 @@ by-ends false n set limit m body i last u f h e = checked-ends n set limit m bod
 
 -- so does a rule that is out of order
 pub by-stops : (ordered : Bool) (n set limit m body i last : ℕ) (u : List ℕ) (w : Written) (v : List ℕ) → i < m → ruleJudged n limit (i + 4) u ≡ accepted w v
-    → placeAfter ordered i last (writtenRule w) ≡ Nowhere
+    → ordered ≡ true → placeAfter i last (writtenRule w) ≡ Nowhere
     → checkedRules n set m body (linesBy ordered n limit (leastOf i last) (m - i) (i + 4) u) ≡ Failed (NotCanonical (i + 4))
 unfolding checkedRules
-by-stops true n set limit m body i last u w v h e p =
+by-stops true n set limit m body i last u w v h e o p =
     rw (left-here m i h, ordered-stops n limit (leastOf i last) (m - (i + 1)) (i + 4) u w v e (out-of-order (leastOf i last) (i + 4) (canonicalPlace (writtenRule w)) p))
-by-stops false n set limit m body i last u w v h e p = let z : _≡_ {A = ℕ} 0 1 = cc in let y : ⊥ = omega arith in absurd y
+by-stops false n set limit m body i last u w v h e o p = clash {b = false} o refl
 
 -- after one that is not, the others decide
 pub by-goes : (ordered : Bool) (n set limit m body i last : ℕ) (u : List ℕ) (w : Written) (v : List ℕ) (k : ℕ) → i < m
-    → ruleJudged n limit (i + 4) u ≡ accepted w v → placeAfter ordered i last (writtenRule w) ≡ At k
+    → ruleJudged n limit (i + 4) u ≡ accepted w v → (ordered ≡ true → placeAfter i last (writtenRule w) ≡ At k)
     → checkedRules n set m body (linesBy ordered n limit (leastOf i last) (m - i) (i + 4) u)
     ≡ checkedRules n set m body (linesBy ordered n limit (leastOf (i + 1) k) (m - (i + 1)) (i + 1 + 4) v)
 by-goes true n set limit m body i last u w v k h e p =
-    let a = at-least (leastOf i last) (canonicalPlace (writtenRule w)) k p in
+    let a = at-least (leastOf i last) (canonicalPlace (writtenRule w)) k (p refl) in
     rw (left-here m i h, next-line i, least-one i k, ordered-goes n limit (leastOf i last) (m - (i + 1)) (i + 4) u w v k e (a .0) (a .1))
     (checked-more n set m body w (orderedFrom n limit (suc k) (m - (i + 1)) (suc (i + 4)) v))
 by-goes false n set limit m body i last u w v k h e p = checked-goes n set limit m body i u w v h e

@@ -1,5 +1,5 @@
 -- What private functions answer; nothing here is promised to a caller.
-use mathlib.Core.Bool.{Bool, true, false, cond}
+use mathlib.Core.Bool.{cond}
 use Prim.Native.Nat.{ℕ, zero, suc}
 use lib.Dec.{leb}
 use Rattle.places.specs.declared.Place.{Place}
@@ -17,7 +17,6 @@ unfoldable pub notBefore : ℕ → Place → Place
 notBefore least (At k) = cond (leb least k) (At k) Nowhere
 notBefore least Nowhere = Nowhere
 
--- the place of the next rule, or none where it is out of order; where rules may be in any order, the place of the last one stays
-abbrev pub placeAfter : Bool → ℕ → ℕ → Rule → Place
-placeAfter true i last r = notBefore (leastOf i last) (canonicalPlace r)
-placeAfter false i last r = At last
+-- the place of the next rule, or none where it is out of order
+abbrev pub placeAfter : ℕ → ℕ → Rule → Place
+placeAfter i last r = notBefore (leastOf i last) (canonicalPlace r)

@@ -63,16 +63,18 @@ pub fn check_rules(
                 refusal: answer::refusal(got),
             };
         };
-        let place = order::place_after(ordered, i, last, rule);
-        let Place::At(k) = place else {
-            return Checked::Refused {
-                refusal: Refusal::NotCanonical { line: i + 4 },
+        if ordered {
+            let place = order::place_after(i, last, rule);
+            let Place::At(k) = place else {
+                return Checked::Refused {
+                    refusal: Refusal::NotCanonical { line: i + 4 },
+                };
             };
-        };
+            last = k;
+        }
         if fills {
             table::put(n, table, rule);
         }
-        last = k;
         at = next;
         i = i + 1;
     }

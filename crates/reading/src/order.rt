@@ -25,13 +25,10 @@ fn canonical_place(rule: Rule) -> Place
     }
 }
 
-// The place of the next rule after `i` others, of which the last stands at `last`; none where it is not after that one, or the rule has no place here. Where the rules may be in any order, `last`.
-pub(crate) fn place_after(ordered: bool, i: usize, last: usize, rule: Rule) -> Place
-    ensures { λ r. ⌜ r ≡ placeAfter ordered i last rule ⌝ }
+// The place of the next rule after `i` others, of which the last stands at `last`; none where it is not after that one, or the rule has no place here.
+pub(crate) fn place_after(i: usize, last: usize, rule: Rule) -> Place
+    ensures { λ r. ⌜ r ≡ placeAfter i last rule ⌝ }
 {
-    if !ordered {
-        return Place::At(last);
-    }
     let place = canonical_place(rule);
     let Place::At(k) = place else {
         return Place::Nowhere;

@@ -12,7 +12,9 @@ use denote.Ref.{now}
 use borrow.Author.Needs.{needs}
 use borrow.Author.Tests.{leb-true}
 use Rattle.places.specs.Numbering.{blockStart}
+use Rattle.places.specs.declared.Place.the-variants.{At}
 use Rattle.tables.proofs.Sizes.{size-known, long-serves}
+use Rattle.tables.proofs.Tests.{clash}
 use Rattle.lines.specs.Spelling.{writtenRule}
 use Rattle.lines.specs.Lines.{ruleJudged}
 use Rattle.lines.proofs.Found.{LineRefused, RuleFound, rule-found, rule-refused, refused-by}
@@ -119,26 +121,36 @@ enum-known-place c = search needs
 enum-told : tie.Need-enum-told Inv-loop μ-loop
 enum-told c = search needs
 
--- the place that is told of the rule as it is written
-told : (c : tie.After-place-after Inv-loop μ-loop) → let d = c .before in let l = d .before .before .before .before .before in
-    let a = l .before .before .before .before .args in c .place-after .result ≡ placeAfter (a .ordered) (l .loop .i) (l .loop .last) (writtenRule (found d .written))
-told c = let d = c .before in let l = d .before .before .before .before .before in let a = l .before .before .before .before .args in
-    c .place-after .ensures ∙ ap (placeAfter (a .ordered) (l .loop .i) (l .loop .last)) (found d .told)
+-- the place that is told, of the rule as it is written
+told : (c : tie.After-place-after Inv-loop μ-loop) → let d = c .before .before in let l = d .before .before .before .before .before in
+    c .place-after .result ≡ placeAfter (l .loop .i) (l .loop .last) (writtenRule (found d .written))
+told c = let d = c .before .before in let l = d .before .before .before .before .before in
+    c .place-after .ensures ∙ ap (placeAfter (l .loop .i) (l .loop .last)) (found d .told)
 
 add-t27 : tie.Need-add-t27 Inv-loop μ-loop
 add-t27 c = omega arith
 
 same-length-2 : tie.Need-same-length-2 Inv-loop μ-loop
-same-length-2 c = kept (c .before .before .before .before .before .before .before .before)
+same-length-2 c = kept (c .before .before .before .before .before .before .before .before .before)
 
 returns-2 : tie.Need-returns-2 Inv-loop μ-loop
-returns-2 c = let p = c .before .before in let d = p .before in let g = d .before .before .before in let l = g .before .before in
+returns-2 c = let p = c .before .before in let t = p .before in let d = t .before in let g = d .before .before .before in let l = g .before .before in
     let a = l .before .before .before .before .args in let f = found d in
     let x = by-stops (a .ordered) (a .n) (a .hidden) (a .limit) (a .count) (a .body) (l .loop .i) (l .loop .last) (drop (l .loop .at) (now (a .s))) (f .written) _
-    (g .before .loop-test .taken) (f .is) (sym (told p) ∙ c .enum-told .given .1) in
+    (g .before .loop-test .taken) (f .is) (t .if2 .taken) (sym (told p) ∙ c .enum-told .given .1) in
     once-filled (a .limit) (now (a .s)) (a .n) (a .count) (a .body) _ _ (l .loop .table) (l .loop .at) (l .loop .i) (l .loop .inv .2) (a .ordered) (a .hidden)
     (now (a .table)) _ (test (l .before .before)) (begun (l .before)) (sym x ∙ l .loop .inv .1)
     (λ rs q w. refused-passes (a .n) (a .hidden) (a .count) (a .body) _ _ (sym x ∙ l .loop .inv .1) rs q)
+
+-- where the rules are to be in order, the last place is then that of the rule
+placed : (c : tie.Joined2 Inv-loop μ-loop) → let d = c .before in let l = d .before .before .before .before .before in
+    let a = l .before .before .before .before .args in
+    a .ordered ≡ true → placeAfter (l .loop .i) (l .loop .last) (writtenRule (found d .written)) ≡ At (c .if2 .last)
+placed c o =
+    ⊎-elim
+    (λ x. sym (told (record { before = record { before = c .before; if2 = x .0 }; place-after = x .1 })) ∙ x .3 .given .1 ∙ ap At (sym (x .5)))
+    (λ x. clash o (x .0 .left))
+    (c .if2 .came)
 
 put-requires : tie.Need-put-requires Inv-loop μ-loop
 put-requires c κs = search needs
@@ -150,11 +162,11 @@ loop-less : tie.Need-loop-less Inv-loop μ-loop
 loop-less c = omega arith
 
 loop-again : tie.Need-loop-again Inv-loop μ-loop
-loop-again c = let q = c .before .before in let p = q .before .before in let d = p .before in let k = d .before in let g = k .before .before in
+loop-again c = let q = c .before in let d = q .before in let k = d .before in let g = k .before .before in
     let l = g .before .before in let z = l .before .before in let s = z .before .before in let a = s .args in let f = found d in (
       omega arith,
       sym (by-goes (a .ordered) (a .n) (a .hidden) (a .limit) (a .count) (a .body) (l .loop .i) (l .loop .last) (drop (l .loop .at) (now (a .s))) (f .written)
-          (drop (k .got .given .0 .1 .0) (now (a .s))) (q .place .given .0 .0) (g .before .loop-test .taken) (f .is) (sym (told p) ∙ q .place .given .1))
+          (drop (k .got .given .0 .1 .0) (now (a .s))) (q .if2 .last) (g .before .loop-test .taken) (f .is) (placed q))
           ∙ l .loop .inv .1,
       ⊎-elim
           (λ x. let room : blockStart (a .n) ≤ length (l .loop .table) = omega (arith, kept l, long z (x .0 .taken)) in
@@ -163,7 +175,7 @@ loop-again c = let q = c .before .before in let p = q .before .before in let d =
           (x .2 .kept .1 .0)))
           (λ x. rw (x .1) (once-passes (a .limit) (now (a .s)) (a .n) (a .count) (a .body) _ _ (l .loop .table) (l .loop .at) (l .loop .i)
           (l .loop .inv .2) (x .0 .left) _))
-          (c .if2 .came),
+          (c .if3 .came),
     )
 
 add-t32 : tie.Need-add-t32 Inv-loop μ-loop
@@ -177,7 +189,7 @@ returns-3 c = let l = c .before .before in let a = l .before .before .before .be
     once-filled (a .limit) (now (a .s)) (a .n) (a .count) (a .body) _ _ (l .loop .table) (l .loop .at) (l .loop .i) (l .loop .inv .2) (a .ordered) (a .hidden)
     (now (a .table)) _ (test (l .before .before)) (begun (l .before))
     (sym (by-over (a .ordered) (a .n) (a .hidden) (a .limit) (a .count) (a .body) (l .loop .i) _ (now (a .s)) (l .loop .at) (l .loop .inv .0)
-    (c .before .loop-test .left) (c .if3 .taken))
+    (c .before .loop-test .left) (c .if4 .taken))
     ∙ l .loop .inv .1)
     (λ rs q w. c .before .loop-test .left)
 
@@ -189,7 +201,7 @@ returns-4 c = let l = c .before .before in let a = l .before .before .before .be
     once-filled (a .limit) (now (a .s)) (a .n) (a .count) (a .body) _ _ (l .loop .table) (l .loop .at) (l .loop .i) (l .loop .inv .2) (a .ordered) (a .hidden)
     (now (a .table)) _ (test (l .before .before)) (begun (l .before))
     (sym (by-done (a .ordered) (a .n) (a .hidden) (a .limit) (a .count) (a .body) (l .loop .i) _ (now (a .s)) (l .loop .at) (c .before .loop-test .left)
-    (c .if3 .left))
+    (c .if4 .left))
     ∙ l .loop .inv .1)
     (λ rs q w. c .before .loop-test .left)
 

@@ -1,34 +1,20 @@
 -- Rule lines read in bank order, beside the same lines read in any order: both read alike up to the first rule that is out of order. Assumes nothing.
-use mathlib.Core.Path.{_≡_, refl, sym, _∙_, ap, subst}
+use mathlib.Core.Path.{_≡_, refl, sym, _∙_, ap}
 use mathlib.Core.Bool.{Bool, true, false, cond}
-use mathlib.Core.List.{List, [], _∷_, _++_, append-nil, append-assoc}
-use mathlib.Core.Logic.{_⊎_, inl, inr}
-use Prim.Native.Nat.{ℕ, zero, suc, _+_, _<_, _≤_}
+use mathlib.Core.List.{List, [], _∷_, _++_}
+use Prim.Native.Nat.{ℕ, zero, suc, _+_, _≤_}
 use native.Mathlib.Omega.{arith}
-use lib.Dec.{leb}
-use lib.ListN.{length}
-use borrow.Author.Tests.{le-leb, lt-leb, leb-true, leb-false}
-use Rattle.numerals.specs.Decimal.{cap}
 use Rattle.numerals.specs.Parsing.{Parsed, parsed, malformed}
-use Rattle.places.specs.declared.Place.{Place}
-use Rattle.places.specs.declared.Place.the-variants.{At, Nowhere}
 use Rattle.rules.specs.declared.refusal.Refusal.{Refusal}
-use Rattle.rules.specs.declared.refusal.Refusal.the-variants.{Malformed, OutOfLimit, Cancelling, NotCanonical}
+use Rattle.rules.specs.declared.refusal.Refusal.the-variants.{Malformed, OutOfLimit, Cancelling}
 use Rattle.rules.specs.Refusal.{refusalLine}
-use Rattle.tables.specs.Places.{findPlace}
-use Rattle.lines.specs.Spelling.{Written, rule, lineText, lineWithin, ruleWithin, cancelling, writtenRule}
+use Rattle.lines.specs.Spelling.{Written, rule, lineText, lineWithin, ruleWithin, cancelling}
 use Rattle.lines.specs.Lines.{Judged, accepted, refused, judged, ruleLine, ruleJudged}
 use Rattle.lines.proofs.Found.{by-accepted}
 use Rattle.lines.proofs.Spellings.{rule-sound}
-use Rattle.reading.specs.Texts.{ruleLines, linesText}
-use Rattle.reading.specs.Meaning.{Fine, AllFine}
+use Rattle.reading.specs.Meaning.{Fine}
 use Rattle.reading.specs.Reading.{onward, rulesFrom}
 use Rattle.reading.proofs.RuleLines.{not-accepted}
-use Rattle.reading.proofs.Headers.{rule-read}
-use Rattle.reading.specs.Ordered.{canonicalPlace, fromPlace, orderedFrom}
-use Rattle.bank.specs.Order.{LowerFirst, InBankOrder, OutOfOrder}
-use Rattle.bank.proofs.CanonicalRules.{canonical-rule}
-use Rattle.bank.proofs.Ordering.{leastAfter, least-last, ordered-more, nowhere-out, at-lower, early-out, out-refused}
 
 -- ---- a rule line
 

@@ -10,7 +10,7 @@ use lib.IntN.{ℤ, natAbs}
 use borrow.Author.Tests.{leb-true, lt-ltb, le-ltb, eqb-true, eqb-false, eq-eqb, ne-eqb}
 use Rattle.numerals.specs.Decimal.{cap}
 use Rattle.places.specs.declared.Place.the-variants.{At, Nowhere}
-use Rattle.places.specs.Numbering.{blockStart, placeOfOne, placeOfPair, placeOfTwo, findTwo}
+use Rattle.places.specs.Numbering.{blockStart, placeOfOne, placeOfPair}
 use Rattle.places.proofs.Numbering.{one-below, pair-below, one-isOne, one-higher, pair-isOne, pair-higher, pair-lower}
 use Rattle.rules.specs.declared.rule.Rule.the-variants.{One, Two}
 use Rattle.rules.specs.Literal.{quantityOf, literalOf, quantityWithin}

@@ -1,24 +1,22 @@
 -- The header of a text and the lines after it, by what is read and by what is spelled. Assumes nothing.
 use mathlib.Core.Path.{_≡_, refl, sym, _∙_, ap, ap₂}
-use mathlib.Core.Bool.{Bool, true, false, _&&_}
+use mathlib.Core.Bool.{true}
 use mathlib.Core.List.{List, [], _∷_, _++_, append-assoc}
-use Prim.Native.Nat.{ℕ, suc, _+_, _≤_}
+use Prim.Native.Nat.{ℕ, _+_, _≤_}
 use native.Mathlib.Omega.{arith}
 use lib.Dec.{leb, leb·zero}
 use lib.ListN.{length}
 use borrow.Author.Tests.{le-leb}
 use Rattle.numerals.specs.Parsing.{parsed}
-use Rattle.rules.specs.declared.paper.Paper.{Paper}
 use Rattle.rules.specs.declared.paper.Paper.the-variants.{Sheet}
-use Rattle.rules.specs.declared.refusal.Refusal.{Refusal}
 use Rattle.rules.specs.Limits.{maxQuantities, maxBound, maxRules}
 use Rattle.tables.proofs.Tests.{both-true}
-use Rattle.lines.specs.Spelling.{Written, Line, quantities, hidden, rules, rule, quantitiesKey, rulesKey, lineText, lineWithin, allWithin}
-use Rattle.lines.specs.Lines.{Judged, accepted, refused, judged, never, between, countLine, hiddenLine, ruleLine, countJudged, hiddenJudged}
+use Rattle.lines.specs.Spelling.{Written, quantities, hidden, rules, quantitiesKey, rulesKey, lineText, lineWithin, allWithin}
+use Rattle.lines.specs.Lines.{Judged, accepted, judged, never, between, countLine, hiddenLine, ruleLine, countJudged, hiddenJudged}
 use Rattle.lines.proofs.Found.{by-accepted, between-range}
 use Rattle.lines.proofs.Spellings.{quantities-sound, quantities-complete, rules-sound, rules-complete, hidden-sound, hidden-increases, hidden-complete, rule-complete}
 use Rattle.reading.specs.Texts.{ruleLines, linesText}
-use Rattle.reading.specs.Meaning.{Opening, ruled, linesOf, limitAt, Fine, AllFine, Reaches}
+use Rattle.reading.specs.Meaning.{ruled, AllFine, Reaches}
 use Rattle.reading.specs.Reading.{onward, afterHeader}
 use Rattle.writing.proofs.Past.{lines-count}
 

@@ -1,8 +1,8 @@
 -- Checking a text as a bank sheet is what the spellings say: it answers exactly what the text means. Assumes nothing.
 use mathlib.Core.Path.{_≡_, refl, sym, _∙_, ap, subst}
-use mathlib.Core.Bool.{Bool, true, false, cond}
-use mathlib.Core.List.{List, [], _∷_, _++_, append-nil}
-use mathlib.Core.Logic.{_↔_, _⊎_, inl, inr}
+use mathlib.Core.Bool.{Bool, true, false}
+use mathlib.Core.List.{List, [], _++_, append-nil}
+use mathlib.Core.Logic.{_↔_, inl, inr}
 use Prim.Native.Nat.{ℕ, suc, _+_, _-_, _<_, _≤_}
 use native.Mathlib.Omega.{arith}
 use lib.Dec.{ltb}
@@ -15,10 +15,10 @@ use Rattle.rules.specs.declared.refusal.Refusal.the-variants.{Size, NotCanonica
 use Rattle.rules.specs.Limits.{maxBound, maxQuantities, maxRules, maxText}
 use Rattle.rules.specs.Refusal.{refusalLine}
 use Rattle.lines.specs.Spelling.{Written, rule, quantitiesKey, rulesKey, lineText}
-use Rattle.lines.specs.Lines.{Judged, accepted, refused, countJudged, hiddenJudged, ruleJudged}
+use Rattle.lines.specs.Lines.{Judged, accepted, refused, countJudged, hiddenJudged}
 use Rattle.reading.specs.Texts.{Contents, ruleLines, linesText}
-use Rattle.reading.specs.Meaning.{Opening, start, counted, headed, ruled, linesOf, AllFine, Reaches, Reads, LineFails, malformed-at, outside-at, cancels-at, FailsFor}
-use Rattle.reading.specs.Reading.{onward, afterHeader, Header, rulesFrom, linesFrom, checkText}
+use Rattle.reading.specs.Meaning.{Opening, start, counted, headed, ruled, linesOf, Reaches, LineFails, malformed-at, outside-at, cancels-at, FailsFor}
+use Rattle.reading.specs.Reading.{onward, afterHeader, rulesFrom, linesFrom, checkText}
 use Rattle.reading.proofs.RuleLines.{not-accepted}
 use Rattle.reading.proofs.LineAnswers.{onward-onward}
 use Rattle.reading.proofs.Headers.{rule-read}
@@ -31,11 +31,11 @@ use Rattle.reading.specs.Ordered.{orderedFrom}
 use Rattle.reading.proofs.OrderedLines.{ordered-stops}
 use Rattle.bank.specs.Order.{InBankOrder}
 use Rattle.bank.specs.Banking.{bankLines, bankText}
-use Rattle.bank.specs.Meaning.{BankReads, rulesRead, openingOf, NotCanonicalAt, BankLineFails, line-fails, not-canonical-at, BankFails}
+use Rattle.bank.specs.Meaning.{BankReads, rulesRead, openingOf, NotCanonicalAt, line-fails, not-canonical-at, BankFails}
 use Rattle.bank.proofs.Headers.{HeaderAt, header-next, header-same, header-reaches, reaches-header, reaches-more, same-rules}
 use Rattle.bank.proofs.Ordering.{leastAfter, out-refused}
 use Rattle.bank.proofs.Agreeing.{any-line}
-use Rattle.bank.proofs.OrderTold.{AllRead, LineFailed, OrderFailed, Told, fine-front, lines-told, lines-passed, lines-stop}
+use Rattle.bank.proofs.OrderTold.{AllRead, LineFailed, OrderFailed, Told, lines-told, lines-passed, lines-stop}
 
 -- what checking a bank sheet has to answer: what it writes, with nothing after it, or the refusal
 abbrev pub BankMeans : List ℕ → Judged Contents → Type 0

@@ -9,7 +9,7 @@ use native.Mathlib.Nat.{zero-add}
 use native.Mathlib.Omega.{arith}
 use lib.Dec.{leb}
 use lib.ListN.{length}
-use borrow.Author.Tests.{lt-leb, leb-true, leb-false}
+use borrow.Author.Tests.{leb-true, leb-false}
 use Rattle.numerals.specs.Decimal.{cap}
 use Rattle.places.specs.declared.Place.{Place}
 use Rattle.places.specs.declared.Place.the-variants.{At, Nowhere}
@@ -24,7 +24,7 @@ use Rattle.reading.specs.Meaning.{Fine, AllFine}
 use Rattle.reading.specs.Reading.{onward, rulesFrom}
 use Rattle.reading.proofs.LineAnswers.{onward-onward, onward-same}
 use Rattle.reading.proofs.Headers.{rule-read}
-use Rattle.reading.specs.Ordered.{canonicalPlace, fromPlace, orderedFrom}
+use Rattle.reading.specs.Ordered.{canonicalPlace, orderedFrom}
 use Rattle.reading.proofs.OrderedLines.{ordered-ends, ordered-goes, ordered-stops}
 use Rattle.bank.specs.Order.{LowerFirst, InBankOrder, OutOfOrder}
 use Rattle.bank.proofs.CanonicalRules.{Canonical, canonical-rule}

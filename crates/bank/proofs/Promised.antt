@@ -1,25 +1,19 @@
 -- What the contracts promise, from the definitions: a text checked as a bank sheet, and read into a table; that the writer's texts are bank sheets, and bank sheets the
 -- writer's texts. Assumes nothing.
 use mathlib.Core.Path.{_≡_, refl, sym, _∙_, ap, subst, subst₂}
-use mathlib.Core.Bool.{Bool, true, false, cond}
-use mathlib.Core.List.{List, [], _++_}
+use mathlib.Core.Bool.{cond}
+use mathlib.Core.List.{List, []}
 use mathlib.Core.Logic.{_↔_, _⊎_, inl, inr}
-use Prim.Native.Nat.{ℕ, _<_, _≤_}
+use Prim.Native.Nat.{ℕ, _≤_}
 use native.Mathlib.Omega.{arith}
 use lib.IntN.{ℤ}
-use lib.ListN.{length, take, drop}
-use lib.Signed.{_≤ℤ_}
+use lib.ListN.{length, drop}
 use Rattle.integers.proofs.Parts.{linear, ltZ-false}
 use Rattle.words.specs.Change.{wordAt}
 use Rattle.places.specs.Numbering.{blockStart}
-use Rattle.numerals.specs.Decimal.{cap}
 use Rattle.rules.specs.declared.paper.Paper.the-variants.{Sheet}
 use Rattle.rules.specs.declared.refusal.Refusal.{Refusal}
-use Rattle.rules.specs.Hidden.{setOf}
 use Rattle.rules.specs.Limits.{maxBound, noRule}
-use Rattle.tables.specs.Tables.{hasRule, tableOf}
-use Rattle.tables.specs.Meaning.{NoneAbove}
-use Rattle.lines.specs.Spelling.{writtenRules}
 use Rattle.lines.specs.Lines.{Judged, accepted, refused}
 use Rattle.reading.specs.declared.check.Checked.{Checked}
 use Rattle.reading.specs.declared.check.Checked.the-variants.{Passed}
@@ -29,7 +23,7 @@ use Rattle.reading.specs.declared.read.Reading.the-variants.{Accepted, Refused}
 use Rattle.reading.specs.Texts.{Contents}
 use Rattle.reading.specs.Meaning.{Reads}
 use Rattle.reading.specs.Reading.{checkText, checkedOf, replyTo, readReply, filled, isAccepted, readTable, replyAfter, tableAfter, textAccepted, readingReturned, readingNumber}
-use Rattle.reading.specs.Promises.{Vouched, CheckedRead, TableRead, ReadInto}
+use Rattle.reading.specs.Promises.{Vouched, CheckedRead, TableRead}
 use Rattle.reading.proofs.Answered.{PassedWith, ShortWith, AcceptedWith, failed-judged, passed-judged, refused-judged, accepted-judged}
 use Rattle.reading.proofs.Numbers.{returned-failed, returned-passed, returned-refused, returned-accepted}
 use Rattle.reading.proofs.Promised.{read-promised}

@@ -5,7 +5,6 @@ use mathlib.Core.List.{List, [], _∷_}
 use Prim.Native.Nat.{ℕ}
 use lib.IntN.{ℤ, pos}
 use Rattle.numerals.specs.Bytes.{bytes}
-use Rattle.rules.specs.Refusal.{Returned}
 use Rattle.reading.specs.Reading.{readingReturned}
 use Rattle.reading.proofs.Frauds.{reading, putting}
 use Rattle.reading.specs.Ordered.{canonicalPlace, fromPlace, orderedFrom}

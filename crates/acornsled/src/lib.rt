@@ -2,6 +2,8 @@
 // is returned beside it, a line or a length, 0 where there is nothing. The exam host's call answers a verdict's number, or the refusal's, alone. C sees a
 // slice as a pointer and its length in elements, words or bytes. The host passes true lengths and no null pointer, and what a call may change, slice or single
 // word, overlaps nothing else that it is given.
+#![tactic(auto)]
+
 ghost use Rattle.acornsled.specs.Promises.{ReadingTold, ReadAnswer, BankAnswer, WriteAnswer, KeyAnswer, TightKeyAnswer, StepAnswer, AssignmentAnswer, AskAnswer, MarkAnswer, MarkTextsAnswer, MarkTablesAnswer};
 
 use marking::rule_words;

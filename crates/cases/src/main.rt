@@ -1,5 +1,7 @@
 // Document 01's limit cases, the refusals of texts, and what keys are written as, through what *key* prints: the name of a case, then what is printed
 // for its text. The stored output is written by hand from document 01, and its keys from document 02's [2].
+#![tactic(auto)]
+
 use reports::key;
 
 const OUT: i32 = 1;

@@ -1,6 +1,8 @@
 // Reading a text from a file descriptor, for the programs. That no more bytes are told than there are is proved. Which bytes were read, and that any were, no
 // contract can say: a body that answers 0 and reads nothing is proved too. It is tested only: on such a body the stored outputs of *key* and *mark* fail, and so
 // does tools/programs.
+#![tactic(auto)]
+
 ghost use Rattle.io.specs.Counts.{IsPrefixLen};
 
 // Reads to the start of `text` until it is full or the input ends, and answers how many bytes that is; none where a read fails, at once or midway.

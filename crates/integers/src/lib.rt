@@ -1,4 +1,6 @@
 // The operations on a bound that is a signed 64-bit word. Each answers for every word or pair of words.
+#![tactic(auto)]
+
 ghost use Rattle.std.specs.Prelude.{◌≡◌, nat_abs, ◌+ℤ◌};
 ghost use Rattle.integers.specs.Bound.{half, opposite_bound, smaller, saturated, total_of};
 
@@ -29,7 +31,7 @@ pub fn minimum(a: i64, b: i64) -> i64
 }
 
 // The sum of two words, which may be no word.
-#[derive(Drop)]
+#[derive(Clone, Copy)]
 pub enum Total {
     Sum(i64),
     Overflow,

@@ -1,4 +1,6 @@
 // The program *key*: the text of a sheet from standard input, and to standard output the text of its tightest key, or the refusal.
+#![tactic(auto)]
+
 use reports::key;
 use rules::sheet::Sheet;
 

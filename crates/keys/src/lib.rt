@@ -1,4 +1,6 @@
 // The key of a sheet and an assignment of a table, in place and with one lent workspace.
+#![tactic(auto)]
+
 pub mod assignment;
 pub mod breaking;
 mod checks;

@@ -7,7 +7,7 @@ use rules::hidden;
 use rules::hidden::Set;
 
 // A part of the quantities, given by a set.
-#[derive(Drop)]
+#[derive(Clone, Copy)]
 pub enum Part {
     // those in the set
     Inside,

@@ -9,7 +9,7 @@ use rules::refusal::Refusal;
 use rules::rule::Rule;
 
 // Document 01's number and values of each case are those of `answer_returned` in specs/Answers.
-#[derive(Drop)]
+#[derive(Clone, Copy)]
 pub enum Answer {
     // a count of quantities or of rules
     Count { value: usize, next: usize },

@@ -14,7 +14,7 @@ use numerals::{byte, compare, read};
 use rules::hidden::Set;
 
 // The quantities read so far, and whether each number read was one of 1 to n.
-#[derive(Drop)]
+#[derive(Clone, Copy)]
 struct Members {
     set: Set,
     within: bool,

@@ -10,7 +10,7 @@ use numerals::read::Numeral;
 use numerals::{byte, read};
 
 // A number with its sign, its magnitude capped, and the cursor after it.
-#[derive(Drop)]
+#[derive(Clone, Copy)]
 pub(crate) enum Signed {
     Read { value: i64, next: usize },
     Malformed,

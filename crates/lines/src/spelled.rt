@@ -10,7 +10,7 @@ use numerals::byte::Kind;
 
 // A rule as it is written: its bound, the cursor of the next line and its signed quantity numbers, all magnitudes capped. What both forms have comes first, so
 // that it is at one place in both.
-#[derive(Drop)]
+#[derive(Clone, Copy)]
 pub(crate) enum Spelled {
     One {
         bound: i64,

@@ -1,4 +1,6 @@
 // The program *mark*: the texts of the files `sheet` and `script`, and to standard output the verdict on the script, or the refusal.
+#![tactic(auto)]
+
 ghost use Rattle.io.specs.Counts.{IsPrefixLen};
 
 use reports::mark;

@@ -5,7 +5,7 @@ ghost use Rattle.marking.specs.Verdicts.{verdict_number, marking_number, marking
 use rules::refusal::Refusal;
 use rules::rule::Rule;
 
-#[derive(Drop)]
+#[derive(Clone, Copy)]
 pub enum Verdict {
     // 100: script and sheet allow the same
     Equal,
@@ -28,7 +28,7 @@ impl Verdict {
     }
 }
 
-#[derive(Drop)]
+#[derive(Clone, Copy)]
 pub enum Marking {
     Marked(Verdict),
     Refused(Refusal),

@@ -3,7 +3,7 @@ ghost use Rattle.std.specs.Prelude.{◌≡◌, get_or, drop};
 ghost use Rattle.numerals.specs.Bytes.{kind_of};
 ghost use Rattle.numerals.specs.Parsing.{starts_with, digit_next};
 
-#[derive(Drop)]
+#[derive(Clone, Copy)]
 pub enum Kind {
     Digit,
     Plus,

@@ -10,7 +10,7 @@ use crate::byte;
 const CAP: u64 = 9_000_000_000_000_000_000;
 
 // The value of a numeral, as far as it is told, and the cursor after it.
-#[derive(Drop)]
+#[derive(Clone, Copy)]
 pub enum Numeral {
     Number { value: u64, next: usize },
     Malformed,

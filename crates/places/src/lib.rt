@@ -1,4 +1,6 @@
 // The numbering of terms: the place of a term, and the term of a place.
+#![tactic(auto)]
+
 ghost use Rattle.std.specs.Prelude.{◌≡◌};
 ghost use Rattle.places.specs.Numbering.{place_of_one, place_of_pair, find_two, block_of};
 
@@ -19,7 +21,7 @@ fn of_pair(x: u32, y: u32) -> usize
 }
 
 // Where a term stands in a table.
-#[derive(Drop)]
+#[derive(Clone, Copy)]
 pub enum Place {
     At(usize),
     Nowhere,

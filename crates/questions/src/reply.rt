@@ -4,7 +4,7 @@ ghost use Rattle.questions.specs.Replies.{asked_number, asked_value};
 
 use rules::refusal::Refusal;
 
-#[derive(Drop)]
+#[derive(Clone, Copy)]
 pub enum Asked {
     // the answers to so many questions: bit i of `answers`, counted from 0, is that to question i + 1, and the other bits are 0
     Answered { count: usize, answers: u64 },

@@ -16,7 +16,7 @@ use rules::refusal::Refusal;
 use rules::sheet::Sheet;
 use tables::table;
 
-#[derive(Drop)]
+#[derive(Clone, Copy)]
 pub enum Checked {
     // n, the hidden set, the number of rules, and the cursor at which their lines begin
     Passed {

@@ -10,7 +10,7 @@ use rules::paper::Paper;
 use rules::refusal;
 use rules::refusal::Refusal;
 
-#[derive(Drop)]
+#[derive(Clone, Copy)]
 pub enum Reading {
     // n and the hidden set
     Accepted { quantities: usize, hidden: Set },

@@ -1,4 +1,6 @@
 // What the programs print, from bytes to bytes: they only read and write.
+#![tactic(auto)]
+
 pub mod key;
 pub mod mark;
 mod refusal;

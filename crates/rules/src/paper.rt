@@ -7,7 +7,7 @@ use crate::hidden::Set;
 use crate::sheet::Sheet;
 
 // What a text or a table is taken as.
-#[derive(Drop)]
+#[derive(Clone, Copy)]
 pub enum Paper {
     Sheet,
     Script,

@@ -12,7 +12,7 @@ use crate::sheet::Sheet;
 use integers::Total;
 
 // A rule as written: its literals stand in the order given, and a doubled term stays doubled. The bare rule 0 ≤ c keeps its c.
-#[derive(Drop)]
+#[derive(Clone, Copy)]
 pub enum Rule {
     One { literal: u32, bound: i64 },
     Two { first: u32, second: u32, bound: i64 },
@@ -20,7 +20,7 @@ pub enum Rule {
 }
 
 // What a rule leaves when a literal is taken from its term.
-#[derive(Drop)]
+#[derive(Clone, Copy)]
 pub enum Partner {
     With(u32),
     Alone,

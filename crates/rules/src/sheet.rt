@@ -5,7 +5,7 @@ ghost use Rattle.rules.specs.Limits.{max_quantities, max_bound, max_rules, no_ru
 use crate::hidden::Set;
 
 // The sheet type, whose associated constants are the limits. Calls hand its two parts on as numbers, as document 01 lends them.
-#[derive(Drop)]
+#[derive(Clone, Copy)]
 pub struct Sheet {
     pub quantities: usize,
     pub hidden: Set,
@@ -24,7 +24,7 @@ impl Sheet {
 }
 
 // The constants as values.
-#[derive(Drop)]
+#[derive(Clone, Copy)]
 pub struct Limits {
     pub quantities: usize,
     pub bound: i64,

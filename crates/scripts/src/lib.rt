@@ -1,4 +1,6 @@
 // Scripts marked against sheets, both as texts.
+#![tactic(auto)]
+
 mod filled;
 mod once;
 pub mod own;

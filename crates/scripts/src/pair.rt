@@ -16,7 +16,7 @@ use rules::refusal::Refusal;
 use tables::reply::Reply;
 
 // Two texts that passed: n and the hidden set of both, and of each the number of its rules and the cursor at which their lines begin.
-#[derive(Drop)]
+#[derive(Clone, Copy)]
 pub struct Pair {
     pub quantities: usize,
     pub hidden: Set,
@@ -26,7 +26,7 @@ pub struct Pair {
     pub script_body: usize,
 }
 
-#[derive(Drop)]
+#[derive(Clone, Copy)]
 pub enum PairChecked {
     Passed(Pair),
     Refused { paper: Subject, refusal: Refusal },

@@ -7,7 +7,7 @@ use rules::refusal;
 use rules::refusal::Refusal;
 
 // Which paper a refusal is about.
-#[derive(Drop)]
+#[derive(Clone, Copy)]
 pub enum Subject {
     Sheet,
     Script,
@@ -18,7 +18,7 @@ pub enum Subject {
 // What hosts are told for the paper of a verdict.
 const NO_PAPER: u32 = 0;
 
-#[derive(Drop)]
+#[derive(Clone, Copy)]
 pub enum TextMarking {
     // the sheet's n, which says how many words the assignment has, and the verdict
     Marked { quantities: usize, verdict: Verdict },

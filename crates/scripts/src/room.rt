@@ -10,7 +10,7 @@ use tables::reply::Reply;
 use tables::table;
 
 // How many words are lent as the sheet's table, the script's, the workspace and the assignment.
-#[derive(Drop)]
+#[derive(Clone, Copy)]
 pub struct Lengths {
     pub sheet: usize,
     pub script: usize,

@@ -7,7 +7,7 @@ use rules::paper::Paper;
 use rules::rule::Rule;
 use rules::{literal, paper};
 
-#[derive(Drop)]
+#[derive(Clone, Copy)]
 pub enum Given {
     // in the limits of a sheet's rule, and not +q-q: the rule as written
     Stated(Rule),

@@ -1,4 +1,6 @@
 // Tables of rules: one word for each term over n quantities (document 01, 'The table').
+#![tactic(auto)]
+
 pub mod given;
 pub mod limit;
 pub mod names;

@@ -4,7 +4,7 @@ ghost use Rattle.tables.specs.Replies.{reply_number, reply_value};
 
 use rules::refusal::Refusal;
 
-#[derive(Drop)]
+#[derive(Clone, Copy)]
 pub enum Reply {
     Done,
     Refused(Refusal),

@@ -1,4 +1,6 @@
 // Slices of words: a run of words set to one or copied, and a word put in by minimum.
+#![tactic(auto)]
+
 ghost use Rattle.std.specs.Prelude.{◌≡◌};
 ghost use Rattle.words.specs.Change.{change, fill_from, copying, lowered};
 

@@ -1,5 +1,7 @@
 // Runs the numbering of terms and the methods of a rule, then worked examples of the sources: rules are put into a table and printed, then the reply to the key
 // call, then the key; last, scripts marked against sheets, as tables and as texts. The stored output is written from the sources' own numbers.
+#![tactic(auto)]
+
 mod meets;
 mod methods;
 mod numbering;

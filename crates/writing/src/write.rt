@@ -14,7 +14,7 @@ use rules::sheet::Sheet;
 use rules::{hidden, refusal};
 use tables::{place, table};
 
-#[derive(Drop)]
+#[derive(Clone, Copy)]
 pub enum Writing {
     // how many bytes were written
     Text { length: usize },
@@ -44,7 +44,7 @@ impl Writing {
 }
 
 // How many rules a table has, and how many bytes their lines take.
-#[derive(Drop)]
+#[derive(Clone, Copy)]
 struct Measure {
     rules: usize,
     bytes: usize,

@@ -1,0 +1,7 @@
+-- `acornsled_assignment` meets its contract. Assumes nothing.
+use borrow.Author.Rules.{rules}
+use Rattle.acornsled.proofs.Promised.{assignment_answer}
+use Rattle.acornsled.proofs.acornsled_assignment.Goals as goal
+
+pub returns : goal.returns
+returns c = assignment_answer _ _ _ _ _ _ _ _ _ c.assignment-reply.ensures c.number.ensures c.value.ensures

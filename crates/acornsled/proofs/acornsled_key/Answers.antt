@@ -1,0 +1,7 @@
+-- `acornsled_key` meets its contract. Assumes nothing.
+use borrow.Author.Rules.{rules}
+use Rattle.acornsled.proofs.Promised.{key_answer}
+use Rattle.acornsled.proofs.acornsled_key.Goals as goal
+
+pub returns : goal.returns
+returns c = key_answer _ _ _ _ _ _ _ _ _ c.key-reply.ensures c.number.ensures c.value.ensures

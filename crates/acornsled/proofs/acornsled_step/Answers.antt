@@ -1,0 +1,7 @@
+-- `acornsled_step` meets its contract. Assumes nothing.
+use borrow.Author.Rules.{rules}
+use Rattle.acornsled.proofs.Promised.{step_answer}
+use Rattle.acornsled.proofs.acornsled_step.Goals as goal
+
+pub returns : goal.returns
+returns c = step_answer _ _ _ _ _ _ _ _ _ _ _ c.step-reply.ensures c.number.ensures c.value.ensures

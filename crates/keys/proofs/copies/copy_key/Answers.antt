@@ -1,0 +1,36 @@
+-- `copies::copy_key` meets its contract: the first table is copied over the second, and in the copy the places of the set's quantities are cleared. Assumes nothing.
+use native.Mathlib.Omega.{arith}
+use borrow.Author.Rules.{rules}
+use Rattle.tables.proofs.Sizes.{size_known}
+use Rattle.keys.proofs.Parts.{second_room}
+use Rattle.keys.proofs.KeyCopies.{copied_key}
+use Rattle.keys.proofs.copies.copy_key.Goals as goal
+
+pub copy_on-requires : goal.copy_on-requires
+copy_on-requires c =
+    omega (arith, c.requires.1, size_known _ _ c.requires.0 c.size-m.ensures)
+
+pub offset_bounds-words-m : goal.offset_bounds-words-m
+offset_bounds-words-m c =
+    omega (arith, c.requires.1, size_known _ _ c.requires.0 c.size-m.ensures)
+
+pub slice_bounds-clear_set-count : goal.slice_bounds-clear_set-count
+slice_bounds-clear_set-count c =
+    omega (arith, c.requires.1, size_known _ _ c.requires.0 c.size-m.ensures)
+
+{- part_clear_set_start : tie.Need-slice-bounds-clear-set-start
+part_clear_set_start c =
+    let z = c.before.before.before in
+    let s = z.before in
+    omega (arith, s.requires.1, size_known _ _ s.requires.0 z.size.ensures) -}
+
+{- part_clear_set_end : tie.Need-slice-bounds-clear-set-end
+part_clear_set_end c = search rules -}
+
+pub clear_set-requires : goal.clear_set-requires
+clear_set-requires c =
+    (c.requires.0, second_room _ _ c.args.words.now c.copy_on.new.words c.requires.0 c.size-m.ensures c.requires.1 c.copy_on.auto.words)
+
+pub returns : goal.returns
+returns c =
+    copied_key _ _ _ _ _ _ c.requires.0 c.size-m.ensures c.requires.1 c.copy_on.ensures c.clear_set.auto.table c.clear_set.ensures

@@ -1,0 +1,16 @@
+-- `copies::copy_on` meets its contract. The loop's invariant: the words passed are copied on. The measure is what is left. Assumes nothing.
+use mathlib.Core.Path.{◌≡◌, refl, ◌∙◌}
+use Prim.Native.Nat.{◌-◌, ◌≤◌}
+use native.Mathlib.Omega.{arith}
+use lib.ListN.{length, length-set}
+use borrow.Author.Rules.{rules}
+use Rattle.integers.proofs.Parts.{held_value}
+use Rattle.keys.proofs.KeyCopies.{copied_up_to, copy_none, copy_more, copy_all}
+use Rattle.keys.proofs.copies.copy_on.Given as goal
+
+
+abbrev pub invariant-loop-i : goal.invariant-loop-i
+invariant-loop-i l = (l.i ≤ l.m) × (length l.words ≡ length l.initial.words) × (l.words ≡ copied_up_to l.m l.i l.initial.words)
+
+abbrev pub decreases-loop-i : goal.decreases-loop-i
+decreases-loop-i l = l.m - l.i

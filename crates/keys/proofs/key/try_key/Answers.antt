@@ -1,0 +1,17 @@
+-- `key::try_key` meets its contract: the room taken is long enough for n. Assumes nothing.
+use Rattle.places.specs.Numbering.{block_start}
+use Rattle.places.proofs.Numbering.{block_start_mono}
+use borrow.Author.Rules.{rules}
+use Rattle.keys.proofs.key.try_key.Goals as goal
+
+pub make_key-requires : goal.make_key-requires
+unfolding block_start
+make_key-requires c = (c.requires, block_start_mono c.if-n-le-SMALL.true)
+
+pub make_key-requires-then-n-le-MIDDLE : goal.make_key-requires-then-n-le-MIDDLE
+unfolding block_start
+make_key-requires-then-n-le-MIDDLE c = (c.requires, block_start_mono c.if-n-le-MIDDLE.true)
+
+pub make_key-requires-2 : goal.make_key-requires-2
+unfolding block_start
+make_key-requires-2 c = (c.requires, block_start_mono c.requires.0.most)

@@ -1,0 +1,20 @@
+-- `turns::take_turns` meets its contract. The loop's invariant: the members among the first j quantities have had their turn. The measure is the quantities left. Assumes nothing.
+use mathlib.Core.Path.{◌≡◌, refl, ◌∙◌}
+use Prim.Native.Nat.{◌-◌, ◌≤◌}
+use native.Mathlib.Numerals.{add-one}
+use native.Mathlib.Omega.{arith}
+use lib.ListN.{length, drop}
+use Rattle.places.specs.Numbering.{block_start}
+use Rattle.keys.specs.Inner.{member_of, AtTurns}
+use Rattle.keys.proofs.AtTurns.{no_turn}
+use Rattle.keys.proofs.Taking.{turn_rest, turn_more, turn_clash, turn_ready, set_done, set_none}
+use Rattle.keys.proofs.turns.take_turns.Given as goal
+
+
+abbrev pub invariant-loop-j : goal.invariant-loop-j
+invariant-loop-j l =
+    (l.j ≤ l.n) × (length l.table ≡ length l.initial.table) × (length l.list ≡ length l.initial.list) × (length l.plus ≡ length l.initial.plus) × (length l.minus ≡ length l.initial.minus)
+    × (drop (block_start l.n) l.table ≡ drop (block_start l.n) l.initial.table) × AtTurns (member_of l.set l.part) l.n l.j l.initial.table l.table
+
+abbrev pub decreases-loop-j : goal.decreases-loop-j
+decreases-loop-j l = l.n - l.j

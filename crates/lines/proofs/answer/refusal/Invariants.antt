@@ -1,0 +1,15 @@
+-- `answer::refusal` meets its contract: the answer is a refusal, so that the loop is never reached. Assumes nothing.
+use mathlib.Core.Path.{◌≡◌, subst}
+use mathlib.Core.List.{[], ◌∷◌}
+use types.Run.{OneOf, miss}
+use borrow.Author.Rules.{rules}
+use Rattle.lines.specs.declared.answer.Answer.{Answer}
+use Rattle.lines.proofs.Found.{place}
+use Rattle.lines.proofs.answer.refusal.Given as goal
+
+
+abbrev pub invariant-loop : goal.invariant-loop
+invariant-loop l = ⊥
+
+abbrev pub decreases-loop : goal.decreases-loop
+decreases-loop l = 0

@@ -1,0 +1,19 @@
+-- `read::with_digit` meets its contract. Assumes nothing.
+use mathlib.Core.Path.{sym, ◌∙◌}
+use Prim.Native.Nat.{◌+◌, ◌-◌, ◌*◌}
+use native.Mathlib.Omega.{arith}
+use borrow.Author.Rules.{rules}
+use Rattle.numerals.specs.Bytes.{digit_zero}
+use Rattle.numerals.proofs.Keys.{digit_range}
+use Rattle.numerals.proofs.Values.{capped_below, capped_above}
+use Rattle.numerals.proofs.read.with_digit.Goals as goal
+
+pub overflow_sub-result : goal.overflow_sub-result
+overflow_sub-result c = omega (arith, digit_range c.args.b c.requires)
+
+pub returns-then-v : goal.returns-then-v
+returns-then-v c = let a = c.args in
+    sym (capped_below (10 * a.v + (a.b - digit_zero)) (omega (arith, digit_range a.b c.requires)) ∙ omega arith)
+
+pub returns : goal.returns
+returns c = let a = c.args in sym (capped_above (10 * a.v + (a.b - digit_zero)) (omega arith))

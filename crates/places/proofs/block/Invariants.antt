@@ -1,0 +1,16 @@
+-- `places::block` meets its contract. The loop's invariant: the present block starts at the place or before it; where the loop ends the next
+-- one starts past it, so the block is the one found. The measure is what is left of the place. Assumes nothing.
+use mathlib.Core.Path.{sym}
+use Prim.Native.Nat.{suc, ◌+◌, ◌-◌, ◌*◌, ◌≤◌, ◌<◌}
+use native.Mathlib.Omega.{arith}
+use Rattle.places.specs.Numbering.{block_start}
+use Rattle.places.proofs.Fits.{small_block, next_square}
+use Rattle.places.proofs.Numbering.{block_unique, block_start_above}
+use Rattle.places.proofs.block.Given as goal
+
+
+abbrev pub invariant-loop-j : goal.invariant-loop-j
+invariant-loop-j l = 2 * (l.j * l.j) ≤ l.place
+
+abbrev pub decreases-loop-j : goal.decreases-loop-j
+decreases-loop-j l = l.place - l.j

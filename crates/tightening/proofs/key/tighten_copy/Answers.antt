@@ -1,0 +1,25 @@
+-- `key::tighten_copy` meets its contract: the sheet is copied, its hidden quantities hidden in the copy, and the key tightened there. Assumes nothing.
+use borrow.Author.Rules.{rules}
+use Rattle.keys.proofs.Taking.{taken_length}
+use Rattle.keys.proofs.Making.{copy_fits}
+use Rattle.tightening.proofs.TightMaking.{tight_ready, tight_early, tight_tried}
+use Rattle.tightening.proofs.key.tighten_copy.Goals as goal
+
+pub hide_set-requires : goal.hide_set-requires
+hide_set-requires c =
+    copy_fits _ _ _ _ _ _ c.requires.0 c.size.ensures c.copy.ensures
+
+pub returns-then-hide_set : goal.returns-then-hide_set
+returns-then-hide_set c =
+    tight_early _ _ _ _ _ _ c.requires.0 c.size.ensures c.copy.ensures _ _ c.hide_set.ensures c.if-hide_set.true
+
+pub slice_bounds-tighten-end-2 : goal.slice_bounds-tighten-end-2
+slice_bounds-tighten-end-2 c = taken_length _ _ c.list-count.ensures.room
+
+pub tighten-requires : goal.tighten-requires
+tighten-requires c =
+    tight_ready _ _ _ _ _ _ c.requires.0 c.size.ensures c.copy.ensures _ _ c.hide_set.ensures c.if-hide_set.false _ _ c.list-count.ensures
+
+pub returns : goal.returns
+returns c =
+    tight_tried _ _ _ _ _ _ c.requires.0 c.size.ensures c.copy.ensures _ _ c.hide_set.ensures c.if-hide_set.false _ _ c.tighten.ensures

@@ -1,2 +1,0 @@
--- What the program's contracts cite: the value of a rule's term.
-pub mod Values

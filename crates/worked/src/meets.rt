@@ -1,4 +1,9 @@
 // Whether integers meet the rules of a table, counted from the integers alone. Which assignment the library finds is left free, so none is printed.
+ghost use Rattle.std.specs.Prelude.{◌≡◌};
+ghost use Rattle.integers.specs.Bound.{saturated};
+ghost use Rattle.rules.specs.Meaning.{literal_value};
+ghost use Rattle.tables.specs.Meaning.{assignment_of};
+ghost use Rattle.worked.specs.Values.{term_word};
 
 use crate::sheet;
 use rules::rule::Rule;
@@ -6,6 +11,7 @@ use rules::sheet::Sheet;
 
 // The word nearest to the value of a literal; a quantity without a value counts as 0.
 fn literal_value(values: &[i64], x: u32) -> i64
+    ensures { result ≡ saturated (literal_value (assignment_of values.now) x) }
 {
     let j = x as usize / 2;
     if values.len() <= j {
@@ -20,6 +26,7 @@ fn literal_value(values: &[i64], x: u32) -> i64
 
 // The value of a rule's term. Past the range of words the nearest word stands for it.
 fn term_value(values: &[i64], rule: Rule) -> i64
+    ensures { result ≡ term_word (assignment_of values.now) rule }
 {
     match rule {
         Rule::One { literal, bound: _ } => literal_value(values, literal),

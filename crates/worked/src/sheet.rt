@@ -1,4 +1,7 @@
 // The steps of an example: a heading, an empty table, rules put in, the key.
+ghost use Rattle.std.specs.Prelude.{◌≡◌, get_or, take};
+ghost use Rattle.rules.specs.Limits.{no_rule};
+ghost use Rattle.tables.specs.Tables.{table_size};
 
 use crate::printing;
 use rules::hidden::Set;
@@ -58,6 +61,7 @@ pub(crate) fn key(n: usize, hidden: Set, table: &mut [i64]) {
 
 // The word of a place of a table over `n` quantities; the no-rule word where it has no such place.
 pub(crate) fn word_at(n: usize, table: &[i64], k: usize) -> i64
+    ensures { result ≡ get_or (take (table_size n) table.now) k no_rule }
 {
     if tables::table::size(n) <= k {
         return Sheet::NO_RULE;

@@ -26,7 +26,6 @@ Else-b-lt0 = lts.Else1 reads.Pre reads.Post
 abbrev Else-b-a : Type 0
 Else-b-a = lts.Else3 reads.Pre reads.Post
 
-
 module _ (a b : ℤ) (fa : SFits w64 a) (fb : SFits w64 b) where
   -- what a summand leaves of the range
   room_below : lt_z b (pos 0) ≡ true → SFits w64 (least_word +ℤ neg_ℤ b)

@@ -9,7 +9,6 @@ use Rattle.integers.specs.Bound.{half}
 use Rattle.integers.proofs.Parts.{word_value}
 use Rattle.integers.proofs.halved.Goals as goal
 
-
 shifted : (x : ℤ) → SFits w64 x → to_z w64 (of_z w64 (shr_z (to_z w64 (of_z w64 x)) 2)) ≡ half x
 unfolding half
 shifted x h = rw (word_value h) (word_value (sfits_le (mag_shr x 2) h))

@@ -19,7 +19,6 @@ use Rattle.integers.proofs.magnitude.Goals as goal
 abbrev After-opposite : Type 0
 After-opposite = lts.After-opposite tie.the-claims reads.Pre reads.Post
 
-
 -- of a word that is not negative
 record Whole (z : ℤ) (m : ℕ) : Type 0 where
   sign : T (non_neg z)

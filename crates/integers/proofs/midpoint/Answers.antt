@@ -21,7 +21,6 @@ After-halved-x = lts.After-halved tie.the-claims reads.Pre reads.Post
 abbrev After-halved-y : Type 0
 After-halved-y = lts.After-halved2 tie.the-claims reads.Pre reads.Post
 
-
 -- a word is odd exactly where it is more than twice its half
 module _ (a b : ℤ) (fa : SFits w64 a) (fb : SFits w64 b) where
   halves_word : SFits w64 (half a +ℤ half b)
@@ -93,6 +92,6 @@ pub returns : goal.returns
 returns c = rw (first c.before.before, second c.before)
     (word_value (halves_word c.args.a c.args.b c.ranges.a c.ranges.b)
     ∙ elim c.if-x-a.branch [
-      then-x-a+else-y-b w ↦ second_even c.args.a c.args.b c.ranges.a c.ranges.b (second_test c.before w.if-y-b.false)
+      | then-x-a+else-y-b w ↦ second_even c.args.a c.args.b c.ranges.a c.ranges.b (second_test c.before w.if-y-b.false)
       | else-x-a w ↦ first_even c.args.a c.args.b c.ranges.a c.ranges.b (first_test c.before w.if-x-a.false)
     ])

@@ -9,7 +9,6 @@ use Rattle.integers.specs.Bound.{smaller}
 use Rattle.integers.proofs.Parts.{word_value}
 use Rattle.integers.proofs.minimum.Goals as goal
 
-
 decided : (a b : ℤ) → SFits w64 a → SFits w64 b → (t : Bool) → lt_z (to_z w64 (of_z w64 b)) (to_z w64 (of_z w64 a)) ≡ t → cond t b a ≡ smaller a b
 unfolding smaller
 decided a b fa fb t e = rw (← e, word_value fa, word_value fb)

@@ -7,7 +7,6 @@ use Rattle.integers.specs.Bound.{opposite_bound}
 use Rattle.integers.proofs.Parts.{word_value, linear, positive_part, negative_part, parts_add, parts_neg, word_to, word_of, parts_opposite}
 use Rattle.integers.proofs.opposite.Goals as goal
 
-
 difference : (x : ℤ) → negsuc 0 +ℤ neg_ℤ x ≡ opposite_bound x
 unfolding positive_part negative_part
 difference x = omega (linear, parts_add (negsuc 0) (neg_ℤ x), parts_neg x, parts_opposite x)

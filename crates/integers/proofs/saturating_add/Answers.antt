@@ -18,7 +18,6 @@ use Rattle.integers.proofs.saturating_add.Goals as goal
 abbrev After-add-together : Type 0
 After-add-together = lts.After-add tie.the-claims reads.Pre reads.Post
 
-
 module _ (a b : ℤ) (fa : SFits w64 a) (fb : SFits w64 b) where
   within : (x : ℤ) → total_of a b ≡ Sum x → x ≡ saturated (a +ℤ b)
   within x e = let f = sum_total a b x e in sym (saturated_word (a +ℤ b) f.0 ∙ f.1)

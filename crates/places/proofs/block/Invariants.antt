@@ -8,7 +8,6 @@ use Rattle.places.proofs.Fits.{small_block, next_square}
 use Rattle.places.proofs.Numbering.{block_unique, block_start_above}
 use Rattle.places.proofs.block.Given as goal
 
-
 abbrev pub invariant-loop-j : goal.invariant-loop-j
 invariant-loop-j l = 2 * (l.j * l.j) ≤ l.place
 

@@ -12,7 +12,6 @@ use Rattle.words.specs.Change.{change, copying}
 use Rattle.words.proofs.Change.{change_end, change_none, change_more, change_skip}
 use Rattle.words.proofs.copy.Given as goal
 
-
 abbrev pub invariant-loop-i : goal.invariant-loop-i
 invariant-loop-i l = (l.i ≤ l.m) × (length l.t ≡ length l.initial.t) × (l.t ≡ change l.i (copying l.from) l.initial.t)
 

@@ -18,7 +18,6 @@ use Rattle.words.specs.Change.{change, fill_from}
 use Rattle.words.proofs.Change.{change_end, fill_more, fill_before}
 use Rattle.words.proofs.fill.Given as goal
 
-
 abbrev pub invariant-loop-i : goal.invariant-loop-i
 invariant-loop-i l =
     (l.from ≤ l.i) × (l.i ≤ max l.from l.to) × (length l.t ≡ length l.initial.t) × (l.t ≡ change l.i (fill_from l.from l.w) l.initial.t)

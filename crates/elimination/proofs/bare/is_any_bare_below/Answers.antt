@@ -115,12 +115,11 @@ pub loop-i-smaller : goal.loop-i-smaller
 loop-i-smaller c = omega arith
 
 pub loop-i-preserved : goal.loop-i-preserved
-loop-i-preserved c =
-    (
-      omega arith,
-      rw (add-one c.loop-i.i)
-          (clear_more c.args.live.now _ _ c.loop-i.i (sym (with_plus c.before.before.before.before.before.before) ∙ c.if-is_bare_below.false) (sym (with_minus c.before.before) ∙ c.if-is_bare_below-2.false) c.loop-i.invariant.1),
-    )
+loop-i-preserved c = (
+  omega arith,
+  rw (add-one c.loop-i.i)
+      (clear_more c.args.live.now _ _ c.loop-i.i (sym (with_plus c.before.before.before.before.before.before) ∙ c.if-is_bare_below.false) (sym (with_minus c.before.before) ∙ c.if-is_bare_below-2.false) c.loop-i.invariant.1),
+)
 
 pub returns : goal.returns
 returns c =

@@ -6,7 +6,6 @@ use Rattle.words.specs.Change.{word_at}
 use Rattle.elimination.proofs.BareSums.{ClearTo}
 use Rattle.elimination.proofs.bare.is_any_bare_below.Given as goal
 
-
 abbrev pub invariant-loop-i : goal.invariant-loop-i
 invariant-loop-i l = (l.i ≤ length l.live) × ClearTo l.live (word_at l.plus) (word_at l.minus) l.i
 

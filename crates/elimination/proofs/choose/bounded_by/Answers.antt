@@ -112,19 +112,19 @@ loop-i-preserved c =
     let first = c.with_upper-best-in-loop-i in
     let second = c.with_upper-best-in-loop-i-2 in
     let plus_lowered : to_z w64 (of_z w64 first.result) ≡ with_upper (row (2 * a)) (value (2 * a)) c.loop-i.best =
-        held_value first.type_inv
-        ∙ rw (held_value {z = row (2 * a)} c.with_upper-arg-1.given, value_word, plus_value values a, c.loop-i.best-is) at first.ensures in
+    held_value first.type_inv
+    ∙ rw (held_value {z = row (2 * a)} c.with_upper-arg-1.given, value_word, plus_value values a, c.loop-i.best-is) at first.ensures in
     let both_lowered : to_z w64 (of_z w64 second.result) ≡ with_upper (row (2 * a + 1)) (value (2 * a + 1)) (with_upper (row (2 * a)) (value (2 * a)) c.loop-i.best) =
-        held_value second.type_inv
-        ∙ rw (
-          held_value {z = row (2 * a + 1)} c.with_upper-arg-in-loop-i-1.given,
-          plus_lowered,
-          value_word,
-          word_value (zero_less_word (omega arith) in_range),
-          zero_less (word_at values a),
-          minus_value values a,
-        )
-        at second.ensures in
+    held_value second.type_inv
+    ∙ rw (
+      held_value {z = row (2 * a + 1)} c.with_upper-arg-in-loop-i-1.given,
+      plus_lowered,
+      value_word,
+      word_value (zero_less_word (omega arith) in_range),
+      zero_less (word_at values a),
+      minus_value values a,
+    )
+    at second.ensures in
     (omega arith, rw (add-one i, both_lowered) (best_more live _ _ _ _ i c.loop-i.best c.requires.0.rising c.loop-i-test.true (rw c.loop-i.best-is at c.loop-i.invariant.1)))
 
 pub returns : goal.returns

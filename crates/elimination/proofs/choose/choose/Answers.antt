@@ -122,9 +122,9 @@ bounded_by-above-requires c =
     let v = c.requires.1 in
     let lone = held_value {z = word_at table (2 * (j * j))} c.bounded_by-arg-1.given ∙ ap (word_at table) (plus_place j) in
     let rows = gathered_row n j live table _ _ r
-        (omega (arith, c.gather.auto.plus, c.requires.0.plus_room))
-        (omega (arith, c.gather.auto.minus, c.requires.0.minus_room))
-        c.gather.ensures in
+    (omega (arith, c.gather.auto.plus, c.requires.0.plus_room))
+    (omega (arith, c.gather.auto.minus, c.requires.0.minus_room))
+    c.gather.ensures in
     (c.requires.0.listed, rows.0, v, rw lone (lone_within n add_limit table (2 * j) r.room r.words (omega (arith, r.one))))
 
 pub overflow_add-start : goal.overflow_add-start
@@ -147,7 +147,7 @@ overflow_sub-above c =
     let v = c.requires.1 in
     let lone = held_value {z = word_at table (2 * (j * j))} c.bounded_by-arg-1.given ∙ ap (word_at table) (plus_place j) in
     let above_is = held_value c.bounded_by-above.type_inv
-        ∙ row_left n live table values c.gather.new.plus (2 * j) _ (pos 0) _ c.gather.ensures.plus_bounds lone c.bounded_by-above.ensures in
+    ∙ row_left n live table values c.gather.new.plus (2 * j) _ (pos 0) _ c.gather.ensures.plus_bounds lone c.bounded_by-above.ensures in
     rw above_is (zero_less_word (omega arith) (above_small n live table values j r v))
 
 pub bounded_by-below-requires : goal.bounded_by-below-requires
@@ -161,9 +161,9 @@ bounded_by-below-requires c =
     let v = c.requires.1 in
     let lone' = held_value {z = word_at table (2 * (j * j) + 1)} c.bounded_by-arg-2-1.given ∙ ap (word_at table) (minus_place j) in
     let rows = gathered_row n j live table _ _ r
-        (omega (arith, c.gather.auto.plus, c.requires.0.plus_room))
-        (omega (arith, c.gather.auto.minus, c.requires.0.minus_room))
-        c.gather.ensures in
+    (omega (arith, c.gather.auto.plus, c.requires.0.plus_room))
+    (omega (arith, c.gather.auto.minus, c.requires.0.minus_room))
+    c.gather.ensures in
     (c.requires.0.listed, rows.1, v, rw lone' (lone_within n add_limit table (2 * j + 1) r.room r.words (omega (arith, r.one))))
 
 pub overflow_sub-result : goal.overflow_sub-result
@@ -178,9 +178,9 @@ overflow_sub-result c =
     let lone = held_value {z = word_at table (2 * (j * j))} c.bounded_by-arg-1.given ∙ ap (word_at table) (plus_place j) in
     let lone' = held_value {z = word_at table (2 * (j * j) + 1)} c.bounded_by-arg-2-1.given ∙ ap (word_at table) (minus_place j) in
     let above_is = held_value c.bounded_by-above.type_inv
-        ∙ row_left n live table values c.gather.new.plus (2 * j) _ (pos 0) _ c.gather.ensures.plus_bounds lone c.bounded_by-above.ensures in
+    ∙ row_left n live table values c.gather.new.plus (2 * j) _ (pos 0) _ c.gather.ensures.plus_bounds lone c.bounded_by-above.ensures in
     let below_is = held_value c.bounded_by-below.type_inv
-        ∙ below_left n live table values c.gather.new.minus j _ _ _ r v c.gather.ensures.minus_bounds lone' above_is c.bounded_by-below.ensures in
+    ∙ below_left n live table values c.gather.new.minus j _ _ _ r v c.gather.ensures.minus_bounds lone' above_is c.bounded_by-below.ensures in
     rw below_is (zero_less_word (omega arith) (below_small n live table values j r v))
 
 -- so the reply is the choice
@@ -197,11 +197,11 @@ returns c =
     let lone = held_value {z = word_at table (2 * (j * j))} c.bounded_by-arg-1.given ∙ ap (word_at table) (plus_place j) in
     let lone' = held_value {z = word_at table (2 * (j * j) + 1)} c.bounded_by-arg-2-1.given ∙ ap (word_at table) (minus_place j) in
     let above_is = held_value c.bounded_by-above.type_inv
-        ∙ row_left n live table values c.gather.new.plus (2 * j) _ (pos 0) _ c.gather.ensures.plus_bounds lone c.bounded_by-above.ensures in
+    ∙ row_left n live table values c.gather.new.plus (2 * j) _ (pos 0) _ c.gather.ensures.plus_bounds lone c.bounded_by-above.ensures in
     let below_is = held_value c.bounded_by-below.type_inv
-        ∙ below_left n live table values c.gather.new.minus j _ _ _ r v c.gather.ensures.minus_bounds lone' above_is c.bounded_by-below.ensures in
+    ∙ below_left n live table values c.gather.new.minus j _ _ _ r v c.gather.ensures.minus_bounds lone' above_is c.bounded_by-below.ensures in
     let reply : to_z w64 (of_z w64 (pos 0 +ℤ neg_ℤ (to_z w64 (of_z w64 c.bounded_by-below.result)))) ≡ choice (among live) n table j values =
-        ap (λ (z : ℤ). to_z w64 (of_z w64 (pos 0 +ℤ neg_ℤ z))) below_is
-        ∙ word_value (zero_less_word (omega arith) (below_small n live table values j r v))
-        ∙ zero_less (below n live table values j) in
+    ap (λ (z : ℤ). to_z w64 (of_z w64 (pos 0 +ℤ neg_ℤ z))) below_is
+    ∙ word_value (zero_less_word (omega arith) (below_small n live table values j r v))
+    ∙ zero_less (below n live table values j) in
     choice_chosen (among live) n j table values _ r reply

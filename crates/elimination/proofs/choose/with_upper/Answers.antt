@@ -18,7 +18,6 @@ use Rattle.elimination.proofs.choose.with_upper.Goals as goal
 abbrev Then-bound-lt-NO_RULE : Type 0
 Then-bound-lt-NO_RULE = lts.Then1 tie.the-claims reads.Pre reads.Post
 
-
 -- the two ways of the definition
 lowered : (bound a v : ℤ) → has_rule bound ≡ true → smaller v (bound +ℤ neg_ℤ a) ≡ with_upper bound a v
 unfolding with_upper

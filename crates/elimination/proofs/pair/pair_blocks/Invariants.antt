@@ -9,7 +9,6 @@ use Rattle.elimination.specs.Hiding.{pairing}
 use Rattle.elimination.specs.Inner.{among}
 use Rattle.elimination.proofs.pair.pair_blocks.Given as goal
 
-
 abbrev pub invariant-loop-i : goal.invariant-loop-i
 invariant-loop-i l =
     (l.i ≤ length l.live) × (length l.table ≡ length l.initial.table)

@@ -13,7 +13,6 @@ use Rattle.elimination.specs.Inner.{two_paired, row_paired, neither_held}
 use Rattle.elimination.proofs.Addable.{neither_tells}
 use Rattle.elimination.proofs.pair.pair_row.Goals as goal
 
-
 -- no sum with a word that is no rule
 two_idle : (t : List ℤ) (at : ℕ) (a b c d : ℤ) → has_rule a ≡ false → has_rule b ≡ false → two_paired t at a b c d ≡ t
 unfolding with_sum

@@ -91,7 +91,7 @@ pub overflow_mul-at : goal.overflow_mul-at
 overflow_mul-at c = omega (arith, rising_above c.args.live.now c.requires.rising c.loop-h.h c.args.i (omega arith) c.requires.some)
 
 pub overflow_add-at : goal.overflow_add-at
-overflow_add-at c = 
+overflow_add-at c =
     let a = get_or c.args.live.now c.loop-h.h 0 in
     let b = get_or c.args.live.now c.args.i 0 in
     let below : a < b = rising_above c.args.live.now c.requires.rising c.loop-h.h c.args.i (omega arith) c.requires.some in
@@ -181,15 +181,15 @@ loop-h-preserved c =
     let y = two_paired w (at + 2) (plus (2 * a + 1)) (minus (2 * a + 1)) (plus (2 * b)) (minus (2 * b)) in
     let below : a < b = rising_above live r.rising l.h s.i (omega arith) r.some in
     let put = c.put_four.ensures
-        ∙ four_same l.table at
-        (held_value {z = plus (2 * a)} c.put_four-arg-in-loop-h-1.given)
-        (held_value {z = minus (2 * a)} c.put_four-arg-in-loop-h-2-1.given)
-        (held_value {z = plus (2 * a + 1)} c.put_four-arg-in-loop-h-3-1.given)
-        (held_value {z = minus (2 * a + 1)} c.put_four-arg-in-loop-h-4-1.given)
-        (held_value {z = plus (2 * b)} c.plus_y-1.given)
-        (held_value {z = minus (2 * b)} c.minus_y-1.given)
-        (held_value {z = plus (2 * b + 1)} c.plus_not_y-1.given)
-        (held_value {z = minus (2 * b + 1)} c.minus_not_y-1.given) in (
+    ∙ four_same l.table at
+    (held_value {z = plus (2 * a)} c.put_four-arg-in-loop-h-1.given)
+    (held_value {z = minus (2 * a)} c.put_four-arg-in-loop-h-2-1.given)
+    (held_value {z = plus (2 * a + 1)} c.put_four-arg-in-loop-h-3-1.given)
+    (held_value {z = minus (2 * a + 1)} c.put_four-arg-in-loop-h-4-1.given)
+    (held_value {z = plus (2 * b)} c.plus_y-1.given)
+    (held_value {z = minus (2 * b)} c.minus_y-1.given)
+    (held_value {z = plus (2 * b + 1)} c.plus_not_y-1.given)
+    (held_value {z = minus (2 * b + 1)} c.minus_not_y-1.given) in (
       omega arith,
       c.put_four.auto.table ∙ l.invariant.1,
       λ p m. rw (add-one l.h)

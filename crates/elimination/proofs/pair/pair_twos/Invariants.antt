@@ -10,7 +10,6 @@ use Rattle.elimination.specs.Hiding.{pairing}
 use Rattle.elimination.specs.Inner.{among}
 use Rattle.elimination.proofs.pair.pair_twos.Given as goal
 
-
 abbrev pub invariant-loop-h : goal.invariant-loop-h
 invariant-loop-h l =
     (l.h ≤ l.i) × (length l.table ≡ length l.initial.table)

@@ -13,16 +13,16 @@ use Rattle.elimination.proofs.pair.put_four.Goals as goal
 pub add_four-requires : goal.add_four-requires
 add_four-requires c =
     let both
-        : (all_held c.args.plus_x c.args.minus_x c.args.plus_not_x c.args.minus_not_x ≡ true)
-        × (all_held c.args.plus_y c.args.minus_y c.args.plus_not_y c.args.minus_not_y ≡ true) =
-        elim c.if-full.branch [
-          then-full w ↦ (
-            rw (word_value c.ranges.plus_x, word_value c.ranges.minus_x, word_value c.ranges.plus_not_x, word_value c.ranges.minus_not_x)
-              at (sym w.are_all-quick.ensures ∙ sym w.quick-is ∙ c.if-quick.true),
-            sym c.requires.full_value ∙ w.if-full.true,
-          )
-        | else-full w ↦ clash c.if-quick.true (w.quick-is ∙ w.if-full.false)
-        ] in
+    : (all_held c.args.plus_x c.args.minus_x c.args.plus_not_x c.args.minus_not_x ≡ true)
+    × (all_held c.args.plus_y c.args.minus_y c.args.plus_not_y c.args.minus_not_y ≡ true) =
+    elim c.if-full.branch [
+      | then-full w ↦ (
+        rw (word_value c.ranges.plus_x, word_value c.ranges.minus_x, word_value c.ranges.plus_not_x, word_value c.ranges.minus_not_x)
+            at (sym w.are_all-quick.ensures ∙ sym w.quick-is ∙ c.if-quick.true),
+        sym c.requires.full_value ∙ w.if-full.true,
+      )
+      | else-full w ↦ clash c.if-quick.true (w.quick-is ∙ w.if-full.false)
+    ] in
     rw (
       word_value c.ranges.plus_x,
       word_value c.ranges.minus_x,

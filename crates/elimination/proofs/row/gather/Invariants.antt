@@ -7,7 +7,6 @@ use Rattle.elimination.specs.Hiding.{pair_word}
 use Rattle.elimination.proofs.Rows.{FilledTo}
 use Rattle.elimination.proofs.row.gather.Given as goal
 
-
 abbrev pub invariant-loop-i : goal.invariant-loop-i
 invariant-loop-i l =
     (l.i ≤ length l.live) × (length l.plus ≡ length l.initial.plus) × (length l.minus ≡ length l.initial.minus)

@@ -23,7 +23,6 @@ Then-a-j = lts.Then1 reads.Pre reads.Post
 abbrev Then-j-a : Type 0
 Then-j-a = lts.Then2 reads.Pre reads.Post
 
-
 -- the square in a block's places is small, and the block is the table's
 block_facts : (j l : ℕ) → j < max_quantities → block_start (suc j) ≤ l → (j * j ≤ max_quantities * max_quantities) × (2 * (j * j) + 4 * j + 2 ≤ l)
 unfolding block_start

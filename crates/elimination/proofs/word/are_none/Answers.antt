@@ -18,17 +18,17 @@ returns-then-c-lt-NO_RULE c = rw (held_rule c.ranges.a c.if-a-lt-NO_RULE.false, 
 pub returns-then-d-lt-NO_RULE : goal.returns-then-d-lt-NO_RULE
 unfolding none_held
 returns-then-d-lt-NO_RULE c = rw (
-      held_rule c.ranges.a c.if-a-lt-NO_RULE.false,
-      held_rule c.ranges.b c.if-b-lt-NO_RULE.false,
-      held_rule c.ranges.c c.if-c-lt-NO_RULE.false,
-      held_rule c.ranges.d c.if-d-lt-NO_RULE.true,
-    )
+  held_rule c.ranges.a c.if-a-lt-NO_RULE.false,
+  held_rule c.ranges.b c.if-b-lt-NO_RULE.false,
+  held_rule c.ranges.c c.if-c-lt-NO_RULE.false,
+  held_rule c.ranges.d c.if-d-lt-NO_RULE.true,
+)
 
 pub returns : goal.returns
 unfolding none_held
 returns c = rw (
-      held_rule c.ranges.a c.if-a-lt-NO_RULE.false,
-      held_rule c.ranges.b c.if-b-lt-NO_RULE.false,
-      held_rule c.ranges.c c.if-c-lt-NO_RULE.false,
-      held_rule c.ranges.d c.if-d-lt-NO_RULE.false,
-    )
+  held_rule c.ranges.a c.if-a-lt-NO_RULE.false,
+  held_rule c.ranges.b c.if-b-lt-NO_RULE.false,
+  held_rule c.ranges.c c.if-c-lt-NO_RULE.false,
+  held_rule c.ranges.d c.if-d-lt-NO_RULE.false,
+)

@@ -12,7 +12,6 @@ use Rattle.elimination.proofs.word.is_bare_below.Goals as goal
 abbrev Then-b-lt-NO_RULE : Type 0
 Then-b-lt-NO_RULE = lts.Then2 reads.Pre reads.Post
 
-
 -- the sum of two rules' bounds
 added : (c : Then-b-lt-NO_RULE) → SFits w64 (c.args.a +ℤ c.args.b)
 added c = sum_fits _ _ c.requires.0 c.requires.1 (held_rule c.ranges.a c.if-a-lt-NO_RULE.true) (held_rule c.ranges.b c.if-b-lt-NO_RULE.true)
@@ -23,12 +22,12 @@ overflow_add-result c = rw (word_value c.ranges.a, word_value c.ranges.b) (added
 pub returns-then-b-lt-NO_RULE : goal.returns-then-b-lt-NO_RULE
 unfolding bare_below
 returns-then-b-lt-NO_RULE c = rw (
-      held_rule c.ranges.a c.if-a-lt-NO_RULE.true,
-      held_rule c.ranges.b c.if-b-lt-NO_RULE.true,
-      word_value c.ranges.a,
-      word_value c.ranges.b,
-      word_value (added c),
-    )
+  held_rule c.ranges.a c.if-a-lt-NO_RULE.true,
+  held_rule c.ranges.b c.if-b-lt-NO_RULE.true,
+  word_value c.ranges.a,
+  word_value c.ranges.b,
+  word_value (added c),
+)
 
 pub returns-else-b-lt-NO_RULE : goal.returns-else-b-lt-NO_RULE
 unfolding bare_below

@@ -13,7 +13,6 @@ use Rattle.elimination.proofs.word.with_sum.Goals as goal
 abbrev Then-b-lt-NO_RULE : Type 0
 Then-b-lt-NO_RULE = lts.Then2 tie.the-claims reads.Pre reads.Post
 
-
 -- the sum of two rules' bounds
 added : (c : Then-b-lt-NO_RULE) → SFits w64 (c.args.a +ℤ c.args.b)
 added c = sum_fits _ _ c.requires.0 c.requires.1 (held_rule c.ranges.a c.if-a-lt-NO_RULE.true) (held_rule c.ranges.b c.if-b-lt-NO_RULE.true)

@@ -23,13 +23,12 @@ loop-j-smaller c = omega arith
 
 pub loop-j-preserved : goal.loop-j-preserved
 loop-j-preserved c =
-    let l = c.loop-j in
-    (
+    let l = c.loop-j in (
       omega arith,
       elim c.if-is_hidden.branch [
-          then-is_hidden w ↦ w.table-is ∙ clear_member (hidden_in c.args.set) _ _ _ _ _ _ c.requires.0 c.loop-j-test.true c.requires.1
-          (sym c.is_hidden.ensures ∙ w.if-is_hidden.true) l.invariant.1 w.clear.ensures
-          | else-is_hidden w ↦ w.table-is ∙ clear_other (hidden_in c.args.set) _ _ _ _ (sym c.is_hidden.ensures ∙ w.if-is_hidden.false) l.invariant.1
+        | then-is_hidden w ↦ w.table-is ∙ clear_member (hidden_in c.args.set) _ _ _ _ _ _ c.requires.0 c.loop-j-test.true c.requires.1
+            (sym c.is_hidden.ensures ∙ w.if-is_hidden.true) l.invariant.1 w.clear.ensures
+        | else-is_hidden w ↦ w.table-is ∙ clear_other (hidden_in c.args.set) _ _ _ _ (sym c.is_hidden.ensures ∙ w.if-is_hidden.false) l.invariant.1
       ],
     )
 

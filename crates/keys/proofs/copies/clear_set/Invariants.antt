@@ -5,7 +5,6 @@ use Rattle.rules.specs.Hidden.{hidden_in}
 use Rattle.keys.proofs.KeyCopies.{cleared_up_to}
 use Rattle.keys.proofs.copies.clear_set.Given as goal
 
-
 abbrev pub invariant-loop-j : goal.invariant-loop-j
 invariant-loop-j l = (l.j ≤ l.n) × (l.table ≡ cleared_up_to (hidden_in l.set) l.n l.j l.initial.table)
 

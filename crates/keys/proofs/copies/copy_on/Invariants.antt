@@ -5,7 +5,6 @@ use lib.ListN.{length}
 use Rattle.keys.proofs.KeyCopies.{copied_up_to}
 use Rattle.keys.proofs.copies.copy_on.Given as goal
 
-
 abbrev pub invariant-loop-i : goal.invariant-loop-i
 invariant-loop-i l = (l.i ≤ l.m) × (length l.words ≡ length l.initial.words) × (l.words ≡ copied_up_to l.m l.i l.initial.words)
 

@@ -8,7 +8,6 @@ use Rattle.keys.specs.Keys.{hide_up_to}
 use Rattle.keys.proofs.Deciding.{NoneMet}
 use Rattle.keys.proofs.key.hide_members.Given as goal
 
-
 abbrev pub invariant-loop-j : goal.invariant-loop-j
 invariant-loop-j l =
     (l.j ≤ l.n) × (length l.table ≡ length l.initial.table) × (length l.list ≡ length l.initial.list) × (length l.plus ≡ length l.initial.plus) × (length l.minus ≡ length l.initial.minus)

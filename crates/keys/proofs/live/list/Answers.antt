@@ -39,18 +39,18 @@ loop-i-preserved c =
     let last : l.count < length l.out = omega (arith, l.invariant.2, c.requires.1) in
     rw (add-one l.i)
     (elim c.if-is_live.branch [
-    then-is_live w ↦ rw (w.out-is, w.count-is, add-one l.count) (
-      omega arith,
-      omega arith,
-      length-set l.out l.count l.i ∙ l.invariant.2,
-      live_put _ _ _ l.i l.count l.out (sym live ∙ w.if-is_live.true) last l.invariant.3,
-    )
-    | else-is_live w ↦ rw (w.out-is, w.count-is) (
-      omega arith,
-      omega arith,
-      l.invariant.2,
-      live_passed _ _ _ l.i l.count l.out (sym live ∙ w.if-is_live.false) l.invariant.3,
-    )
+      | then-is_live w ↦ rw (w.out-is, w.count-is, add-one l.count) (
+        omega arith,
+        omega arith,
+        length-set l.out l.count l.i ∙ l.invariant.2,
+        live_put _ _ _ l.i l.count l.out (sym live ∙ w.if-is_live.true) last l.invariant.3,
+      )
+      | else-is_live w ↦ rw (w.out-is, w.count-is) (
+        omega arith,
+        omega arith,
+        l.invariant.2,
+        live_passed _ _ _ l.i l.count l.out (sym live ∙ w.if-is_live.false) l.invariant.3,
+      )
     ])
 
 pub shape_of-out : goal.shape_of-out

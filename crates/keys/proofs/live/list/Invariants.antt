@@ -6,7 +6,6 @@ use lib.ListN.{length}
 use Rattle.keys.specs.Inner.{LiveListed}
 use Rattle.keys.proofs.live.list.Given as goal
 
-
 abbrev pub invariant-loop-i : goal.invariant-loop-i
 invariant-loop-i l =
     (l.i ≤ l.n) × (l.count ≤ l.i) × (length l.out ≡ length l.initial.out) × LiveListed l.i l.set l.part l.from l.count l.out

@@ -6,7 +6,6 @@ use Rattle.places.specs.Numbering.{block_start}
 use Rattle.keys.specs.Inner.{member_of, AtTurns}
 use Rattle.keys.proofs.turns.take_turns.Given as goal
 
-
 abbrev pub invariant-loop-j : goal.invariant-loop-j
 invariant-loop-j l =
     (l.j ≤ l.n) × (length l.table ≡ length l.initial.table) × (length l.list ≡ length l.initial.list) × (length l.plus ≡ length l.initial.plus) × (length l.minus ≡ length l.initial.minus)

@@ -15,7 +15,6 @@ use Rattle.lines.specs.Inner.{list_answer}
 use Rattle.lines.proofs.Members.{Reading, reading_first, reading_none, reading_past, reading_unordered, reading_room, reading_end, reading_more}
 use Rattle.lines.proofs.hidden.listed.Given as goal
 
-
 abbrev pub invariant-loop-from : goal.invariant-loop-from
 invariant-loop-from l =
     Reading l.n l.line l.s (list_answer l.n l.line l.s (drop l.at l.s)) l.found.set l.found.within l.start l.end l.from

@@ -35,11 +35,11 @@ returns-in-One c = rule_answered _ _ _
 
 pub returns-in-Two : goal.returns-in-Two
 returns-in-Two c = rule_answered _ _ _ (rw (
-      c.two.ensures,
-      held_value {z = c.in-Two.bound} c.in-Two.known_told-in-Two-1-own.given.0.1,
-      held_value {z = c.in-Two.first} c.in-Two.known_told-in-Two-1-own.given.1.1.0.1,
-      held_value {z = c.in-Two.second} c.in-Two.known_told-in-Two-1-own.given.1.1.1.0.1,
-    )
+  c.two.ensures,
+  held_value {z = c.in-Two.bound} c.in-Two.known_told-in-Two-1-own.given.0.1,
+  held_value {z = c.in-Two.first} c.in-Two.known_told-in-Two-1-own.given.1.1.0.1,
+  held_value {z = c.in-Two.second} c.in-Two.known_told-in-Two-1-own.given.1.1.1.0.1,
+)
     (judged_form c.before.before.before (Two c.in-Two.bound c.in-Two.next c.in-Two.first c.in-Two.second) c.in-Two.is))
 
 pub returns-in-Malformed : goal.returns-in-Malformed

@@ -15,7 +15,6 @@ use Rattle.lines.proofs.signed.with_sign.Goals as goal
 abbrev Start : Type 0
 Start = lts.Start reads.Pre reads.Post
 
-
 -- the number below 0
 below : (c : Start) → pos 0 -ℤ to_z w64 c.args.value ≡ neg_ℤ (pos c.args.value)
 below c = rw (word_value (cap_word _ c.requires)) (+ℤ_idl (neg_ℤ (pos c.args.value)))

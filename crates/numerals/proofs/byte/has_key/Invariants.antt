@@ -12,7 +12,6 @@ use Rattle.numerals.specs.Parsing.{starts_with}
 use Rattle.numerals.proofs.Keys.{starts_end, starts_next, starts_passed, starts_short}
 use Rattle.numerals.proofs.byte.has_key.Given as goal
 
-
 abbrev pub invariant-loop-i : goal.invariant-loop-i
 invariant-loop-i l = (l.i ≤ length l.key) × (starts_with (drop l.i l.key) (drop (l.at + l.i) l.s) ≡ starts_with l.key (drop l.at l.s))
 

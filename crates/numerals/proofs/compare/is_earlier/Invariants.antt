@@ -11,7 +11,6 @@ use Rattle.numerals.specs.Order.{earlier}
 use Rattle.numerals.proofs.Order.{earlier_past, earlier_passed, earlier_next}
 use Rattle.numerals.proofs.compare.is_earlier.Given as goal
 
-
 abbrev pub invariant-loop-i : goal.invariant-loop-i
 invariant-loop-i l = earlier (drop l.i l.x) (drop l.i l.y) ≡ earlier l.x l.y
 

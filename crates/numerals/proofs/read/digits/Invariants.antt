@@ -14,7 +14,6 @@ use Rattle.numerals.proofs.Values.{capped_cap}
 use Rattle.numerals.proofs.Reading.{answer_told, digits_next, answer_stop}
 use Rattle.numerals.proofs.read.digits.Given as goal
 
-
 abbrev pub invariant-loop-value : goal.invariant-loop-value
 invariant-loop-value l =
     (l.value ≤ cap) × (l.next ≤ length l.s) × (numeral_answer l.s (digits_from l.value (drop l.next l.s)) ≡ numeral_answer l.s (digits_from l.first (drop l.at l.s)))

@@ -13,7 +13,6 @@ use Rattle.numerals.proofs.Decimals.{last_digits, last_none, last_more, last_len
 use Rattle.numerals.proofs.Splices.{splice_none, splice_before}
 use Rattle.numerals.proofs.write.put_number.Given as goal
 
-
 abbrev pub invariant-loop-i : goal.invariant-loop-i
 invariant-loop-i l =
     (l.at ≤ l.i) × (l.i ≤ length l.initial.out) × (length l.out ≡ length l.initial.out) × (splice l.out l.at (last_digits (l.i - l.at) l.rest) ≡ splice l.initial.out l.at (decimal l.v))

@@ -19,7 +19,6 @@ After-magnitude = lts.After-magnitude tie.the-claims reads.Pre reads.Post
 abbrev After-magnitude-2 : Type 0
 After-magnitude-2 = lts.After-magnitude2 tie.the-claims reads.Pre reads.Post
 
-
 -- the numeral of a word below 0
 below : (c : After-magnitude) → signed_decimal c.args.c ≡ minus ∷ decimal c.magnitude.result
 below c = word_below c.ranges.c c.if-c-lt0.true c.magnitude.ensures

@@ -9,7 +9,6 @@ use lib.Seq.{paste, paste-zero, paste-suc, take-length}
 use Rattle.numerals.specs.Writing.{splice}
 use Rattle.numerals.proofs.write.put_text.Given as goal
 
-
 abbrev pub invariant-loop-i : goal.invariant-loop-i
 invariant-loop-i l = (l.i ≤ length l.text) × (length l.out ≡ length l.initial.out) × (l.out ≡ paste l.initial.out l.at l.text l.i)
 

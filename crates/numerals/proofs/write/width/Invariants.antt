@@ -8,7 +8,6 @@ use Rattle.numerals.specs.Decimal.{decimal}
 use Rattle.numerals.proofs.Decimals.{digit_width, more_width, decimal_width}
 use Rattle.numerals.proofs.write.width.Given as goal
 
-
 abbrev pub invariant-loop-rest : goal.invariant-loop-rest
 invariant-loop-rest l = l.k + length (decimal l.rest) ≡ length (decimal l.v) + 1
 

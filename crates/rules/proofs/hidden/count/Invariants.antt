@@ -8,7 +8,6 @@ use Rattle.rules.specs.Hidden.{hidden_in, member_count}
 use Rattle.rules.proofs.Counts.{count_zero, count_more, count_bits}
 use Rattle.rules.proofs.hidden.count.Given as goal
 
-
 abbrev pub invariant-loop-q : goal.invariant-loop-q
 invariant-loop-q l = (l.q ≤ l.n) × (l.members ≤ l.q) × (l.members ≡ member_count (hidden_in l.set) l.q)
 

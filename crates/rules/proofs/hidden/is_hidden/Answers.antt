@@ -9,7 +9,6 @@ use Rattle.rules.specs.Hidden.{hidden_in}
 use Rattle.rules.proofs.Sets.{past_hidden}
 use Rattle.rules.proofs.hidden.is_hidden.Goals as goal
 
-
 bit : (h q : ℕ) → (q ≡ 0 → ⊥) → eqb (h / 2 ^ (q - 1) % 2) 1 ≡ hidden_in h q
 bit h zero n = absurd (n refl)
 bit h (suc j) n = simp unary_clauses

@@ -13,7 +13,6 @@ use Rattle.rules.specs.Promises.{InRange}
 use Rattle.rules.proofs.Sets.{within_hidden, hidden_within}
 use Rattle.rules.proofs.hidden.is_within.Goals as goal
 
-
 wide : (h n : ℕ) → h < 2 ^ 32 → 32 ≤ n → true ≡ set_within n h
 wide h n f l = rw (lt-ltb h (2 ^ n) (lt_of_lt_of_le f (pow_mono {i = 32} {j = n} l)))
 

@@ -22,7 +22,6 @@ use Rattle.rules.proofs.paper.bound_limit.Goals as goal
 abbrev After-count-doublings : Type 0
 After-count-doublings = lts.After-count tie.the-claims reads.Pre reads.Post
 
-
 sheet_limit : (paper : Paper) (n set : ℕ) → paper ≡ Sheet → pos max_bound ≡ pos (bound_limit paper n set)
 unfolding bound_limit
 sheet_limit paper n set e = rw e

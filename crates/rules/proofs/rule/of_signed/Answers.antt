@@ -22,7 +22,6 @@ Then-q-lt0 = lts.Then1 reads.Pre reads.Post
 abbrev Else-q-eq0 : Type 0
 Else-q-eq0 = lts.Else2 reads.Pre reads.Post
 
-
 -- d, which fits, is the half of a literal's code x, and s is the code's last bit
 record Half (d : ℤ) (x s : ℕ) : Type 0 where
   value : d ≡ pos (x / 2)

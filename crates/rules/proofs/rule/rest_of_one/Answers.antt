@@ -16,7 +16,6 @@ use Rattle.rules.proofs.rule.rest_of_one.Goals as goal
 abbrev After-add-together : Type 0
 After-add-together = lts.After-add tie.the-claims reads.Pre reads.Post
 
-
 fitting : (x : ℕ) (a b d : ℤ) → total_of a b ≡ Sum d → One x d ≡ fitted (One x (a +ℤ b))
 unfolding fitted
 fitting x a b d e = let f = sum_total a b d e in rw (f.0, f.1)

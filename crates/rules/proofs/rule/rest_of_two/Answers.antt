@@ -29,7 +29,6 @@ Else-x-y = lts.Else2 tie.the-claims reads.Pre reads.Post
 abbrev After-add-together : Type 0
 After-add-together = lts.After-add tie.the-claims reads.Pre reads.Post
 
-
 module _ (x y : ℕ) (s : ℤ) where
   cancelling : y ≡ negated x → Nothing (saturated s) ≡ fitted (rest_rule (With x) (With y) s)
   unfolding rest_rule fitted

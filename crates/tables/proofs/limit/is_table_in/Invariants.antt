@@ -24,7 +24,6 @@ use Rattle.tables.proofs.Tests.{clash}
 use Rattle.tables.proofs.Limits.{in_limit_more, in_limit_none, in_limit_zero, words_in_limit_within}
 use Rattle.tables.proofs.limit.is_table_in.Given as goal
 
-
 abbrev pub invariant-loop-i : goal.invariant-loop-i
 invariant-loop-i l = (words_in_limit (l.m - l.i) l.limit (drop l.i l.table) ≡ words_in_limit l.m l.limit l.table) × NoneAbove l.i l.table
 

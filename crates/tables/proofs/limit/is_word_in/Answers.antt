@@ -23,7 +23,6 @@ Then-w-opposite = lts.Then2 tie.the-claims reads.Pre reads.Post
 abbrev Else-w-opposite : Type 0
 Else-w-opposite = lts.Else2 tie.the-claims reads.Pre reads.Post
 
-
 too_low : (w B : ℤ) → has_rule w ≡ true → le_z w (opposite_bound B) ≡ true → false ≡ in_limit B w
 unfolding in_limit
 too_low w B e l = rw (e, lt_le_z (neg_ℤ B) w (omega (linear, le_z_true w (opposite_bound B) l, parts_neg B, parts_opposite B)))

@@ -86,7 +86,7 @@ loop-k-smaller c = omega arith
 pub loop-k-preserved : goal.loop-k-preserved
 loop-k-preserved c = naming_next _ _ _ _ _ c.loop-k.invariant (room c.before.before.before.before) c.loop-k-test.true
     (elim c.if-w-lt-NO_RULE.branch [
-      then-w-lt-NO_RULE+else-names_hidden w ↦ rw (ruled c.before true w.if-w-lt-NO_RULE.true)
+      | then-w-lt-NO_RULE+else-names_hidden w ↦ rw (ruled c.before true w.if-w-lt-NO_RULE.true)
           (sym (rw (w.rule_at.ensures.reply, held_value {z = word_at c.args.table.now c.loop-k.k} c.w-1.given) at w.names_hidden.ensures)
           ∙ w.if-names_hidden.false)
       | else-w-lt-NO_RULE w ↦ rw (ruled c.before false w.if-w-lt-NO_RULE.false)

@@ -22,7 +22,6 @@ use Rattle.tables.proofs.Sizes.{small_start, size_known}
 use Rattle.tables.proofs.Naming.{names_answered, naming_found, naming_next, naming_end}
 use Rattle.tables.proofs.names.any_names_hidden.Given as goal
 
-
 abbrev pub invariant-loop-k : goal.invariant-loop-k
 invariant-loop-k l = any_names_hidden (hidden_in l.set) l.k (drop l.k (take l.m l.table)) ≡ any_names_hidden (hidden_in l.set) 0 (take l.m l.table)
 

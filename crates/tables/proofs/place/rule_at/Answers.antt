@@ -13,7 +13,6 @@ use Rattle.tables.specs.Places.{rule_at}
 use Rattle.tables.proofs.Promised.{at_place}
 use Rattle.tables.proofs.place.rule_at.Goals as goal
 
-
 -- the block found starts at the place or before it, and no sooner than twice its number
 starts : (k b : ℕ) → b ≡ block_of k → (2 * b ≤ 2 * (b * b)) × (2 * (b * b) ≤ k)
 unfolding block_start

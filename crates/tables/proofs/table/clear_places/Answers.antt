@@ -76,8 +76,7 @@ loop-b-smaller c = omega arith
 
 pub loop-b-preserved : goal.loop-b-preserved
 loop-b-preserved c =
-    let l = c.loop-b in
-    (
+    let l = c.loop-b in (
       omega arith,
       omega arith,
       rw (add-one l.b) (omega (arith, block_start_suc l.b)),

@@ -17,7 +17,6 @@ use Rattle.tables.proofs.Sizes.{small_square, small_start}
 use Rattle.tables.proofs.Clearing.{clear_own, clear_more}
 use Rattle.tables.proofs.table.clear_places.Given as goal
 
-
 abbrev pub invariant-loop-b : goal.invariant-loop-b
 invariant-loop-b l =
     (l.j < l.b) × (l.b ≤ l.n) × (l.next ≡ block_start l.b) × (l.next ≤ 2 * (max_quantities * max_quantities)) × (length l.table ≡ length l.initial.table)

@@ -9,7 +9,6 @@ use lib.Dec.{leb}
 use Rattle.tables.specs.Tables.{table_size, serves}
 use Rattle.tables.proofs.table.serves.Goals as goal
 
-
 no_size : (n words s : ℕ) → s ≡ table_size n → s ≡ 0 → false ≡ serves n words
 unfolding serves
 no_size n words s e z = rw (sym e ∙ z)

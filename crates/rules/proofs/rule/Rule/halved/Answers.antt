@@ -10,7 +10,6 @@ use Rattle.integers.proofs.Parts.{held_value}
 use Rattle.rules.proofs.Meanings.{halved_meaning}
 use Rattle.rules.proofs.rule.Rule.halved.Goals as goal
 
-
 is_halved : (r s : Rule) → s ≡ halved_of r → Halved r s
 is_halved r s e = record { reply = e; meaning = λ σ. rw e (halved_meaning σ r) }
 

@@ -13,7 +13,6 @@ use Rattle.rules.proofs.Meanings.{rule_of_meaning}
 use Rattle.rules.proofs.Words.{narrow_value, zero_bits, nonzero_bits}
 use Rattle.rules.proofs.rule.Rule.new.Goals as goal
 
-
 made : (p q c : ℤ) (r : Rule) → r ≡ rule_of p q c → Made p q c r
 made p q c r e = record { reply = e; meaning = λ σ. rw e (rule_of_meaning σ p q c) }
 

@@ -8,7 +8,6 @@ use Rattle.integers.proofs.Parts.{held_value}
 use Rattle.rules.proofs.Meanings.{opposite_meaning}
 use Rattle.rules.proofs.rule.Rule.opposite.Goals as goal
 
-
 is_opposite : (r s : Rule) → s ≡ opposite_of r → Opposite r s
 is_opposite r s e = record { reply = e; meaning = λ σ. rw e (opposite_meaning σ r) }
 

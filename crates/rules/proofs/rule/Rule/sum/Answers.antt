@@ -9,7 +9,6 @@ use Rattle.rules.specs.Promises.{Added}
 use Rattle.rules.proofs.Meanings.{sum_sound, sum_exact, sum_gone}
 use Rattle.rules.proofs.rule.Rule.sum.Goals as goal
 
-
 is_sum : (z : ℕ) (r s t : Rule) → t ≡ sum_over z r s → Added z r s t
 is_sum z r s t e = record {
   reply = e;

@@ -1,10 +1,10 @@
 -- What a lent slice rules out, on one of three words of which two are lent, as of a table of n 1. Assumes nothing.
 use mathlib.Core.Path.{◌≡◌, refl}
 use mathlib.Core.Bool.{Bool, false}
-use mathlib.Core.List.{List, [], ◌∷◌}
+use mathlib.Core.List.{[], ◌∷◌}
 use Prim.Native.Nat.{ℕ}
 use native.Mathlib.Omega.{arith}
-use lib.IntN.{ℤ, pos}
+use lib.IntN.{pos}
 use Rattle.words.specs.Lent.{Lent}
 
 -- a program that changes a word past those lent, be they free or not

@@ -10,7 +10,6 @@ use Rattle.integers.specs.declared.Total.TheVariants.{Sum, Overflow}
 use Rattle.integers.specs.Bound.{least_word, greatest_word, total_of}
 use Rattle.integers.proofs.Parts.{linear, positive_part, negative_part, parts_add, parts_neg, word_to, word_of, word_value, word_in_word, below_in_word, above_in_word, lt_z_true, lt_z_false}
 use Rattle.integers.proofs.add.Lts as lts
-use Rattle.integers.proofs.add.Tie as tie
 use Rattle.integers.proofs.add.Reads as reads
 use Rattle.integers.proofs.add.Goals as goal
 

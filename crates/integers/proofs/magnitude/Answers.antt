@@ -8,7 +8,6 @@ use lib.IntN.{ℤ, pos, negsuc, nat_abs}
 use lib.Signed.{lt_z, non_neg}
 use mir.Syntax.{w64}
 use mir.Val.{SFits, to_z, of_z}
-use borrow.Author.Rules.{rules}
 use Rattle.integers.specs.Bound.{opposite_bound}
 use Rattle.integers.proofs.Parts.{linear, positive_part, negative_part, parts_opposite, lt_z_true, word_value, held_value}
 use Rattle.integers.proofs.magnitude.Lts as lts

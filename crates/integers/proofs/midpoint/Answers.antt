@@ -6,7 +6,6 @@ use lib.IntN.{ℤ, pos, ◌+ℤ◌}
 use lib.Signed.{lt_z}
 use mir.Syntax.{w64}
 use mir.Val.{SFits, to_z, of_z}
-use borrow.Author.Rules.{rules}
 use Rattle.integers.specs.Bound.{half}
 use Rattle.integers.proofs.Parts.{linear, positive_part, negative_part, parts_add, parts_half, word_to, word_of, word_value, held_value}
 use Rattle.integers.proofs.midpoint.Lts as lts

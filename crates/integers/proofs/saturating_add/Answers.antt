@@ -6,7 +6,6 @@ use lib.IntN.{ℤ, pos, ◌+ℤ◌}
 use lib.Signed.{lt_z}
 use mir.Syntax.{w64}
 use mir.Val.{SFits}
-use borrow.Author.Rules.{rules}
 use Rattle.integers.specs.declared.Total.TheVariants.{Sum, Overflow}
 use Rattle.integers.specs.Bound.{total_of, saturated, least_word, greatest_word}
 use Rattle.integers.proofs.Parts.{total_value, linear, positive_part, negative_part, parts_add, word_to, word_value, held_value, lt_z_true, lt_z_false, sum_total, overflow_total, word_cases, saturated_word, saturated_below, saturated_above}

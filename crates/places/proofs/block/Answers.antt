@@ -1,13 +1,12 @@
 -- `places::block` meets its contract. The loop's invariant: the present block starts at the place or before it; where the loop ends the next
 -- one starts past it, so the block is the one found. The measure is what is left of the place. Assumes nothing.
 use mathlib.Core.Path.{sym}
-use Prim.Native.Nat.{suc, ◌+◌, ◌-◌, ◌*◌, ◌≤◌, ◌<◌}
+use Prim.Native.Nat.{suc, ◌+◌, ◌<◌}
 use native.Mathlib.Omega.{arith}
 use Rattle.places.specs.Numbering.{block_start}
 use Rattle.places.proofs.Fits.{small_block, next_square}
 use Rattle.places.proofs.Numbering.{block_unique, block_start_above}
 use Rattle.places.proofs.block.Lts as lts
-use Rattle.places.proofs.block.Tie as tie
 use Rattle.places.proofs.block.Reads as reads
 use Rattle.places.proofs.block.Goals as goal
 

@@ -1,11 +1,6 @@
 -- `places::block` meets its contract. The loop's invariant: the present block starts at the place or before it; where the loop ends the next
 -- one starts past it, so the block is the one found. The measure is what is left of the place. Assumes nothing.
-use mathlib.Core.Path.{sym}
-use Prim.Native.Nat.{suc, ◌+◌, ◌-◌, ◌*◌, ◌≤◌, ◌<◌}
-use native.Mathlib.Omega.{arith}
-use Rattle.places.specs.Numbering.{block_start}
-use Rattle.places.proofs.Fits.{small_block, next_square}
-use Rattle.places.proofs.Numbering.{block_unique, block_start_above}
+use Prim.Native.Nat.{◌-◌, ◌*◌, ◌≤◌}
 use Rattle.places.proofs.block.Given as goal
 
 abbrev pub invariant-loop-j : goal.invariant-loop-j

@@ -1,6 +1,5 @@
 -- `places::of_two` meets its contract: the tests are the definition's. Assumes nothing.
 use mathlib.Core.Path.{ap}
-use borrow.Author.Rules.{rules}
 use borrow.Author.Tests.{lt-ltb, le-ltb, eq-eqb, ne_eqb}
 use Rattle.places.specs.declared.Place.TheVariants.{At}
 use Rattle.places.specs.Numbering.{place_of_two, find_two}

@@ -3,21 +3,19 @@
 use mathlib.Core.Path.{◌≡◌, refl, ◌∙◌, sym, ap}
 use mathlib.Core.Bool.{Bool, true, false}
 use mathlib.Core.List.{List}
-use Prim.Native.Nat.{ℕ, ◌-◌, ◌≤◌, max}
+use Prim.Native.Nat.{ℕ, ◌≤◌, max}
 use native.Mathlib.Numerals.{add-one}
 use native.Mathlib.Omega.{arith}
 use lib.Dec.{leb}
-use lib.ListN.{length, length-set}
+use lib.ListN.{length-set}
 use lib.IntN.{ℤ}
 use mir.Syntax.{w64}
 use mir.Val.{to_z, of_z}
-use borrow.Author.Rules.{rules}
 use borrow.Author.Tests.{leb-true, leb-false}
 use Rattle.integers.proofs.Parts.{word_value}
 use Rattle.words.specs.Change.{change, fill_from}
 use Rattle.words.proofs.Change.{change_end, fill_more, fill_before}
 use Rattle.words.proofs.fill.Lts as lts
-use Rattle.words.proofs.fill.Tie as tie
 use Rattle.words.proofs.fill.Reads as reads
 use Rattle.words.proofs.fill.Goals as goal
 

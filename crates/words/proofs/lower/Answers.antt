@@ -5,7 +5,6 @@ use lib.ListN.{set}
 use lib.IntN.{ℤ}
 use mir.Syntax.{w64}
 use mir.Val.{SFits, to_z, of_z}
-use borrow.Author.Rules.{rules}
 use Rattle.integers.proofs.Parts.{word_value, held_value}
 use Rattle.integers.specs.Bound.{smaller}
 use Rattle.words.specs.Change.{word_at, lowered}

@@ -1,5 +1,4 @@
 -- `hidden::bit` meets its contract. Assumes nothing.
-use borrow.Author.Rules.{rules}
 use Rattle.rules.proofs.Sets.{bit_shifted}
 use Rattle.rules.proofs.hidden.bit.Goals as goal
 

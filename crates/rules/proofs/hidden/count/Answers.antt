@@ -1,9 +1,8 @@
 -- `hidden::count` meets its contract. The loop's invariant: what is counted are the members among the quantities so far; past the set's bits there are no more. Assumes nothing.
-use mathlib.Core.Path.{◌≡◌, refl, sym, ◌∙◌}
-use mathlib.Core.Bool.{Bool, true, false, cond}
-use Prim.Native.Nat.{ℕ, ◌+◌, ◌-◌, ◌≤◌}
+use mathlib.Core.Path.{◌≡◌, sym, ◌∙◌}
+use mathlib.Core.Bool.{Bool, cond}
+use Prim.Native.Nat.{ℕ, ◌+◌}
 use native.Mathlib.Omega.{arith}
-use borrow.Author.Rules.{rules}
 use Rattle.rules.specs.Hidden.{hidden_in, member_count}
 use Rattle.rules.proofs.Counts.{count_zero, count_more, count_bits}
 use Rattle.rules.proofs.hidden.count.Goals as goal

@@ -1,11 +1,7 @@
 -- `hidden::count` meets its contract. The loop's invariant: what is counted are the members among the quantities so far; past the set's bits there are no more. Assumes nothing.
-use mathlib.Core.Path.{◌≡◌, refl, sym, ◌∙◌}
-use mathlib.Core.Bool.{Bool, true, false, cond}
-use Prim.Native.Nat.{ℕ, ◌+◌, ◌-◌, ◌≤◌}
-use native.Mathlib.Omega.{arith}
-use borrow.Author.Rules.{rules}
+use mathlib.Core.Path.{◌≡◌}
+use Prim.Native.Nat.{◌-◌, ◌≤◌}
 use Rattle.rules.specs.Hidden.{hidden_in, member_count}
-use Rattle.rules.proofs.Counts.{count_zero, count_more, count_bits}
 use Rattle.rules.proofs.hidden.count.Given as goal
 
 abbrev pub invariant-loop-q : goal.invariant-loop-q

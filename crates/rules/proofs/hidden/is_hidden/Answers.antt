@@ -4,7 +4,6 @@ use mathlib.Core.Path.{◌≡◌, refl, sym}
 use Prim.Native.Nat.{ℕ, zero, suc, ◌-◌, ◌/◌, ◌%◌, ◌^◌}
 use native.Mathlib.Numerals.{unary_clauses}
 use lib.Dec.{eqb}
-use borrow.Author.Rules.{rules}
 use Rattle.rules.specs.Hidden.{hidden_in}
 use Rattle.rules.proofs.Sets.{past_hidden}
 use Rattle.rules.proofs.hidden.is_hidden.Goals as goal

@@ -6,7 +6,6 @@ use native.Mathlib.Omega.{arith}
 use native.Mathlib.Nat.{div-eq_of_lt, lt_of_lt_of_le, le-div_iff_mul-le, one-le-pow}
 use lib.Dec.{eqb, ltb}
 use lib.Pow.{pow_mono}
-use borrow.Author.Rules.{rules}
 use borrow.Author.Tests.{lt-ltb, ltb-true, ltb-false, ne_eqb}
 use Rattle.rules.specs.Hidden.{set_within}
 use Rattle.rules.specs.Promises.{InRange}

@@ -1,7 +1,6 @@
 -- `literal::is_quantity` meets its contract. Assumes nothing.
 use mathlib.Core.Path.{◌≡◌, sym, ◌∙◌, ap}
 use lib.IntN.{nat_abs}
-use borrow.Author.Rules.{rules}
 use Rattle.integers.proofs.Parts.{word_value}
 use Rattle.rules.specs.Literal.{quantity_within}
 use Rattle.rules.proofs.Quantities.{within_low, within_high}

@@ -8,7 +8,6 @@ use lib.Pow.{pow_mono}
 use mir.Syntax.{w64}
 use mir.Val.{to_z, SFits}
 use mir.ValLaws.{to_z-of_z}
-use borrow.Author.Rules.{rules}
 use Rattle.rules.specs.declared.paper.Paper.{Paper}
 use Rattle.rules.specs.declared.paper.Paper.TheVariants.{Sheet, Script}
 use Rattle.rules.specs.Hidden.{hidden_in, member_count}

@@ -12,7 +12,6 @@ use Rattle.integers.proofs.Parts.{linear, positive_part, negative_part, parts_ad
 use Rattle.rules.specs.Literal.{literal_of}
 use Rattle.rules.proofs.Words.{narrow_value, zero_bits, nonzero_bits}
 use Rattle.rules.proofs.rule.of_signed.Lts as lts
-use Rattle.rules.proofs.rule.of_signed.Tie as tie
 use Rattle.rules.proofs.rule.of_signed.Reads as reads
 use Rattle.rules.proofs.rule.of_signed.Goals as goal
 

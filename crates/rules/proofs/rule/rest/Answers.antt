@@ -1,5 +1,4 @@
 -- `rule::rest` meets its contract: the cases are the definition's. Assumes nothing.
-use borrow.Author.Rules.{rules}
 use Rattle.integers.specs.Bound.{saturated}
 use Rattle.integers.proofs.Parts.{word_value, held_value}
 use Rattle.rules.specs.Steps.{rest_rule, fitted}

@@ -2,7 +2,6 @@
 use mathlib.Core.Path.{◌≡◌, ◌∙◌}
 use Prim.Native.Nat.{ℕ}
 use lib.IntN.{ℤ, ◌+ℤ◌}
-use borrow.Author.Rules.{rules}
 use Rattle.integers.specs.declared.Total.TheVariants.{Sum, Overflow}
 use Rattle.integers.specs.Bound.{total_of}
 use Rattle.integers.proofs.Parts.{total_value, held_value, sum_total, overflow_total}

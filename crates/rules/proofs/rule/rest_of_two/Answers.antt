@@ -6,7 +6,6 @@ use Prim.Native.Nat.{ℕ, ◌<◌, ◌^◌}
 use lib.Dec.{ltb}
 use lib.IntN.{ℤ, ◌+ℤ◌}
 use lib.Signed.{mag}
-use borrow.Author.Rules.{rules}
 use borrow.Author.Tests.{eq-eqb, ne_eqb, lt-ltb, le-ltb}
 use Rattle.integers.specs.declared.Total.TheVariants.{Sum, Overflow}
 use Rattle.integers.specs.Bound.{half, saturated, total_of}

@@ -1,18 +1,16 @@
 -- `given::of_numbers` meets its contract: the limits of its numbers, whether they have the sum 0, then the rule. Assumes nothing.
 use mathlib.Core.Path.{◌≡◌, sym, ◌∙◌, ap, ap₂}
-use mathlib.Core.Bool.{true, false}
+use mathlib.Core.Bool.{true}
 use native.Mathlib.Omega.{arith}
 use lib.Dec.{leb}
 use lib.IntN.{ℤ, pos, nat_abs, ◌+ℤ◌}
 use mir.Syntax.{w32, w64}
 use mir.Val.{SFits, to_z, of_z}
-use borrow.Author.Rules.{rules}
-use borrow.Author.Tests.{not-true, not-false, le-leb, lt-leb}
+use borrow.Author.Tests.{le-leb, lt-leb}
 use Rattle.integers.proofs.Parts.{word_value}
 use Rattle.rules.specs.declared.paper.Paper.TheVariants.{Sheet}
 use Rattle.rules.specs.Limits.{bound_limit}
 use Rattle.rules.specs.Literal.{quantity_within}
-use Rattle.rules.specs.Steps.{rule_of}
 use Rattle.rules.proofs.Quantities.{within_narrow, within_sum}
 use Rattle.rules.proofs.Words.{narrow_value}
 use Rattle.tables.proofs.Giving.{limit_casts, limit_value, given_first, given_bound, given_one, given_second, given_cancels, given_two}

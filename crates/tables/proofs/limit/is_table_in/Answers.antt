@@ -12,8 +12,7 @@ use lib.ListN.{length, drop, drop_of_length-le, get_or-eq_default}
 use lib.Signed.{mag, ◌≤ℤ◌}
 use mir.Syntax.{w64}
 use mir.Val.{to_z, of_z}
-use borrow.Author.Rules.{rules}
-use borrow.Author.Tests.{not-true, not-false, ltb-true, ltb-false}
+use borrow.Author.Tests.{ltb-true, ltb-false}
 use Rattle.integers.proofs.Parts.{linear, positive_part, negative_part, word_to, word_value, held_value}
 use Rattle.words.specs.Change.{word_at}
 use Rattle.rules.specs.Limits.{no_rule}

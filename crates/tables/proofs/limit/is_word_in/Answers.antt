@@ -5,7 +5,6 @@ use lib.IntN.{ℤ, neg_ℤ}
 use lib.Signed.{le_z}
 use mir.Syntax.{w64}
 use mir.Val.{to_z, of_z}
-use borrow.Author.Rules.{rules}
 use Rattle.integers.specs.Bound.{opposite_bound}
 use Rattle.integers.proofs.Parts.{linear, held_value, parts_neg, parts_opposite, le_z_true, le_z_false, le_le_z, lt_le_z, word_value}
 use Rattle.tables.specs.Tables.{has_rule, in_limit}

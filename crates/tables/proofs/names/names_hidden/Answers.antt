@@ -1,6 +1,5 @@
 -- `names::names_hidden` meets its contract: the literals' quantities are looked up in the set, one after the other. Assumes nothing.
 use mathlib.Core.Path.{sym}
-use borrow.Author.Rules.{rules}
 use Rattle.tables.specs.Tables.{names_hidden}
 use Rattle.tables.proofs.names.names_hidden.Goals as goal
 

@@ -1,6 +1,5 @@
 -- `place::place_of` meets its contract: each variant finds what the definition does. Assumes nothing.
 use mathlib.Core.Path.{ap}
-use borrow.Author.Rules.{rules}
 use Rattle.places.specs.declared.Place.TheVariants.{At}
 use Rattle.tables.specs.Places.{find_place}
 use Rattle.tables.proofs.Promised.{placed}

@@ -1,7 +1,6 @@
 -- `table::accepts` meets its contract: its tests are the definition's, and a rule of two literals has a function of its own. Assumes nothing.
 use mathlib.Core.Path.{refl}
 use mathlib.Core.Bool.{true, false}
-use borrow.Author.Rules.{rules}
 use Rattle.integers.proofs.Parts.{held_value}
 use Rattle.tables.proofs.Replies.{one-past, one_inside, bare}
 use Rattle.tables.proofs.table.accepts.Goals as goal

@@ -1,7 +1,6 @@
 -- `table::accepts_two` meets its contract: its tests are the definition's. Assumes nothing.
 use mathlib.Core.Path.{◌∙◌, sym, refl}
 use mathlib.Core.Bool.{true, false}
-use borrow.Author.Rules.{rules}
 use borrow.Author.Tests.{eq-eqb, ne_eqb}
 use Rattle.integers.proofs.Parts.{word_value}
 use Rattle.tables.proofs.Replies.{two_past_first, two_past_second, two_inside}

@@ -5,8 +5,6 @@ use mathlib.Core.Logic.{inl, inr}
 use Prim.Native.Nat.{suc, ◌-◌}
 use native.Mathlib.Omega.{arith}
 use lib.ListN.{length}
-use borrow.Author.Rules.{rules}
-use borrow.Author.Tests.{not-true, not-false}
 use Rattle.tables.specs.Tables.{serves}
 use Rattle.tables.proofs.Sizes.{serves_tells}
 use Rattle.tables.proofs.Promised.{cleared_refused_size, cleared_refused_limit, cleared_done}

@@ -1,18 +1,12 @@
 -- `table::clear_places` meets its contract. The loop's invariant: every block before block b, which starts at `next`, is cleared, given that the
 -- first fill cleared those up to j's own. The measure is the blocks left. Assumes nothing.
 use mathlib.Core.Path.{◌≡◌, refl, ◌∙◌}
-use mathlib.Core.List.{List}
-use Prim.Native.Nat.{suc, ◌-◌, ◌*◌, ◌≤◌, ◌<◌}
+use Prim.Native.Nat.{suc}
 use native.Mathlib.Numerals.{add-one}
 use native.Mathlib.Omega.{arith}
-use lib.IntN.{ℤ}
-use lib.ListN.{length}
-use borrow.Author.Rules.{rules}
-use Rattle.words.specs.Change.{change}
 use Rattle.places.specs.Numbering.{block_start}
 use Rattle.places.proofs.Numbering.{block_start_suc}
-use Rattle.rules.specs.Limits.{max_quantities}
-use Rattle.tables.specs.Tables.{clearing, cleared}
+use Rattle.tables.specs.Tables.{cleared}
 use Rattle.tables.proofs.Sizes.{small_square, small_start}
 use Rattle.tables.proofs.Clearing.{clear_own, clear_more}
 use Rattle.tables.proofs.table.clear_places.Goals as goal

@@ -1,7 +1,5 @@
 -- `table::empty` meets its contract: the words filled are the table's. Assumes nothing.
 use mathlib.Core.Path.{sym, ◌∙◌}
-use borrow.Author.Rules.{rules}
-use borrow.Author.Tests.{not-true, not-false}
 use Rattle.tables.proofs.Promised.{emptied_refused, emptied_done}
 use Rattle.tables.proofs.table.empty.Goals as goal
 

@@ -1,7 +1,5 @@
 -- `table::put` meets its contract: the halved rule gets its reply and goes to its place. Assumes nothing.
 use mathlib.Core.Path.{sym, ◌∙◌, ap}
-use borrow.Author.Tests.{not-true, not-false}
-use borrow.Author.Rules.{rules}
 use Rattle.tables.specs.Tables.{rule_reply}
 use Rattle.tables.proofs.Promised.{put_refused_size, put_refused, put_done}
 use Rattle.tables.proofs.table.put.Goals as goal

@@ -3,7 +3,6 @@ use mathlib.Core.Path.{◌≡◌, sym, ◌∙◌}
 use mathlib.Core.List.{List}
 use lib.IntN.{ℤ}
 use Prim.Native.Nat.{ℕ}
-use borrow.Author.Rules.{rules}
 use Rattle.integers.proofs.Parts.{held_value}
 use Rattle.words.specs.Change.{lowered}
 use Rattle.places.specs.declared.Place.TheVariants.{At, Nowhere}

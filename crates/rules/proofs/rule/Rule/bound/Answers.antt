@@ -1,6 +1,5 @@
 -- `rule::Rule::bound` meets its contract: each variant's bound is the word that it holds. Assumes nothing.
 use mathlib.Core.Path.{◌∙◌, ap, sym}
-use borrow.Author.Rules.{rules}
 use Rattle.integers.proofs.Parts.{held_value}
 use Rattle.rules.specs.Meaning.{bound_of}
 use Rattle.rules.proofs.rule.Rule.bound.Goals as goal

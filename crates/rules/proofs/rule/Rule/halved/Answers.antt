@@ -1,7 +1,6 @@
 -- `rule::Rule::halved` meets its contract: two literals that are alike become one with the bound halved, and nothing else changes.
 -- Assumes nothing.
 use mathlib.Core.Path.{◌≡◌}
-use borrow.Author.Rules.{rules}
 use borrow.Author.Tests.{eq-eqb, ne_eqb}
 use Rattle.rules.specs.declared.rule.Rule.{Rule}
 use Rattle.rules.specs.Steps.{halved_of}

@@ -1,7 +1,6 @@
 -- `rule::Rule::new` meets its contract: each number that is not 0 gives its literal. Assumes nothing.
 use mathlib.Core.Path.{◌≡◌}
 use lib.IntN.{ℤ, pos}
-use borrow.Author.Rules.{rules}
 use Rattle.integers.proofs.Parts.{word_value}
 use Rattle.rules.specs.declared.rule.Rule.{Rule}
 use Rattle.rules.specs.declared.rule.Rule.TheVariants.{One, Two, Nothing}

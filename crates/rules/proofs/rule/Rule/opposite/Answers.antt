@@ -1,6 +1,5 @@
 -- `rule::Rule::opposite` meets its contract: each variant negates its literals and its bound. Assumes nothing.
 use mathlib.Core.Path.{◌≡◌}
-use borrow.Author.Rules.{rules}
 use Rattle.rules.specs.declared.rule.Rule.{Rule}
 use Rattle.rules.specs.Steps.{opposite_of}
 use Rattle.rules.specs.Promises.{Opposite}

@@ -1,5 +1,4 @@
 -- `rule::Rule::partner` meets its contract: the tests are the definition's, in its order. Assumes nothing.
-use borrow.Author.Rules.{rules}
 use borrow.Author.Tests.{eq-eqb, ne_eqb}
 use Rattle.rules.specs.Steps.{partner_of}
 use Rattle.rules.proofs.rule.Rule.partner.Goals as goal

@@ -11,9 +11,10 @@ case ${ACORNSLED_LENT:-/} in
 *) ACORNSLED_LENT=$PWD/$ACORNSLED_LENT ;;
 esac
 
-# Lines of rt and cargo for the log. `fault` is the one that tells most: what rt said last, and cargo's first error.
+# Lines of rt and cargo for the log. `fault` is the one that tells most: the first error, or else what rt said last.
 heard_rt() {
     case $1 in
+    *': error'* | 'fn '*': no'*) error=${error:-$1} ;;
     'rt: '*) fault=$1 ;;
     esac
     printf '%s\n' "$1" >> "$log" 2> /dev/null || :
@@ -25,15 +26,13 @@ heard_cargo() {
     printf '%s\n' "$1" >> "$log" 2> /dev/null || :
 }
 
-# A line of `rt check`, with a word to the user on each crate that is proved in this run.
+# A line of rt while it proves, with a word to the user on each crate that it comes to in this run.
 heard_proof() {
     heard_rt "$1"
     case $1 in
-    'rt: '*' proved (unchanged'*) proved=$((proved + 1)) ;;
-    'rt: '*' proved ('*)
-        proved=$((proved + 1))
-        word=${1#rt: }
-        say "${word%)}, $proved of $crates crates)"
+    'rt: chose --jobs '*' for '*)
+        begun=$((begun + 1))
+        say "proving ${1##* }, $begun of $crates crates at most"
         ;;
     esac
 }
@@ -46,27 +45,30 @@ stop() { # PROGRAM STATUS WHAT-TO-DO
     fail "$3" "All that it said is in $log"
 }
 
-# Runs rt, with a mark that only a run which was cut off leaves behind.
-run_rt() { # FUNCTION WORDS..
+# Runs rt in a folder, with a mark that only a run which was cut off leaves behind.
+run_rt() { # FUNCTION FOLDER WORDS..
     listener=$1
-    shift
+    where=$2
+    shift 2
     need rt 'It comes with the Rattle toolchain, which proves the library.' \
         'A library that is built already is taken from the folder that the variable ACORNSLED_LENT names.'
     printf '' > "$build/proving" || return 2
     fault=''
+    error=''
     ended=0
-    each_line "$listener" "$root" rt "$@" || ended=$?
+    each_line "$listener" "$where" rt "$@" || ended=$?
+    fault=${error:-$fault}
     [ "$ended" -gt 128 ] || rm -f "$build/proving"
     return "$ended"
 }
 
-# How many crates the named ones are, with all that they stand on.
-count() { # CRATE..
-    awk -v wanted="$*" '
+# How many crates the named one is, with all that it stands on.
+count() { # CRATE
+    awk -v wanted="$1" '
         { sub(/#.*/, "") }
         sub(/:/, " ") { name = $1; $1 = ""; floor[name] = $0 }
         END {
-            n = split(wanted, names, " ")
+            n = split(wanted, names)
             for (i = 1; i <= n; i++) {
                 if (!(names[i] in floor) || seen[names[i]]++) continue
                 count++
@@ -77,26 +79,35 @@ count() { # CRATE..
         }' "$root/crates.txt"
 }
 
-# Proves crates, on all cores, and builds those that are programs. What a run left that was cut off is tried first; if rt
-# then fails all is proved from nothing, for rt may have been writing when it was cut off.
-prove() { # CRATE..
+# Proves a crate and all that it stands on, and builds it: a static library by `rt lib`, a program by `rt run`. What a run
+# left that was cut off is tried first; if rt then fails all is proved from nothing, for rt may have been writing when it was
+# cut off.
+prove() { # COMMAND CRATE
     make_room
-    [ ! -e "$root/target" ] || [ -w "$root/target" ] || fail "nothing can be proved here: you may not write to $root/target"
+    [ -w "$root/crates/$2" ] || fail "nothing can be proved here: you may not write to $root/crates/$2"
     cut_off=''
     [ ! -e "$build/proving" ] || cut_off=yes
-    crates=$(count "$@")
-    say "proving what is not proved yet of $crates crates"
-    proved=0
+    crates=$(count "$2")
+    say "proving what is not proved yet of $crates crates, and building $2"
+    begun=0
     ended=0
-    run_rt heard_proof check "$@" || ended=$?
+    run_rt heard_proof "$root/crates/$2" "$1" || ended=$?
     if [ "$ended" -ne 0 ] && [ -n "$cut_off" ]; then
         say 'an earlier run was cut off, and what it left is of no use: proving all from nothing'
-        rm -rf "$root/target"
-        proved=0
+        rm -rf "$root"/crates/*/out
+        begun=0
         ended=0
-        run_rt heard_proof check "$@" || ended=$?
+        run_rt heard_proof "$root/crates/$2" "$1" || ended=$?
     fi
-    [ "$ended" -eq 0 ] || stop rt "$ended" "If it was proved before, remove $root/target and try again."
+    [ "$ended" -eq 0 ] || stop rt "$ended" "If it was proved before, remove the folders $root/crates/*/out and try again."
+}
+
+# Proves and builds programs, and puts them into build/programs.
+programs() { # CRATE..
+    for program; do
+        prove run "$program"
+        replace "$root/crates/$program/out/$program" "$build/programs/$program"
+    done
 }
 
 # Runs cargo on the packages in rust/, over the library in build/lib.
@@ -113,12 +124,17 @@ run_cargo() { # WORDS..
         stop cargo $? "$advice"
 }
 
-# Puts a copy of a file in its place at once. One that is right already keeps its time, so that cargo builds nothing again;
-# else the stamp goes first, for it is of what was there.
+# Puts a copy of a file in its place at once.
+replace() { # FROM TO
+    { mkdir -p -- "${2%/*}" && cp -- "$1" "$room/put" && mv -f -- "$room/put" "$2"; } || fail "not built: no $2"
+}
+
+# The same of what users run. A file that is right already keeps its time, so that cargo builds nothing again; else the stamp
+# goes first, for it is of what was there.
 put() { # FROM TO
     ! cmp -s -- "$1" "$2" || return 0
     rm -f "$build/stamp"
-    { mkdir -p -- "${2%/*}" && cp -- "$1" "$room/put" && mv -f -- "$room/put" "$2"; } || fail "not built: no $2"
+    replace "$1" "$2"
 }
 
 make_library() {
@@ -126,12 +142,8 @@ make_library() {
         put "$ACORNSLED_LENT/libacornsled.a" "$build/lib/libacornsled.a"
         return
     fi
-    # `rt staticlib` proves one crate after the other, so that it is left only its own
-    # shellcheck disable=SC2046 # names are words
-    prove $(sed -n 's/^acornsled://p' "$root/crates.txt")
-    say 'proving acornsled, and building the library'
-    run_rt heard_rt staticlib acornsled || stop rt $? "Remove $root/target and try again."
-    put "$root/target/staticlib/libacornsled.a" "$build/lib/libacornsled.a"
+    prove lib acornsled
+    put "$root/crates/acornsled/out/libacornsled.a" "$build/lib/libacornsled.a"
 }
 
 make_command() {
@@ -148,7 +160,8 @@ make_command() {
 
 # The sources of what is built, with more words for `find`.
 sources() { # WORDS..
-    (cd -- "$root/" && find crates crates.txt include rust/acornsled rust/command rust/Cargo.toml rust/Cargo.lock -type f "$@")
+    (cd -- "$root/" && find crates crates.txt include rust/acornsled rust/command rust/Cargo.toml rust/Cargo.lock \
+        -path 'crates/*/out' -prune -o -type f "$@")
 }
 
 # A number of all that build/ is made of: the names and bytes of the sources, and of the library where it is lent.

@@ -5,7 +5,7 @@
 # with a CDPATH `cd` prints where it went; the others would have cargo build elsewhere
 unset CDPATH CARGO_TARGET_DIR CARGO_BUILD_TARGET_DIR CARGO_BUILD_TARGET
 
-# what users run, on the disk and not in target/, which `rt ci` removes
+# what users run, apart from the folders out/ of the crates, which `rt ci` sets aside
 build=${root?}/build
 room=''
 held=''

@@ -51,11 +51,9 @@ few_lines() { # CASE
 
 # A copy of the repository with what is built of it. That it is built is seen by its bytes, so that the copy is good as well.
 copy() { # FOLDER
-    mkdir -p "$1/rust" "$1/build"
-    for part in key mark install tools crates crates.txt include man rust/acornsled rust/command rust/Cargo.toml \
-        rust/Cargo.lock build/bin build/lib build/stamp; do
-        cp -R "$root/$part" "$1/$part"
-    done
+    mkdir -p "$1"
+    (cd -- "$root/" && tar -c --exclude='crates/*/out' key mark install tools crates crates.txt include man rust/acornsled \
+        rust/command rust/Cargo.toml rust/Cargo.lock build/bin build/lib build/stamp) | (cd -- "$1/" && tar -x)
 }
 
 # The same as `try`, by a user who may read the folder that is named first, and not write there. Root is let do all, so that

@@ -32,18 +32,13 @@ cat > "$fake/bin/rt" << 'END'
 me=rt
 . "$FAKE/begin"
 # what an earlier run left damaged, as long as it is there
-if [ -e target/damaged ]; then
+if [ -e out/damaged ]; then
     echo 'rt: FAILED: second'
     exit 1
 fi
-mkdir -p target/staticlib target/bin
-case $1 in
-check)
-    shift
-    for crate; do echo "rt: $crate proved (1 s)"; done
-    ;;
-staticlib) cat crates/first/src/lib.rt > target/staticlib/libacornsled.a ;;
-esac
+mkdir -p out
+for crate in first second acornsled; do echo "rt: chose --jobs 2 for $crate"; done
+cat ../first/src/lib.rt > out/libacornsled.a
 END
 cat > "$fake/bin/cargo" << 'END'
 #!/bin/sh
@@ -68,10 +63,10 @@ fakes=$fake/bin:$fake/plain
 
 # The small repository, in a folder; nothing of it is built.
 repository() { # FOLDER
-    mkdir -p "$1/crates/first/src" "$1/crates/second/src" "$1/rust/acornsled" "$1/rust/command" "$1/include" \
-        "$1/tests/commands"
+    mkdir -p "$1/crates/first/src" "$1/crates/second/src" "$1/crates/acornsled" "$1/rust/acornsled" "$1/rust/command" \
+        "$1/include" "$1/tests/commands"
     cp -R "$root/key" "$root/mark" "$root/test" "$root/.ci" "$root/tools" "$1"
-    printf 'first:\nsecond: first\nacornsled: first second\n' > "$1/crates.txt"
+    printf 'first:\nsecond: first\nacornsled staticlib: first second\n' > "$1/crates.txt"
     echo one > "$1/crates/first/src/lib.rt"
     echo two > "$1/crates/second/src/lib.rt"
     echo name > "$1/rust/Cargo.toml"

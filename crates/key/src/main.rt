@@ -3,18 +3,15 @@
 
 use reports::key;
 use rules::sheet::Sheet;
-
-const IN: i32 = 0;
-
-const OUT: i32 = 1;
+use std::io;
 
 // One byte more than a text may have, so that a longer one is seen to be longer; the rest of it is not read.
 const BYTES: usize = Sheet::MAX_TEXT + 1;
 
-fn main() {
+fn main(rt: HostRuntime) -> io::Result<()> {
     let mut text = [0; BYTES];
-    let length = input::read_text(IN, &mut text);
+    let length = input::read_text(&mut rt.stdin(), &mut text);
     let mut out = [0; key::ROOM];
     let end = key::print_key(&text[..length], &mut out);
-    io::write_all(OUT, &out[..end]);
+    rt.write_all(&out[..end])
 }

@@ -17,19 +17,19 @@ mod thesis;
 mod verdicts;
 
 // The examples of each source, all in the same words.
-fn run(table: &mut [i64]) {
-    thesis::run(table);
-    slides::run(table);
-    scope::run(table);
+fn run(rt: &impl Print, table: &mut [i64]) {
+    thesis::run(rt, table);
+    slides::run(rt, table);
+    scope::run(rt, table);
 }
 
-fn main() {
-    numbering::run();
-    methods::run();
+fn main(rt: HostRuntime) {
+    numbering::run(&rt);
+    methods::run(&rt);
     let mut table = [0; sheet::PLACES];
-    run(&mut table);
-    verdicts::run();
-    refusals::run();
-    ranges::run();
-    texts::run();
+    run(&rt, &mut table);
+    verdicts::run(&rt);
+    refusals::run(&rt);
+    ranges::run(&rt);
+    texts::run(&rt);
 }

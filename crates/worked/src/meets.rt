@@ -40,36 +40,36 @@ fn term_value(values: &[i64], rule: Rule) -> i64
 }
 
 // Prints the first rule by place that the values break, or that every rule is met.
-pub(crate) fn print_broken(n: usize, table: &[i64], values: &[i64]) {
+pub(crate) fn print_broken(rt: &impl Print, n: usize, table: &[i64], values: &[i64]) {
     let mut k = 0;
     while k < sheet::PLACES {
         let word = sheet::word_at(n, table, k);
         if word < Sheet::NO_RULE {
             let rule = tables::place::rule_at(k as u32, word);
             if word < term_value(values, rule) {
-                sheet::print_rule(b"broken=", rule);
+                sheet::print_rule(rt, b"broken=", rule);
                 return;
             }
         }
         k = k + 1;
     }
-    sheet::head(b"every rule is met");
+    sheet::head(rt, b"every rule is met");
 }
 
 // Checks three integers on a table over 3 quantities.
-pub(crate) fn three(a: i64, b: i64, c: i64, table: &[i64]) {
+pub(crate) fn three(rt: &impl Print, a: i64, b: i64, c: i64, table: &[i64]) {
     let values = [a, b, c];
-    print_broken(3, table, &values);
+    print_broken(rt, 3, table, &values);
 }
 
 // Finds an assignment of a table over 3 quantities, prints the reply, and checks the integers where there are some.
-pub(crate) fn assignment(table: &[i64]) {
+pub(crate) fn assignment(rt: &impl Print, table: &[i64]) {
     let mut workspace = [0; sheet::PLACES];
     let mut values = [0; 3];
     let reply = keys::assignment::assignment(3, table, &mut workspace, &mut values);
     let number = reply.number();
-    sheet::print_reply(number);
+    sheet::print_reply(rt, number);
     if number == 0 {
-        print_broken(3, table, &values);
+        print_broken(rt, 3, table, &values);
     }
 }

@@ -10,79 +10,80 @@ const PLUS_TWO: u32 = 2;
 const MINUS_TWO: u32 = 3;
 
 // All of these.
-pub(crate) fn run() {
-    opposites();
-    halves();
-    sums_of_doubled_terms();
-    sums_of_two_terms();
-    sums_of_one_term();
-    bare_sums();
+pub(crate) fn run(rt: &impl Print) {
+    opposites(rt);
+    halves(rt);
+    sums_of_doubled_terms(rt);
+    sums_of_two_terms(rt);
+    sums_of_one_term(rt);
+    bare_sums(rt);
 }
 
 // The opposite of a rule.
-fn print_opposite(rule: Rule) {
-    printing::print_text(b"the opposite of ");
-    printing::print_rule(rule);
-    printing::print_text(b" is ");
-    printing::print_rule(rule.opposite());
-    printing::print_text(b"\n");
+fn print_opposite(rt: &impl Print, rule: Rule) {
+    printing::print_text(rt, b"the opposite of ");
+    printing::print_rule(rt, rule);
+    printing::print_text(rt, b" is ");
+    printing::print_rule(rt, rule.opposite());
+    printing::print_text(rt, b"\n");
 }
 
 // A rule halved.
-fn print_half(rule: Rule) {
-    printing::print_rule(rule);
-    printing::print_text(b" halved is ");
-    printing::print_rule(rule.halved());
-    printing::print_text(b"\n");
+fn print_half(rt: &impl Print, rule: Rule) {
+    printing::print_rule(rt, rule);
+    printing::print_text(rt, b" halved is ");
+    printing::print_rule(rt, rule.halved());
+    printing::print_text(rt, b"\n");
 }
 
 // The sum of two rules over a literal of the first.
-fn print_sum(first: Rule, second: Rule, literal: u32) {
-    printing::print_text(b"the sum of ");
-    printing::print_rule(first);
-    printing::print_text(b" and ");
-    printing::print_rule(second);
-    printing::print_text(b" over ");
-    printing::print_literal(literal);
-    printing::print_text(b" is ");
-    printing::print_rule(first.sum(second, literal));
-    printing::print_text(b"\n");
+fn print_sum(rt: &impl Print, first: Rule, second: Rule, literal: u32) {
+    printing::print_text(rt, b"the sum of ");
+    printing::print_rule(rt, first);
+    printing::print_text(rt, b" and ");
+    printing::print_rule(rt, second);
+    printing::print_text(rt, b" over ");
+    printing::print_literal(rt, literal);
+    printing::print_text(rt, b" is ");
+    printing::print_rule(rt, first.sum(second, literal));
+    printing::print_text(rt, b"\n");
 }
 
 // The opposite of t <= c is -t <= -c - 1, also where the term is doubled or there is none.
-fn opposites() {
-    print_opposite(Rule::new(1, 0, 3));
-    print_opposite(Rule::new(1, 3, 5));
-    print_opposite(Rule::new(3, -2, 0));
-    print_opposite(Rule::new(-1, 0, -1));
-    print_opposite(Rule::new(1, 1, 7));
-    print_opposite(Rule::new(0, 0, 0));
+fn opposites(rt: &impl Print) {
+    print_opposite(rt, Rule::new(1, 0, 3));
+    print_opposite(rt, Rule::new(1, 3, 5));
+    print_opposite(rt, Rule::new(3, -2, 0));
+    print_opposite(rt, Rule::new(-1, 0, -1));
+    print_opposite(rt, Rule::new(1, 1, 7));
+    print_opposite(rt, Rule::new(0, 0, 0));
 }
 
 // Document 01's halvings, and terms that are not doubled, which stay.
-fn halves() {
-    print_half(Rule::new(1, 1, 7));
-    print_half(Rule::new(1, 1, 0));
-    print_half(Rule::new(1, 1, -1));
-    print_half(Rule::new(1, 1, -3));
-    print_half(Rule::new(-1, -1, -1));
-    print_half(Rule::new(1, 0, 7));
-    print_half(Rule::new(1, 2, 7));
+fn halves(rt: &impl Print) {
+    print_half(rt, Rule::new(1, 1, 7));
+    print_half(rt, Rule::new(1, 1, 0));
+    print_half(rt, Rule::new(1, 1, -1));
+    print_half(rt, Rule::new(1, 1, -3));
+    print_half(rt, Rule::new(-1, -1, -1));
+    print_half(rt, Rule::new(1, 0, 7));
+    print_half(rt, Rule::new(1, 2, 7));
 }
 
 // Sums whose two remaining terms are alike: the same halvings.
-fn sums_of_doubled_terms() {
-    print_sum(Rule::new(1, 2, 5), Rule::new(1, -2, 2), PLUS_TWO);
-    print_sum(Rule::new(1, 2, 0), Rule::new(1, -2, 0), PLUS_TWO);
-    print_sum(Rule::new(1, 2, 0), Rule::new(1, -2, -1), PLUS_TWO);
-    print_sum(Rule::new(1, 2, 0), Rule::new(1, -2, -3), PLUS_TWO);
+fn sums_of_doubled_terms(rt: &impl Print) {
+    print_sum(rt, Rule::new(1, 2, 5), Rule::new(1, -2, 2), PLUS_TWO);
+    print_sum(rt, Rule::new(1, 2, 0), Rule::new(1, -2, 0), PLUS_TWO);
+    print_sum(rt, Rule::new(1, 2, 0), Rule::new(1, -2, -1), PLUS_TWO);
+    print_sum(rt, Rule::new(1, 2, 0), Rule::new(1, -2, -3), PLUS_TWO);
 }
 
 // Sums that leave two terms, the lower quantity first.
-fn sums_of_two_terms() {
-    print_sum(Rule::new(1, 2, 5), Rule::new(3, -2, 0), PLUS_TWO);
-    print_sum(Rule::new(3, -2, 0), Rule::new(1, 2, 5), MINUS_TWO);
+fn sums_of_two_terms(rt: &impl Print) {
+    print_sum(rt, Rule::new(1, 2, 5), Rule::new(3, -2, 0), PLUS_TWO);
+    print_sum(rt, Rule::new(3, -2, 0), Rule::new(1, 2, 5), MINUS_TWO);
     print_sum(
+        rt,
         Rule::new(1, -2, 1_000_000_000),
         Rule::new(2, -3, 1_000_000_000),
         MINUS_TWO,
@@ -90,14 +91,14 @@ fn sums_of_two_terms() {
 }
 
 // Sums that leave one term, since one of the rules has no other.
-fn sums_of_one_term() {
-    print_sum(Rule::new(1, 2, 5), Rule::new(-2, 0, -1), PLUS_TWO);
-    print_sum(Rule::new(2, 0, 1), Rule::new(1, -2, 2), PLUS_TWO);
+fn sums_of_one_term(rt: &impl Print) {
+    print_sum(rt, Rule::new(1, 2, 5), Rule::new(-2, 0, -1), PLUS_TWO);
+    print_sum(rt, Rule::new(2, 0, 1), Rule::new(1, -2, 2), PLUS_TWO);
 }
 
 // Bare sums: the rest cancels, or nothing remains. A bound below 0 is a contradiction.
-fn bare_sums() {
-    print_sum(Rule::new(1, 2, 1), Rule::new(-1, -2, -1), PLUS_ONE);
-    print_sum(Rule::new(1, -2, 0), Rule::new(-1, 2, -1), PLUS_ONE);
-    print_sum(Rule::new(1, 0, 0), Rule::new(-1, 0, -1), PLUS_ONE);
+fn bare_sums(rt: &impl Print) {
+    print_sum(rt, Rule::new(1, 2, 1), Rule::new(-1, -2, -1), PLUS_ONE);
+    print_sum(rt, Rule::new(1, -2, 0), Rule::new(-1, 2, -1), PLUS_ONE);
+    print_sum(rt, Rule::new(1, 0, 0), Rule::new(-1, 0, -1), PLUS_ONE);
 }

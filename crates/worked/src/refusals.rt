@@ -12,19 +12,20 @@ const TABLE: usize = 18;
 const WORKSPACE: usize = 36;
 
 // All of these.
-pub(crate) fn run() {
-    sizes();
-    lent();
-    limits();
-    past_limit(1_000_000_001);
-    past_limit(-1_000_000_001);
-    hidden_named();
-    limits_last();
-    names_last();
+pub(crate) fn run(rt: &impl Print) {
+    sizes(rt);
+    lent(rt);
+    limits(rt);
+    past_limit(rt, 1_000_000_001);
+    past_limit(rt, -1_000_000_001);
+    hidden_named(rt);
+    limits_last(rt);
+    names_last(rt);
 }
 
 // Marks and prints the reply.
 fn mark(
+    rt: &impl Print,
     n: usize,
     hidden: Set,
     paper: &[i64],
@@ -33,107 +34,122 @@ fn mark(
     values: &mut [i64],
 ) {
     let marking = mark::mark(n, hidden, paper, script, workspace, values);
-    replies::print_marking(marking);
-    replies::print_values(values);
+    replies::print_marking(rt, marking);
+    replies::print_values(rt, values);
 }
 
 // Marks with enough lent for 3 quantities, after a heading.
-pub(crate) fn mark_after(heading: &[u8], n: usize, hidden: Set, paper: &[i64], script: &[i64]) {
-    sheet::head(heading);
+pub(crate) fn mark_after(
+    rt: &impl Print,
+    heading: &[u8],
+    n: usize,
+    hidden: Set,
+    paper: &[i64],
+    script: &[i64],
+) {
+    sheet::head(rt, heading);
     let mut workspace = [0; WORKSPACE];
     let mut values = [7; 3];
-    mark(n, hidden, paper, script, &mut workspace, &mut values);
+    mark(rt, n, hidden, paper, script, &mut workspace, &mut values);
 }
 
 // 1: n outside 1 to 32, where the tables have 2n² words all the same, and a table shorter than that. Words past those of a table are not looked at.
-fn sizes() {
+fn sizes(rt: &impl Print) {
     let table = [Sheet::NO_RULE; TABLE];
     let short = [Sheet::NO_RULE; TABLE - 1];
-    mark_after(b"tables marked: n 0", 0, 0, &table, &table);
+    mark_after(rt, b"tables marked: n 0", 0, 0, &table, &table);
     let large = [Sheet::NO_RULE; 2178];
-    mark_after(b"n 33", 33, 0, &large, &large);
-    mark_after(b"n 3, a sheet of 17 words", 3, 0, &short, &table);
-    mark_after(b"n 3, a script of 17 words", 3, 0, &table, &short);
-    mark_after(b"n 3, two tables of 18 words", 3, 0, &table, &table);
+    mark_after(rt, b"n 33", 33, 0, &large, &large);
+    mark_after(rt, b"n 3, a sheet of 17 words", 3, 0, &short, &table);
+    mark_after(rt, b"n 3, a script of 17 words", 3, 0, &table, &short);
+    mark_after(rt, b"n 3, two tables of 18 words", 3, 0, &table, &table);
     let paper = [3, Sheet::NO_RULE, 1_000_000_001];
     let script = [3, Sheet::NO_RULE, -5_000_000_001, -5_000_000_001];
-    mark_after(b"n 1, tables of 3 and 4 words", 1, 0, &paper, &script);
+    mark_after(rt, b"n 1, tables of 3 and 4 words", 1, 0, &paper, &script);
 }
 
 // 6: the workspace, then the assignment.
-fn lent() {
+fn lent(rt: &impl Print) {
     let table = [Sheet::NO_RULE; TABLE];
     let mut workspace = [0; WORKSPACE];
     let mut small = [0; WORKSPACE - 1];
     let mut values = [7; 3];
     let mut few = [7; 2];
-    sheet::head(b"a workspace of 35 words");
-    mark(3, 0, &table, &table, &mut small, &mut values);
-    sheet::head(b"an assignment of 2 words");
-    mark(3, 0, &table, &table, &mut workspace, &mut few);
-    sheet::head(b"both");
-    mark(3, 0, &table, &table, &mut small, &mut few);
+    sheet::head(rt, b"a workspace of 35 words");
+    mark(rt, 3, 0, &table, &table, &mut small, &mut values);
+    sheet::head(rt, b"an assignment of 2 words");
+    mark(rt, 3, 0, &table, &table, &mut workspace, &mut few);
+    sheet::head(rt, b"both");
+    mark(rt, 3, 0, &table, &table, &mut small, &mut few);
 }
 
 // 3: a hidden quantity past n, and none where sets and bounds are at their limits.
-fn limits() {
+fn limits(rt: &impl Print) {
     let table = [Sheet::NO_RULE; TABLE];
-    mark_after(b"quantity 4 hidden", 3, 0b1000, &table, &table);
+    mark_after(rt, b"quantity 4 hidden", 3, 0b1000, &table, &table);
     let mut bounds = [0; TABLE];
-    sheet::begin(b"bounds at the limit", 3, &mut bounds);
-    sheet::put(3, &mut bounds, 1, 0, 1_000_000_000);
-    sheet::put(3, &mut bounds, 1, 2, -1_000_000_000);
-    mark_after(b"quantity 3 hidden", 3, 0b100, &bounds, &bounds);
+    sheet::begin(rt, b"bounds at the limit", 3, &mut bounds);
+    sheet::put(rt, 3, &mut bounds, 1, 0, 1_000_000_000);
+    sheet::put(rt, 3, &mut bounds, 1, 2, -1_000_000_000);
+    mark_after(rt, b"quantity 3 hidden", 3, 0b100, &bounds, &bounds);
 }
 
 // 3: a word past the limit in either table.
-fn past_limit(bound: i64) {
+fn past_limit(rt: &impl Print, bound: i64) {
     let table = [Sheet::NO_RULE; TABLE];
     let mut past = [0; TABLE];
-    sheet::begin(b"a bound past the limit", 3, &mut past);
-    sheet::put(3, &mut past, 2, 3, bound);
-    mark_after(b"in the sheet", 3, 0, &past, &table);
-    mark_after(b"in the script", 3, 0, &table, &past);
+    sheet::begin(rt, b"a bound past the limit", 3, &mut past);
+    sheet::put(rt, 3, &mut past, 2, 3, bound);
+    mark_after(rt, b"in the sheet", 3, 0, &past, &table);
+    mark_after(rt, b"in the script", 3, 0, &table, &past);
 }
 
 // 7: a script rule that names a hidden quantity, alone, second or first. The sheet's rules may, so one table serves as both.
-fn hidden_named() {
+fn hidden_named(rt: &impl Print) {
     let mut table = [0; TABLE];
-    sheet::begin(b"a sheet and script that name 2", 3, &mut table);
-    sheet::put(3, &mut table, 2, 0, 1);
-    mark_after(b"2 hidden", 3, 0b10, &table, &table);
-    mark_after(b"1 and 3 hidden", 3, 0b101, &table, &table);
-    sheet::begin(b"a sheet and script that name 1 and 2", 3, &mut table);
-    sheet::put(3, &mut table, 1, -2, 0);
-    mark_after(b"2 hidden", 3, 0b10, &table, &table);
-    mark_after(b"1 hidden", 3, 0b1, &table, &table);
+    sheet::begin(rt, b"a sheet and script that name 2", 3, &mut table);
+    sheet::put(rt, 3, &mut table, 2, 0, 1);
+    mark_after(rt, b"2 hidden", 3, 0b10, &table, &table);
+    mark_after(rt, b"1 and 3 hidden", 3, 0b101, &table, &table);
+    sheet::begin(rt, b"a sheet and script that name 1 and 2", 3, &mut table);
+    sheet::put(rt, 3, &mut table, 1, -2, 0);
+    mark_after(rt, b"2 hidden", 3, 0b10, &table, &table);
+    mark_after(rt, b"1 hidden", 3, 0b1, &table, &table);
 }
 
 // Where several apply: 1 before 6 before 3.
-fn limits_last() {
+fn limits_last(rt: &impl Print) {
     let table = [Sheet::NO_RULE; TABLE];
     let short = [Sheet::NO_RULE; TABLE - 1];
     let mut workspace = [0; WORKSPACE];
     let mut small = [0; WORKSPACE - 1];
     let mut values = [7; 3];
     let mut few = [7; 2];
-    sheet::head(b"quantity 4 hidden, a script of 17 words, a workspace of 35, an assignment of 2");
-    mark(3, 0b1000, &table, &short, &mut small, &mut few);
-    sheet::head(b"quantity 4 hidden and a workspace of 35 words");
-    mark(3, 0b1000, &table, &table, &mut small, &mut values);
-    sheet::head(b"quantity 4 hidden and an assignment of 2 words");
-    mark(3, 0b1000, &table, &table, &mut workspace, &mut few);
+    sheet::head(
+        rt,
+        b"quantity 4 hidden, a script of 17 words, a workspace of 35, an assignment of 2",
+    );
+    mark(rt, 3, 0b1000, &table, &short, &mut small, &mut few);
+    sheet::head(rt, b"quantity 4 hidden and a workspace of 35 words");
+    mark(rt, 3, 0b1000, &table, &table, &mut small, &mut values);
+    sheet::head(rt, b"quantity 4 hidden and an assignment of 2 words");
+    mark(rt, 3, 0b1000, &table, &table, &mut workspace, &mut few);
 }
 
 // 3 before 7, in the script and in the sheet.
-fn names_last() {
+fn names_last(rt: &impl Print) {
     let table = [Sheet::NO_RULE; TABLE];
     let mut past = [0; TABLE];
-    sheet::begin(b"a bound past the limit that names 2", 3, &mut past);
-    sheet::put(3, &mut past, 2, 0, 2_000_000_001);
-    mark_after(b"2 hidden", 3, 0b10, &table, &past);
+    sheet::begin(rt, b"a bound past the limit that names 2", 3, &mut past);
+    sheet::put(rt, 3, &mut past, 2, 0, 2_000_000_001);
+    mark_after(rt, b"2 hidden", 3, 0b10, &table, &past);
     let mut script = [0; TABLE];
-    sheet::begin(b"in the sheet, and a script that names 2", 3, &mut script);
-    sheet::put(3, &mut script, 2, 0, 1);
-    mark_after(b"2 hidden", 3, 0b10, &past, &script);
+    sheet::begin(
+        rt,
+        b"in the sheet, and a script that names 2",
+        3,
+        &mut script,
+    );
+    sheet::put(rt, 3, &mut script, 2, 0, 1);
+    mark_after(rt, b"2 hidden", 3, 0b10, &past, &script);
 }

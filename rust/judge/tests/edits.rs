@@ -17,7 +17,7 @@ const SOURCE: &str = "\
 const TWO: i64 = 2;
 
 pub fn low(a: i64) -> i64
-    ensures { λ r. ⌜ r ≡ a + 1 ⌝ }
+    ensures { result ≡ a + 1 }
 {
     a + 1
 }
@@ -27,7 +27,7 @@ const THREE: i64 = 3;
 impl Rule {
     // The high one.
     pub fn high(self) -> i64
-        ensures { λ r. ⌜ r ≡ 3 ⌝ }
+        ensures { result ≡ 3 }
     {
         if true {
             low(TWO)
@@ -43,18 +43,18 @@ fn edit(name: &str, function: &str, old: &str, new: &str) -> Edit {
 /// What a check would print of the source.
 fn checked(source: &str) -> String {
     if !source.contains("fn low") {
-        return "/copy/src/lib.rt:9:17: error[unknown-name]: cannot find value `low`\n".to_string();
+        return "src/lib.rt:9:17: error[unknown-name]: cannot find value `low`\n".to_string();
     }
     let low = match source.contains("a + 1\n") {
         true => "proved",
-        false => "no proof: expected `low-spec` in /copy/proofs/low/Proof.antt; `search` does not close `returns`",
+        false => "no proof: expected answers in ./proofs/low/Answers.antt; `search` did not prove `returns`",
     };
     let high = match (low, source.contains("low(TWO)") && source.contains("TWO: i64 = 2;")) {
         ("proved", true) => "proved",
         ("proved", false) => "not proved",
         _ => "not proved; it calls `made::low`, which is not proved",
     };
-    format!("/copy/proofs/Rule/high/Proof.antt:1:1: error: `returns`: differs\nfn made::low: {low}\nfn made::Rule::high: {high}\n")
+    format!("./proofs/Rule/high/Answers.antt:1:1: error: `returns`: differs\nfn made::low: {low}\nfn made::Rule::high: {high}\n")
 }
 
 /// What is printed of the edits, the counts, and the number of checks. The source is left as it was.
@@ -89,8 +89,8 @@ fn wrong_programs_are_refused_each_by_its_own_function() {
         edit("constant", "made::Rule::high", "TWO: i64 = 2;", "TWO: i64 = 3;"),
     ];
     let (lines, tally, checks) = tried("refused", edits);
-    let due = "made/other: refused: `search` does not close `returns`\n\
-        made/twice: refused: `search` does not close `returns`\n\
+    let due = "made/other: refused: `search` did not prove `returns`\n\
+        made/twice: refused: `search` did not prove `returns`\n\
         made/constant: refused: `returns`: differs\n\
         made/zero: refused: `returns`: differs\n";
     assert_eq!((lines.as_str(), tally), (due, Tally { refused: 4, not: 0 }));
@@ -162,7 +162,9 @@ fn a_place_in_a_body_is_known() {
     assert!(is_in_body(SOURCE, at("    a + 1"), "low"));
     assert!(is_in_body(SOURCE, at("low(TWO)"), "high"));
     assert!(!is_in_body(SOURCE, at("low(TWO)"), "low"));
-    for outside in ["TWO: i64", "pub fn low", "r ≡ a + 1", "THREE", "// The high one.", "pub fn high", "r ≡ 3"] {
+    for outside in
+        ["TWO: i64", "pub fn low", "result ≡ a + 1", "THREE", "// The high one.", "pub fn high", "result ≡ 3"]
+    {
         assert!(!is_in_body(SOURCE, at(outside), "low"), "{outside}");
         assert!(!is_in_body(SOURCE, at(outside), "high"), "{outside}");
     }
@@ -170,19 +172,23 @@ fn a_place_in_a_body_is_known() {
 
 #[test]
 fn a_log_says_of_each_function_whether_it_is_proved() {
-    let log = "/t/crates/c/proofs/m/g/Proof.antt:5:1: error: `g-spec`: `close` was not admitted\n\
-        /t/crates/c/proofs/m/f/Proof.antt:1:2: note: nothing\n\
-        /t/crates/c/proofs/m/f/Proof.antt:1:2: error: `returns`: the first\n\
-        /t/crates/c/proofs/m/f/Proof.antt:3:4: error: `spec`: the second\n\
+    let log = "./proofs/m/g/Proof.antt:5:1: error: `g_spec`: `close` was not admitted\n\
+        ./proofs/m/f/Answers.antt:1:2: note: nothing\n\
+        ./proofs/m/f/Answers.antt:1:2: error: `returns`: the first\n\
+        ./proofs/m/f/Answers.antt:3:4: error: `spec`: the second\n\
+        ./proofs/m/Invariants.antt:3:4: error: `loop`: of another\n\
+        ./proofs/m/n/Invariants.antt:3:4: error: `loop`: of its own\n\
+        fn c::m::n: not proved\n\
         fn c::m::f: not proved\n\
         fn c::m::g: not proved; it calls `c::m::f`, which is not proved\n\
         fn c::m::h: proved\n\
         fn c::m::k: not proved; it calls `c::m::f` and `c::m::g`, which are not proved\n\
-        fn c::m::l: no proof: expected `l-spec` in /t/Proof.antt; `search` does not close `returns`\n";
+        fn c::m::l: no proof: expected answers in ./proofs/m/l/Answers.antt; `search` did not prove `returns`\n";
     assert_eq!(said(log, "c::m::f"), Said::Refused("`returns`: the first".into()));
     assert_eq!(said(log, "c::m::g"), Said::Masked);
     assert_eq!(said(log, "c::m::h"), Said::Proved);
     assert_eq!(said(log, "c::m::i"), Said::Nothing);
     assert_eq!(said(log, "c::m::k"), Said::Masked);
-    assert_eq!(said(log, "c::m::l"), Said::Refused("`search` does not close `returns`".into()));
+    assert_eq!(said(log, "c::m::l"), Said::Refused("`search` did not prove `returns`".into()));
+    assert_eq!(said(log, "c::m::n"), Said::Refused("`loop`: of its own".into()));
 }

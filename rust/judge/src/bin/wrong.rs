@@ -62,7 +62,7 @@ fn each(edits: &Path, copy: &Path, crates: &[String], step: &mut Step) -> io::Re
         let mut edits = parsed(name, &edits.join(name), &mut out, &mut tally)?;
         keep(&mut edits, half)?;
         let folder = copy.join("crates").join(name);
-        let check = || checked(copy, name);
+        let check = || checked(&folder);
         step(&mut Trial { name, folder: &folder, check: &check, out: &mut out, tally: &mut tally }, edits)?;
     }
     Ok(tally)
@@ -84,10 +84,9 @@ fn keep(edits: &mut Vec<Edit>, half: &str) -> io::Result<()> {
     Ok(())
 }
 
-/// What `rt dev` prints of a crate of the copy.
-fn checked(copy: &Path, name: &str) -> io::Result<String> {
-    let output =
-        Command::new("rt").args(["dev", name]).current_dir(copy).output().map_err(|e| told("cannot run rt", e))?;
+/// What `rt check` prints of a crate of the copy, in its folder.
+fn checked(folder: &Path) -> io::Result<String> {
+    let output = Command::new("rt").arg("check").current_dir(folder).output().map_err(|e| told("cannot run rt", e))?;
     Ok(String::from_utf8_lossy(&[output.stdout, output.stderr].concat()).into_owned())
 }
 

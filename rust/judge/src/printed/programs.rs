@@ -18,23 +18,23 @@ pub trait Printer: Sync {
     fn mark(&self, sheet: &[u8], script: &[u8]) -> Result<Vec<u8>, String>;
 }
 
-/// The programs that `rt check` builds.
+/// The programs that `rt run` builds.
 pub struct Built {
     key: PathBuf,
     mark: PathBuf,
 }
 
 impl Built {
-    /// Finds them in the directory that ACORNSLED_BIN names, else where `rt check` puts them.
+    /// Finds them in the directory that ACORNSLED_BIN names, else where `tools/programs` puts them.
     pub fn found() -> Result<Built, String> {
         let directory = match env::var_os("ACORNSLED_BIN") {
             Some(named) => PathBuf::from(named),
-            None => Path::new(env!("CARGO_MANIFEST_DIR")).join("../../target/bin"),
+            None => Path::new(env!("CARGO_MANIFEST_DIR")).join("../../build/programs"),
         };
         // *mark* runs in another directory, where a relative path would lead nowhere
         let built = |name: &str| {
             let path = directory.join(name);
-            let hint = format!("run `rt check {name}`, or name its directory in ACORNSLED_BIN");
+            let hint = format!("run tools/programs, or name its directory in ACORNSLED_BIN");
             fs::canonicalize(&path).map_err(|e| format!("no program {}: {e}: {hint}", path.display()))
         };
         Ok(Built { key: built("key")?, mark: built("mark")? })

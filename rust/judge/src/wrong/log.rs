@@ -26,11 +26,12 @@ pub fn said(log: &str, function: &str) -> Said {
     }
 }
 
-/// The first error that stands in the function's own proof.
+/// The first error that stands in a file of the function's own proof.
 fn proof_error<'a>(log: &'a str, function: &str) -> Option<&'a str> {
     let (_, path) = function.split_once("::")?;
-    let file = format!("/proofs/{}/Proof.antt:", path.replace("::", "/"));
-    log.lines().filter(|line| line.contains(&file)).find_map(message)
+    let folder = format!("/proofs/{}/", path.replace("::", "/"));
+    let files = ["Answers", "Invariants", "Proof"].map(|file| format!("{folder}{file}.antt:"));
+    log.lines().filter(|line| files.iter().any(|file| line.contains(file))).find_map(message)
 }
 
 /// The first error of all, which is what stops a crate before its proofs.

@@ -4,11 +4,9 @@ use mathlib.Core.Bool.{Bool, true, false}
 use Prim.Native.Nat.{ℕ, suc, ◌+◌, ◌*◌, ◌^◌, ◌≤◌, ◌<◌}
 use native.Mathlib.Nat.{lt_of_lt_of_le}
 use native.Mathlib.Omega.{arith}
-use lib.Dec.{leb}
 use lib.Pow.{pow_mono}
-use borrow.Author.Tests.{leb-true, le-leb, lt-leb}
+use borrow.Author.Tests.{le-leb, lt-leb}
 use Rattle.numerals.specs.Decimal.{capped}
-use Rattle.numerals.proofs.Cases.{both_true}
 use Rattle.numerals.proofs.Values.{capped_most, capped_least, capped_exact}
 use Rattle.rules.specs.Hidden.{bit_of}
 use Rattle.rules.specs.Limits.{max_quantities}

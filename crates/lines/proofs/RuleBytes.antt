@@ -13,7 +13,7 @@ use Rattle.numerals.specs.Bytes.{newline, plus, minus, digit_zero, kind_of}
 use Rattle.numerals.specs.Decimal.{decimal_up_to, decimal, signed_decimal}
 use Rattle.numerals.specs.Parsing.{parsed}
 use Rattle.numerals.proofs.Keys.{is_digit_lem, digit_kind}
-use Rattle.lines.specs.Spelling.{Term, Written, one, two, rule, rule_key, term_text, rule_text, value_text, line_text}
+use Rattle.lines.specs.Spelling.{Term, Written, one, two, rule_key, term_text, rule_text, value_text, line_text}
 use Rattle.lines.specs.Lines.{rule_line}
 use Rattle.lines.proofs.Spellings.{rule_sound}
 

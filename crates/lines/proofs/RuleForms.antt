@@ -11,7 +11,7 @@ use Rattle.numerals.specs.Parsing.{Parsed, parsed, malformed, and_then, expect, 
 use Rattle.numerals.proofs.Keys.{kind_at, kind_test_fails, expect_tests, starts_kind, byte_first}
 use Rattle.lines.specs.declared.signed.Signed.TheVariants.{Read}
 use Rattle.lines.specs.declared.spelled.Spelled.TheVariants.{One, Two}
-use Rattle.lines.specs.Spelling.{Term, Written, one, two, signed_quantity}
+use Rattle.lines.specs.Spelling.{Term, one, two, signed_quantity}
 use Rattle.lines.specs.Lines.{term_of, bound_line, after_term}
 use Rattle.lines.specs.Inner.{capped_integer, signed_answer, second_line, one_answer, two_answer, spelled_answer}
 

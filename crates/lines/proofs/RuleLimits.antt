@@ -1,15 +1,13 @@
 -- A rule line's answer by its form: what holds of the capped values holds of the values. Assumes nothing.
-use mathlib.Core.Path.{◌≡◌, refl, ◌∙◌, ap, ap₂}
+use mathlib.Core.Path.{◌≡◌, refl, ◌∙◌, ap₂}
 use mathlib.Core.Bool.{Bool, true, false, cond, not, ◌&&◌, beq}
 use mathlib.Core.List.{List}
-use Prim.Native.Nat.{ℕ, zero, suc, ◌+◌, ◌≤◌, ◌<◌}
+use Prim.Native.Nat.{ℕ, ◌≤◌, ◌<◌}
 use native.Mathlib.Omega.{arith}
 use lib.Dec.{leb, eqb}
-use lib.IntN.{ℤ, pos, negsuc, neg_ℤ, nat_abs, ◌+ℤ◌}
-use mir.Syntax.{w32, w64}
-use mir.Val.{SFits}
-use borrow.Author.Tests.{leb-true, le-leb, lt-leb, eqb-true, eqb-false}
-use Rattle.integers.proofs.Parts.{linear, positive_part, negative_part, parts_add, parts_neg, word_of}
+use lib.IntN.{ℤ, pos, neg_ℤ, nat_abs, ◌+ℤ◌}
+use borrow.Author.Tests.{leb-true, eqb-true, eqb-false}
+use Rattle.integers.proofs.Parts.{linear, positive_part, negative_part, parts_add, parts_neg}
 use Rattle.numerals.specs.Decimal.{cap}
 use Rattle.numerals.specs.Parsing.{Parsed, parsed, malformed, cursor_of}
 use Rattle.numerals.proofs.Cases.{both_true}

@@ -4,8 +4,6 @@ use mathlib.Core.Bool.{true}
 use Prim.Native.Nat.{◌+◌}
 use native.Mathlib.Omega.{arith}
 use lib.ListN.{length, drop, length-drop}
-use borrow.Author.Rules.{rules}
-use borrow.Author.Tests.{not-true, not-false}
 use Rattle.numerals.specs.declared.byte.Kind.TheVariants.{LineEnd}
 use Rattle.numerals.specs.Parsing.{starts_with}
 use Rattle.numerals.proofs.Keys.{kind_at, kind_read, kind_inside, starts_length}

@@ -1,7 +1,6 @@
 -- `rule::rule_line` meets its contract: its answer by the line's form is that of the line. Assumes nothing.
 use mathlib.Core.Path.{◌≡◌, sym, ◌∙◌, ap}
 use lib.ListN.{drop}
-use borrow.Author.Rules.{rules}
 use Rattle.integers.proofs.Parts.{held_value}
 use Rattle.lines.specs.declared.spelled.Spelled.{Spelled}
 use Rattle.lines.specs.declared.spelled.Spelled.TheVariants.{One, Two, Malformed}

@@ -6,8 +6,7 @@ use lib.Dec.{leb}
 use lib.IntN.{ℤ, nat_abs, ◌+ℤ◌}
 use mir.Syntax.{w32, w64}
 use mir.Val.{SFits, to_z, of_z}
-use borrow.Author.Rules.{rules}
-use borrow.Author.Tests.{not-true, not-false, le-leb, lt-leb}
+use borrow.Author.Tests.{le-leb, lt-leb}
 use Rattle.integers.proofs.Parts.{word_value}
 use Rattle.rules.proofs.Words.{narrow_value}
 use Rattle.rules.specs.Literal.{quantity_within}

@@ -3,7 +3,6 @@ use mathlib.Core.Path.{◌≡◌, refl, sym, ◌∙◌}
 use native.Mathlib.Omega.{arith}
 use Prim.Native.Nat.{◌+◌}
 use lib.ListN.{drop}
-use borrow.Author.Rules.{rules}
 use borrow.Author.Tests.{lt-ltb, le-ltb}
 use Rattle.numerals.specs.declared.byte.Kind.TheVariants.{Minus}
 use Rattle.numerals.proofs.Keys.{kind_at, kind_read, kind_inside, starts_kind, starts_other}

@@ -5,7 +5,6 @@ use mathlib.Core.Logic.{⊎_elim}
 use Prim.Native.Nat.{◌<◌}
 use native.Mathlib.Omega.{arith}
 use lib.ListN.{drop}
-use borrow.Author.Rules.{rules}
 use Rattle.integers.proofs.Parts.{held_value}
 use Rattle.numerals.specs.declared.read.Numeral.TheVariants.{Number}
 use Rattle.numerals.specs.Parsing.{numeral_of, numeral_answer}

@@ -1,6 +1,5 @@
 -- `signed::bound_at` meets its contract: the number after the minus, with its sign. Assumes nothing.
 use mathlib.Core.Path.{sym, ◌∙◌, ap}
-use borrow.Author.Rules.{rules}
 use Rattle.lines.specs.Inner.{signed_answer}
 use Rattle.lines.proofs.signed.bound_at.Goals as goal
 

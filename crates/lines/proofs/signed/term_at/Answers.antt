@@ -1,11 +1,8 @@
 -- `signed::term_at` meets its contract: a number after a sign. Assumes nothing.
 use mathlib.Core.Path.{◌≡◌, sym, ◌∙◌, ap}
-use mathlib.Core.List.{List, [], ◌∷◌}
-use Prim.Native.Nat.{ℕ, ◌+◌}
+use Prim.Native.Nat.{◌+◌}
 use lib.ListN.{drop}
-use borrow.Author.Rules.{rules}
 use Rattle.integers.proofs.Parts.{held_value}
-use Rattle.numerals.specs.declared.byte.Kind.TheVariants.{Plus, Minus}
 use Rattle.numerals.specs.declared.read.Numeral.TheVariants.{Number}
 use Rattle.numerals.specs.Parsing.{numeral_of, numeral_answer}
 use Rattle.lines.specs.Inner.{term_answer}

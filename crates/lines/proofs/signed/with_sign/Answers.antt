@@ -8,7 +8,6 @@ use Rattle.integers.proofs.Parts.{word_value}
 use Rattle.lines.specs.Inner.{with_sign}
 use Rattle.lines.proofs.CappedIntegers.{cap_word, cap_word_neg}
 use Rattle.lines.proofs.signed.with_sign.Lts as lts
-use Rattle.lines.proofs.signed.with_sign.Tie as tie
 use Rattle.lines.proofs.signed.with_sign.Reads as reads
 use Rattle.lines.proofs.signed.with_sign.Goals as goal
 

@@ -1,7 +1,6 @@
 -- `spelled::rule_of_one` meets its contract: the rule is told where its bound is. Assumes nothing.
 use mathlib.Core.Path.{sym, ◌∙◌}
 use lib.ListN.{drop}
-use borrow.Author.Rules.{rules}
 use Rattle.integers.proofs.Parts.{word_value, held_value}
 use Rattle.lines.specs.Lines.{bound_line}
 use Rattle.lines.specs.Inner.{one_answer}

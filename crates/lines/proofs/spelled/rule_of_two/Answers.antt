@@ -5,7 +5,6 @@ use Prim.Native.Nat.{ℕ, ◌+◌}
 use native.Mathlib.Omega.{arith}
 use lib.IntN.{ℤ}
 use lib.ListN.{drop}
-use borrow.Author.Rules.{rules}
 use Rattle.integers.proofs.Parts.{word_value, held_value}
 use Rattle.numerals.specs.declared.byte.Kind.TheVariants.{Colon}
 use Rattle.numerals.specs.Bytes.{colon}

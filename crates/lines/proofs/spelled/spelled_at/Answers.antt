@@ -9,8 +9,6 @@ use lib.ListN.{drop, length-drop}
 use lib.Seq.{drop-drop}
 use mir.Syntax.{w64}
 use mir.Val.{to_z, of_z}
-use borrow.Author.Rules.{rules}
-use borrow.Author.Tests.{not-true, not-false}
 use Rattle.integers.proofs.Parts.{held_value}
 use Rattle.numerals.specs.declared.byte.Kind.TheVariants.{Colon}
 use Rattle.numerals.specs.Parsing.{and_then, starts_with}

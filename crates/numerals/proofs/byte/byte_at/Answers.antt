@@ -1,7 +1,6 @@
 -- `byte::byte_at` meets its contract. Assumes nothing.
 use mathlib.Core.Path.{refl, sym}
 use lib.ListN.{get_or-eq_default}
-use borrow.Author.Rules.{rules}
 use Rattle.numerals.proofs.byte.byte_at.Goals as goal
 
 pub returns-then-s-at : goal.returns-then-s-at

@@ -2,16 +2,15 @@
 -- Assumes nothing.
 use mathlib.Core.Path.{◌≡◌, sym, ◌∙◌}
 use mathlib.Core.Bool.{◌&&◌}
-use Prim.Native.Nat.{◌+◌, ◌-◌, ◌≤◌}
+use Prim.Native.Nat.{◌+◌}
 use native.Mathlib.Nat.{add-zero}
 use native.Mathlib.Omega.{arith}
 use lib.Dec.{eqb}
-use lib.ListN.{length, get_or, drop, length-drop, drop_of_length-le}
+use lib.ListN.{get_or, drop, length-drop, drop_of_length-le}
 use borrow.Author.Tests.{eq-eqb, ne_eqb}
 use Rattle.numerals.specs.Parsing.{starts_with}
 use Rattle.numerals.proofs.Keys.{starts_end, starts_next, starts_passed, starts_short}
 use Rattle.numerals.proofs.byte.has_key.Lts as lts
-use Rattle.numerals.proofs.byte.has_key.Tie as tie
 use Rattle.numerals.proofs.byte.has_key.Reads as reads
 use Rattle.numerals.proofs.byte.has_key.Goals as goal
 

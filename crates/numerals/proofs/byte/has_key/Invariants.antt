@@ -1,15 +1,9 @@
 -- `byte::has_key` meets its contract. The loop's invariant: the answer is that of the bytes that are left. The measure is their number.
 -- Assumes nothing.
-use mathlib.Core.Path.{◌≡◌, sym, ◌∙◌}
-use mathlib.Core.Bool.{◌&&◌}
+use mathlib.Core.Path.{◌≡◌}
 use Prim.Native.Nat.{◌+◌, ◌-◌, ◌≤◌}
-use native.Mathlib.Nat.{add-zero}
-use native.Mathlib.Omega.{arith}
-use lib.Dec.{eqb}
-use lib.ListN.{length, get_or, drop, length-drop, drop_of_length-le}
-use borrow.Author.Tests.{eq-eqb, ne_eqb}
+use lib.ListN.{length, drop}
 use Rattle.numerals.specs.Parsing.{starts_with}
-use Rattle.numerals.proofs.Keys.{starts_end, starts_next, starts_passed, starts_short}
 use Rattle.numerals.proofs.byte.has_key.Given as goal
 
 abbrev pub invariant-loop-i : goal.invariant-loop-i

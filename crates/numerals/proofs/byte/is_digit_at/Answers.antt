@@ -1,8 +1,6 @@
 -- `byte::is_digit_at` meets its contract: digits are the bytes of their kind. Assumes nothing.
 use mathlib.Core.Path.{◌≡◌, sym, ◌∙◌}
 use lib.ListN.{drop}
-use borrow.Author.Rules.{rules}
-use Rattle.numerals.specs.declared.byte.Kind.TheVariants.{Digit}
 use Rattle.numerals.proofs.Keys.{kind_at, kind_read, digit-next, no_digit_next}
 use Rattle.numerals.proofs.byte.is_digit_at.Lts as lts
 use Rattle.numerals.proofs.byte.is_digit_at.Tie as tie

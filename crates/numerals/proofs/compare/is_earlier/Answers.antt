@@ -2,15 +2,14 @@
 -- Assumes nothing.
 use mathlib.Core.Path.{◌≡◌, refl, sym, ◌∙◌}
 use mathlib.Core.Bool.{cond}
-use Prim.Native.Nat.{◌+◌, ◌-◌}
+use Prim.Native.Nat.{◌+◌}
 use native.Mathlib.Omega.{arith}
 use lib.Dec.{ltb, eqb}
-use lib.ListN.{length, get_or, drop}
+use lib.ListN.{get_or, drop}
 use borrow.Author.Tests.{eq-eqb, ne_eqb}
 use Rattle.numerals.specs.Order.{earlier}
 use Rattle.numerals.proofs.Order.{earlier_past, earlier_passed, earlier_next}
 use Rattle.numerals.proofs.compare.is_earlier.Lts as lts
-use Rattle.numerals.proofs.compare.is_earlier.Tie as tie
 use Rattle.numerals.proofs.compare.is_earlier.Reads as reads
 use Rattle.numerals.proofs.compare.is_earlier.Goals as goal
 

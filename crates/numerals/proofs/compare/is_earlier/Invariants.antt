@@ -1,14 +1,9 @@
 -- `compare::is_earlier` meets its contract. The loop's invariant: the answer is that of the bytes that are left. The measure is their number.
 -- Assumes nothing.
-use mathlib.Core.Path.{◌≡◌, refl, sym, ◌∙◌}
-use mathlib.Core.Bool.{cond}
-use Prim.Native.Nat.{◌+◌, ◌-◌}
-use native.Mathlib.Omega.{arith}
-use lib.Dec.{ltb, eqb}
-use lib.ListN.{length, get_or, drop}
-use borrow.Author.Tests.{eq-eqb, ne_eqb}
+use mathlib.Core.Path.{◌≡◌}
+use Prim.Native.Nat.{◌-◌}
+use lib.ListN.{length, drop}
 use Rattle.numerals.specs.Order.{earlier}
-use Rattle.numerals.proofs.Order.{earlier_past, earlier_passed, earlier_next}
 use Rattle.numerals.proofs.compare.is_earlier.Given as goal
 
 abbrev pub invariant-loop-i : goal.invariant-loop-i

@@ -1,5 +1,4 @@
 -- `compare::is_smaller` meets its contract. Assumes nothing.
-use borrow.Author.Rules.{rules}
 use borrow.Author.Tests.{eq-eqb, ne_eqb}
 use Rattle.numerals.specs.Order.{smaller_numeral}
 use Rattle.numerals.proofs.Order.{compared}

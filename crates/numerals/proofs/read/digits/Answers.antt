@@ -2,12 +2,10 @@
 -- what is left of the text. Assumes nothing.
 use mathlib.Core.Path.{◌≡◌, refl, sym, ◌∙◌, ap}
 use mathlib.Core.Bool.{true}
-use Prim.Native.Nat.{ℕ, ◌+◌, ◌-◌, ◌*◌, ◌≤◌, ◌<◌}
+use Prim.Native.Nat.{ℕ, ◌+◌, ◌-◌, ◌*◌, ◌<◌}
 use native.Mathlib.Omega.{arith}
 use lib.ListN.{length, drop, get_or}
-use borrow.Author.Rules.{rules}
 use Rattle.numerals.specs.Bytes.{is_digit, digit_zero}
-use Rattle.numerals.specs.Decimal.{cap}
 use Rattle.numerals.specs.Parsing.{digits_from, numeral_answer}
 use Rattle.numerals.proofs.Keys.{digit_at, digit_inside}
 use Rattle.numerals.proofs.Values.{capped_cap}

@@ -1,17 +1,10 @@
 -- `read::digits` meets its contract. The loop's invariant: the answer is that of the digits that are left, after the value so far. The measure is
 -- what is left of the text. Assumes nothing.
-use mathlib.Core.Path.{◌≡◌, refl, sym, ◌∙◌, ap}
-use mathlib.Core.Bool.{true}
-use Prim.Native.Nat.{ℕ, ◌+◌, ◌-◌, ◌*◌, ◌≤◌, ◌<◌}
-use native.Mathlib.Omega.{arith}
-use lib.ListN.{length, drop, get_or}
-use borrow.Author.Rules.{rules}
-use Rattle.numerals.specs.Bytes.{is_digit, digit_zero}
+use mathlib.Core.Path.{◌≡◌}
+use Prim.Native.Nat.{◌-◌, ◌≤◌}
+use lib.ListN.{length, drop}
 use Rattle.numerals.specs.Decimal.{cap}
 use Rattle.numerals.specs.Parsing.{digits_from, numeral_answer}
-use Rattle.numerals.proofs.Keys.{digit_at, digit_inside}
-use Rattle.numerals.proofs.Values.{capped_cap}
-use Rattle.numerals.proofs.Reading.{answer_told, digits_next, answer_stop}
 use Rattle.numerals.proofs.read.digits.Given as goal
 
 abbrev pub invariant-loop-value : goal.invariant-loop-value

@@ -5,8 +5,6 @@ use mathlib.Core.List.{◌∷◌}
 use Prim.Native.Nat.{ℕ, ◌+◌, ◌≤◌, ◌<◌}
 use native.Mathlib.Omega.{arith}
 use lib.ListN.{length, get_or, drop}
-use borrow.Author.Rules.{rules}
-use borrow.Author.Tests.{not-true, not-false}
 use Rattle.numerals.specs.Bytes.{is_digit, digit_zero}
 use Rattle.numerals.specs.Parsing.{digit_next, numeral_of, numeral_answer}
 use Rattle.numerals.proofs.Keys.{digit_at, digit_inside, digit_range}

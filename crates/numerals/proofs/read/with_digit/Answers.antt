@@ -2,7 +2,6 @@
 use mathlib.Core.Path.{sym, ◌∙◌}
 use Prim.Native.Nat.{◌+◌, ◌-◌, ◌*◌}
 use native.Mathlib.Omega.{arith}
-use borrow.Author.Rules.{rules}
 use Rattle.numerals.specs.Bytes.{digit_zero}
 use Rattle.numerals.proofs.Keys.{digit_range}
 use Rattle.numerals.proofs.Values.{capped_below, capped_above}

@@ -1,7 +1,6 @@
 -- `write::put_byte` meets its contract: it is a store. Assumes nothing.
 use mathlib.Core.Path.{refl}
 use native.Mathlib.Omega.{arith}
-use borrow.Author.Rules.{rules}
 use Rattle.numerals.proofs.Splices.{splice_byte}
 use Rattle.numerals.proofs.write.put_byte.Goals as goal
 

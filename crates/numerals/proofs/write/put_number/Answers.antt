@@ -5,9 +5,7 @@ use mathlib.Core.List.{List}
 use Prim.Native.Nat.{ℕ, suc, ◌+◌, ◌-◌, ◌/◌, ◌%◌, ◌≤◌, ◌<◌}
 use native.Mathlib.Omega.{arith}
 use lib.ListN.{length, set, length-set}
-use borrow.Author.Rules.{rules}
 use Rattle.numerals.specs.Bytes.{digit_zero}
-use Rattle.numerals.specs.Decimal.{decimal}
 use Rattle.numerals.specs.Writing.{splice}
 use Rattle.numerals.proofs.Decimals.{last_digits, last_none, last_more, last_length, decimal_last}
 use Rattle.numerals.proofs.Splices.{splice_none, splice_before}

@@ -1,16 +1,11 @@
 -- `write::put_number` meets its contract. The loop's invariant: with the digits of the rest before the cursor the buffer is the one that is
 -- asked for. The measure is the cursor. Assumes nothing.
-use mathlib.Core.Path.{◌≡◌, refl, sym, ◌∙◌, ap}
-use mathlib.Core.List.{List}
-use Prim.Native.Nat.{ℕ, suc, ◌+◌, ◌-◌, ◌/◌, ◌%◌, ◌≤◌, ◌<◌}
-use native.Mathlib.Omega.{arith}
-use lib.ListN.{length, set, length-set}
-use borrow.Author.Rules.{rules}
-use Rattle.numerals.specs.Bytes.{digit_zero}
+use mathlib.Core.Path.{◌≡◌}
+use Prim.Native.Nat.{◌-◌, ◌≤◌}
+use lib.ListN.{length}
 use Rattle.numerals.specs.Decimal.{decimal}
 use Rattle.numerals.specs.Writing.{splice}
-use Rattle.numerals.proofs.Decimals.{last_digits, last_none, last_more, last_length, decimal_last}
-use Rattle.numerals.proofs.Splices.{splice_none, splice_before}
+use Rattle.numerals.proofs.Decimals.{last_digits}
 use Rattle.numerals.proofs.write.put_number.Given as goal
 
 abbrev pub invariant-loop-i : goal.invariant-loop-i

@@ -3,7 +3,6 @@ use mathlib.Core.Path.{◌≡◌, ap}
 use mathlib.Core.List.{◌∷◌}
 use native.Mathlib.Omega.{arith}
 use lib.ListN.{length}
-use borrow.Author.Rules.{rules}
 use Rattle.numerals.specs.Bytes.{minus}
 use Rattle.numerals.specs.Decimal.{decimal, signed_decimal}
 use Rattle.numerals.proofs.Decimals.{signed_some, word_below, word_above}

@@ -1,11 +1,10 @@
 -- `write::put_text` meets its contract. The loop's invariant: the bytes passed are written. The measure is how many are left.
 -- Assumes nothing.
 use mathlib.Core.Path.{◌≡◌, refl, ◌∙◌}
-use Prim.Native.Nat.{◌-◌, ◌≤◌}
 use native.Mathlib.Numerals.{add-one}
 use native.Mathlib.Omega.{arith}
 use lib.ListN.{length, length-set}
-use lib.Seq.{paste, paste-zero, paste-suc, take-length}
+use lib.Seq.{paste-zero, paste-suc, take-length}
 use Rattle.numerals.specs.Writing.{splice}
 use Rattle.numerals.proofs.write.put_text.Goals as goal
 

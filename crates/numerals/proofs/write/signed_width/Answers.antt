@@ -2,7 +2,6 @@
 use mathlib.Core.Path.{◌∙◌, sym, ap}
 use native.Mathlib.Omega.{arith}
 use lib.ListN.{length}
-use borrow.Author.Rules.{rules}
 use Rattle.numerals.proofs.Decimals.{decimal_width, word_below, word_above}
 use Rattle.numerals.proofs.write.signed_width.Goals as goal
 

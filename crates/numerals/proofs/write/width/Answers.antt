@@ -1,10 +1,6 @@
 -- `write::width` meets its contract. The loop's invariant: the digits passed and those of the rest are those of the number. The measure is
 -- the rest. Assumes nothing.
-use mathlib.Core.Path.{◌≡◌}
-use Prim.Native.Nat.{◌+◌}
 use native.Mathlib.Omega.{arith}
-use lib.ListN.{length}
-use Rattle.numerals.specs.Decimal.{decimal}
 use Rattle.numerals.proofs.Decimals.{digit_width, more_width, decimal_width}
 use Rattle.numerals.proofs.write.width.Goals as goal
 

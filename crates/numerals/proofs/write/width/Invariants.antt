@@ -2,10 +2,8 @@
 -- the rest. Assumes nothing.
 use mathlib.Core.Path.{◌≡◌}
 use Prim.Native.Nat.{◌+◌}
-use native.Mathlib.Omega.{arith}
 use lib.ListN.{length}
 use Rattle.numerals.specs.Decimal.{decimal}
-use Rattle.numerals.proofs.Decimals.{digit_width, more_width, decimal_width}
 use Rattle.numerals.proofs.write.width.Given as goal
 
 abbrev pub invariant-loop-rest : goal.invariant-loop-rest

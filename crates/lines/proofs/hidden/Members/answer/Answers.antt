@@ -1,7 +1,5 @@
 -- `hidden::Members::answer` meets its contract. Assumes nothing.
-use borrow.Author.Rules.{rules}
 use borrow.Author.Tests.{not-true, not-false}
-use Rattle.numerals.specs.declared.byte.Kind.TheVariants.{LineEnd}
 use Rattle.lines.proofs.hidden.Members.answer.Goals as goal
 
 pub returns-in_default : goal.returns-in_default

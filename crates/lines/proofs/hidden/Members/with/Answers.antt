@@ -1,6 +1,5 @@
 -- `hidden::Members::with` meets its contract: a number is outside its limits, or its bit is set apart from those of the set. Assumes nothing.
 use native.Mathlib.Omega.{arith}
-use borrow.Author.Rules.{rules}
 use Rattle.lines.proofs.Bits.{within_zero, within_above, within_inside, bit_inside, bit_outside, bit_fits}
 use Rattle.lines.proofs.hidden.Members.with.Goals as goal
 

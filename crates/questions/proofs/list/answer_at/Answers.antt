@@ -42,7 +42,7 @@ stated : (c : After-question-given) → let a = c.args in c.question-given.resul
 stated c = question_stated c.args.n c.args.questions.now c.args.i c.requires.within c.requires.states _ c.question-given.ensures
 
 pub returns-in_default : goal.returns-in_default
-returns-in_default c = absurd (miss (1 ∷ 2 ∷ []) 0 tt (subst (λ (x : Given). OneOf (1 ∷ 2 ∷ []) (tag_of the_type x)) (stated c.before) c.in_default.in_default-own.keys2))
+returns-in_default c = absurd (c.in_default.not-Stated _ (question_stated c.args.n c.args.questions.now c.args.i c.requires.within c.requires.states _ c.question-given.ensures))
 
 stated_rule : {r s : Rule} → Stated r ≡ Stated s → r ≡ s
 stated_rule e = cc

@@ -5,8 +5,7 @@ use lib.ListN.{drop}
 use Rattle.rules.specs.Limits.{max_quantities, max_rules}
 use Rattle.lines.specs.Spelling.{quantities_key, rules_key}
 use Rattle.lines.specs.Lines.{count_judged, hidden_judged}
-use Rattle.lines.proofs.Found.{count_found, hidden_found, refused_by}
-use Rattle.reading.proofs.LineAnswers.{count_refused, hidden_refused}
+use Rattle.lines.proofs.Found.{count_found, hidden_found, count_refused, hidden_refused, refused_by}
 use Rattle.reading.proofs.CheckedHeaders.{size_header, first_header, second_header, third_header, done_header}
 use Rattle.reading.proofs.check.check_header.Goals as goal
 

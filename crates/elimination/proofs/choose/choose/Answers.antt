@@ -8,7 +8,6 @@ use lib.IntN.{ℤ, pos, neg_ℤ, ◌+ℤ◌}
 use lib.ListN.{length}
 use mir.Syntax.{w64}
 use mir.Val.{to_z, of_z}
-use borrow.Author.Rules.{rules}
 use Rattle.integers.specs.Bound.{Within}
 use Rattle.integers.proofs.Parts.{positive_part, negative_part, held_value, word_value}
 use Rattle.integers.proofs.Within.{within_of, within_neg}
@@ -22,7 +21,7 @@ use Rattle.tables.proofs.Sizes.{small_square}
 use Rattle.elimination.specs.Hiding.{pair_word, lone_word}
 use Rattle.elimination.specs.Magnitude.{add_limit}
 use Rattle.elimination.specs.Choosing.{bounded_by, chosen, choice}
-use Rattle.elimination.specs.Inner.{among, Valued, Ready, Row}
+use Rattle.elimination.specs.Inner.{among, Valued, Ready}
 use Rattle.elimination.proofs.Feasible.{choice_chosen}
 use Rattle.elimination.proofs.Projection.{bounded_within, bounded_same}
 use Rattle.elimination.proofs.TermWords.{lone_within, pair_within}

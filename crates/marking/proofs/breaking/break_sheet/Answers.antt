@@ -4,7 +4,6 @@ use Prim.Native.Nat.{◌-◌}
 use lib.ListN.{length}
 use borrow.Rule.Slice.PartMut.{mid_of, put_mid}
 use Rattle.places.specs.Numbering.{block_start}
-use borrow.Author.Rules.{rules}
 use Rattle.tables.proofs.Sizes.{size_known}
 use Rattle.keys.proofs.Parts.{PartBack, second_back}
 use Rattle.marking.proofs.Broken.{sheet_breakable, sheet_readable, sheet_shown, sheet_written, sheet_lent, second_part}

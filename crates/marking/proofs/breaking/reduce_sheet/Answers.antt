@@ -2,7 +2,6 @@
 use native.Mathlib.Omega.{arith}
 use Prim.Native.Nat.{◌≤◌}
 use lib.ListN.{length}
-use borrow.Author.Rules.{rules}
 use Rattle.tables.proofs.Sizes.{size_known, small_start}
 use Rattle.keys.proofs.Parts.{second_back}
 use Rattle.marking.specs.Meaning.{workspace_size}

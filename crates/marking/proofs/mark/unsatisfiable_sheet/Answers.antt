@@ -1,5 +1,4 @@
 -- `mark::unsatisfiable_sheet` meets its contract: the script decided, and its values read back where some integers satisfy it. Assumes nothing.
-use borrow.Author.Rules.{rules}
 use Rattle.marking.proofs.Opposed.{script_rest}
 use Rattle.marking.proofs.Promised.{one_table, without_equal, without_fillable, without_loose}
 use Rattle.marking.proofs.mark.unsatisfiable_sheet.Goals as goal

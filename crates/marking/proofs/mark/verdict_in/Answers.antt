@@ -1,12 +1,9 @@
 -- `mark::verdict_in` meets its contract: the sheet reduced, the script compared with the key and the key with the script, and the rule found broken. Assumes nothing.
-use mathlib.Core.Path.{◌≡◌, sym, ◌∙◌, ap}
-use Prim.Native.Nat.{◌≤◌, ◌<◌}
+use mathlib.Core.Path.{sym, ◌∙◌, ap}
+use Prim.Native.Nat.{◌<◌}
 use native.Mathlib.Omega.{arith}
-use borrow.Author.Rules.{rules}
 use Rattle.integers.proofs.Parts.{held_value}
-use Rattle.words.specs.Change.{word_at}
 use Rattle.places.specs.Numbering.{block_start}
-use Rattle.rules.specs.Limits.{max_quantities}
 use Rattle.tables.specs.Places.{rule_at}
 use Rattle.tables.proofs.Sizes.{size_known, small_start}
 use Rattle.keys.proofs.Parts.{second_room}

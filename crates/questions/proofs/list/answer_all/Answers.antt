@@ -2,16 +2,13 @@
 use mathlib.Core.Path.{◌≡◌, sym, ◌∙◌}
 use mathlib.Core.Bool.{Bool, cond}
 use mathlib.Core.List.{List}
-use Prim.Native.Nat.{ℕ, suc, ◌+◌, ◌-◌, ◌*◌, ◌%◌, ◌^◌, ◌≤◌, ◌<◌}
+use Prim.Native.Nat.{ℕ, suc, ◌+◌, ◌*◌, ◌%◌, ◌^◌, ◌≤◌, ◌<◌}
 use native.Mathlib.Nat.{add-zero}
 use native.Mathlib.Omega.{arith}
 use lib.IntN.{ℤ}
 use lib.Pow.{pow_mono}
 use Rattle.questions.specs.Questions.{max_questions, answer_at, yes_up_to}
 use Rattle.questions.proofs.Bits.{yes_zero, yes_more, yes_below}
-use Rattle.questions.proofs.list.answer_all.Lts as lts
-use Rattle.questions.proofs.list.answer_all.Tie as tie
-use Rattle.questions.proofs.list.answer_all.Reads as reads
 use Rattle.questions.proofs.list.answer_all.Goals as goal
 use Rattle.questions.proofs.list.answer_all.Goals.{then-answer_at, else-answer_at}
 

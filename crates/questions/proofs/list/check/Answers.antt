@@ -1,9 +1,7 @@
 -- `list::check` meets its contract. The loop's invariant: the questions so far are in their limits, and the flag says whether one of them is +q-q. Assumes nothing.
 use mathlib.Core.Path.{◌≡◌}
-use Prim.Native.Nat.{◌-◌, ◌≤◌}
 use native.Mathlib.Omega.{arith}
-use borrow.Author.Rules.{rules}
-use Rattle.questions.proofs.Listing.{Checked, checked_first, checked_cancels, checked_stated, reply_outside, reply_cancels, reply_done}
+use Rattle.questions.proofs.Listing.{checked_first, checked_cancels, checked_stated, reply_outside, reply_cancels, reply_done}
 use Rattle.questions.proofs.list.check.Goals as goal
 use Rattle.questions.proofs.list.check.Goals.{in-Vanishes, in-Stated}
 

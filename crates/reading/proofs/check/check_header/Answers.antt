@@ -1,5 +1,5 @@
 -- `check::check_header` meets its contract: a line that is refused ends it with its refusal. Assumes nothing.
-use mathlib.Core.Path.{◌≡◌, sym, ◌∙◌}
+use mathlib.Core.Path.{sym, ◌∙◌}
 use native.Mathlib.Omega.{arith}
 use lib.ListN.{drop}
 use Rattle.rules.specs.Limits.{max_quantities, max_rules}

@@ -2,12 +2,11 @@
 -- all lines are fine, and it was emptied before where it is to be filled. The measure is the number of lines that are left. Assumes nothing.
 use mathlib.Core.Path.{◌≡◌, sym, ◌∙◌, ap}
 use mathlib.Core.Bool.{true}
-use Prim.Native.Nat.{ℕ, ◌+◌, ◌-◌, ◌≤◌}
+use Prim.Native.Nat.{ℕ, ◌+◌, ◌≤◌}
 use native.Mathlib.Nat.{sub-zero, zero-add}
 use native.Mathlib.Omega.{arith}
 use lib.Dec.{leb}
 use lib.ListN.{length, drop}
-use borrow.Author.Rules.{rules}
 use borrow.Author.Tests.{le-leb, lt-leb}
 use Rattle.places.specs.Numbering.{block_start}
 use Rattle.places.specs.declared.Place.TheVariants.{At}
@@ -16,12 +15,10 @@ use Rattle.tables.proofs.Tests.{clash}
 use Rattle.lines.specs.Spelling.{written_rule}
 use Rattle.lines.specs.Lines.{rule_judged}
 use Rattle.lines.proofs.Found.{rule_found, rule_refused, refused_by}
-use Rattle.reading.specs.Reading.{checked_rules}
-use Rattle.reading.specs.Ordered.{lines_by}
-use Rattle.reading.specs.Inner.{least_of, place_after}
+use Rattle.reading.specs.Inner.{place_after}
 use Rattle.reading.proofs.OrderedLines.{by_ends, by_stops, by_goes, by_over, by_done, refused-passes}
 use Rattle.reading.proofs.Filling.{never_stuck}
-use Rattle.reading.proofs.FillingOnce.{Begun, begun_emptied, begun_same, FillingOnce, once_begins, once_puts, once_passes, once_filled}
+use Rattle.reading.proofs.FillingOnce.{begun_emptied, begun_same, once_begins, once_puts, once_passes, once_filled}
 use Rattle.reading.proofs.check.check_rules.Goals as goal
 use Rattle.reading.proofs.check.check_rules.Goals.{then-fills, else-fills, then-ordered+in-At, else-ordered, then-fills-2, else-fills-2}
 

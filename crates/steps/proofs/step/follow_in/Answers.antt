@@ -1,6 +1,5 @@
 -- `step::follow_in` meets its contract: with the first quantities listed, their blocks are done. Assumes nothing.
 use native.Mathlib.Omega.{arith}
-use borrow.Author.Rules.{rules}
 use Rattle.keys.proofs.Taking.{taken_length}
 use Rattle.steps.proofs.Listing.{first_size, all_alone}
 use Rattle.steps.proofs.Following.{point_between, point_end, point_ready}

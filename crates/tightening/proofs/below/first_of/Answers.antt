@@ -1,7 +1,7 @@
 -- `below::first_of` meets its contract. The loop's invariant: none of the first i places is one that is looked for. The measure is the places left. Assumes nothing.
 use mathlib.Core.Path.{◌≡◌, refl}
 use mathlib.Core.Bool.{true, false}
-use Prim.Native.Nat.{◌+◌, ◌-◌, ◌≤◌}
+use Prim.Native.Nat.{◌+◌}
 use native.Mathlib.Numerals.{add-one}
 use native.Mathlib.Omega.{arith}
 use lib.IntN.{pos}
@@ -10,7 +10,7 @@ use Rattle.integers.proofs.Parts.{linear, held_value}
 use Rattle.words.specs.Change.{word_at}
 use Rattle.places.specs.declared.Place.TheVariants.{Nowhere}
 use Rattle.tables.proofs.Tests.{clash}
-use Rattle.tightening.proofs.FirstBelow.{PassedTo, OnePlace, passed_none, passed_more, passed_all, first_at, run_parts, one_first, one_none}
+use Rattle.tightening.proofs.FirstBelow.{OnePlace, passed_none, passed_more, passed_all, first_at, run_parts, one_first, one_none}
 use Rattle.tightening.proofs.below.first_of.Goals as goal
 use Rattle.tightening.proofs.below.first_of.Goals.{then-w-lt-NO_RULE+else-w-least, else-w-lt-NO_RULE}
 

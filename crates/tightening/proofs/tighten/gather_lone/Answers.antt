@@ -1,7 +1,7 @@
 -- `tighten::gather_lone` meets its contract. The loop's invariant: the bounds of the quantities passed are gathered, and the row keeps its length. The measure is
 -- what is left of the list. Assumes nothing.
 use mathlib.Core.Path.{◌≡◌, refl}
-use Prim.Native.Nat.{◌+◌, ◌-◌, ◌*◌, ◌≤◌, ◌<◌}
+use Prim.Native.Nat.{◌+◌, ◌*◌, ◌≤◌, ◌<◌}
 use native.Mathlib.Numerals.{add-one}
 use native.Mathlib.Omega.{arith}
 use lib.ListN.{length, get_or, length-set}
@@ -9,10 +9,9 @@ use Rattle.integers.proofs.Parts.{held_value}
 use Rattle.places.specs.Numbering.{block_start}
 use Rattle.rules.specs.Limits.{max_quantities}
 use Rattle.elimination.specs.Hiding.{lone_word}
-use Rattle.elimination.proofs.Rows.{FilledTo, filled_none, filled_more}
+use Rattle.elimination.proofs.Rows.{filled_none, filled_more}
 use Rattle.tightening.proofs.Strengthening.{lone_places, plus_lone, minus_lone, lone_all}
 use Rattle.tightening.proofs.tighten.gather_lone.Lts as lts
-use Rattle.tightening.proofs.tighten.gather_lone.Tie as tie
 use Rattle.tightening.proofs.tighten.gather_lone.Reads as reads
 use Rattle.tightening.proofs.tighten.gather_lone.Goals as goal
 

@@ -20,7 +20,6 @@ After-size-m = lts.After-size tie.the-claims reads.Pre reads.Post
 abbrev After-least_bounds : Type 0
 After-least_bounds = lts.After-least_bounds tie.the-claims reads.Pre reads.Post
 
-
 most_of : (z : After-size-m) → z.args.n ≤ max_quantities
 most_of z = z.requires.fits.sums.most
 

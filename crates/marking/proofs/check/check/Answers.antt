@@ -20,7 +20,6 @@ After-size-m = lts.After-size tie.the-claims reads.Pre reads.Post
 abbrev After-any_names_hidden : Type 0
 After-any_names_hidden = lts.After-any_names_hidden tie.the-claims reads.Pre reads.Post
 
-
 -- past the tables' lengths
 both : (c : After-size-m) → BothServe c.args.n c.size-m.result c.args.sheet.now c.args.script.now
 both c = let served = sym c.serves.ensures ∙ c.if-not-serves.false in

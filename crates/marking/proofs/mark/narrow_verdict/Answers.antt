@@ -19,7 +19,6 @@ In-At = lts.Past-After-known_told tie.the-claims reads.Pre reads.Post
 abbrev After-rule_at-rule : Type 0
 After-rule_at-rule = lts.After-rule_at tie.the-claims reads.Pre reads.Post
 
-
 -- the place is one of the table's
 inside : (c : In-At) → c.in-At.k < block_start c.args.n
 inside c = c.requires.inside _ c.in-At.is

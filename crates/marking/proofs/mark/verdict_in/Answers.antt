@@ -41,19 +41,19 @@ offset_bounds-workspace-size c =
 pub slice_bounds-first_below-count : goal.slice_bounds-first_below-count
 slice_bounds-first_below-count c =
     omega (
-    arith,
-    size_known _ _ c.requires.tables_accepted.sized.most c.size.ensures,
-    c.reduce_sheet.ensures.lent.size,
-    c.requires.tables_accepted.workspace_room,
+      arith,
+      size_known _ _ c.requires.tables_accepted.sized.most c.size.ensures,
+      c.reduce_sheet.ensures.lent.size,
+      c.requires.tables_accepted.workspace_room,
     )
 
 pub slice_bounds-first_below-start : goal.slice_bounds-first_below-start
 slice_bounds-first_below-start c =
     omega (
-    arith,
-    size_known _ _ c.requires.tables_accepted.sized.most c.size.ensures,
-    c.reduce_sheet.ensures.lent.size,
-    c.requires.tables_accepted.workspace_room,
+      arith,
+      size_known _ _ c.requires.tables_accepted.sized.most c.size.ensures,
+      c.reduce_sheet.ensures.lent.size,
+      c.requires.tables_accepted.workspace_room,
     )
 
 pub first_below-tight-requires : goal.first_below-tight-requires
@@ -90,15 +90,15 @@ returns-in_default c =
 pub overflow_cast-k : goal.overflow_cast-k
 overflow_cast-k c =
     let inside : c.in-At.k < block_start c.args.n =
-        loose_inside _ _ _ _ _ _ c.args.values.now _ c.requires.tables_accepted (listed_visible _ _ _ _ c.list-count.ensures) _ c.if-reduce_sheet.false
-        c.reduce_sheet.ensures _ _ c.first_broken-loose.ensures _ c.in-At.is in
+    loose_inside _ _ _ _ _ _ c.args.values.now _ c.requires.tables_accepted (listed_visible _ _ _ _ c.list-count.ensures) _ c.if-reduce_sheet.false
+    c.reduce_sheet.ensures _ _ c.first_broken-loose.ensures _ c.in-At.is in
     omega (arith, inside, small_start _ c.requires.tables_accepted.sized.most)
 
 pub offset_bounds-workspace-k : goal.offset_bounds-workspace-k
 offset_bounds-workspace-k c =
     let inside : c.in-At.k < block_start c.args.n =
-        loose_inside _ _ _ _ _ _ c.args.values.now _ c.requires.tables_accepted (listed_visible _ _ _ _ c.list-count.ensures) _ c.if-reduce_sheet.false
-        c.reduce_sheet.ensures _ _ c.first_broken-loose.ensures _ c.in-At.is in
+    loose_inside _ _ _ _ _ _ c.args.values.now _ c.requires.tables_accepted (listed_visible _ _ _ _ c.list-count.ensures) _ c.if-reduce_sheet.false
+    c.reduce_sheet.ensures _ _ c.first_broken-loose.ensures _ c.in-At.is in
     omega (arith, inside, small_start _ c.requires.tables_accepted.sized.most)
 
 pub slice_copy_out-rule_at : goal.slice_copy_out-rule_at

@@ -16,7 +16,6 @@ use Rattle.marking.proofs.rule_words.signed.Goals as goal
 abbrev After-quantity-q : Type 0
 After-quantity-q = lts.After-quantity tie.the-claims reads.Pre reads.Post
 
-
 -- the quantity's number is a word with either sign
 fits : (x : ℕ) → x < 2 ^ 32 → SFits w64 (pos (quantity_of x))
 unfolding positive_part negative_part

@@ -59,8 +59,8 @@ pub loop-i-preserved : goal.loop-i-preserved
 loop-i-preserved c = (
   omega (arith, c.loop-i-test.true),
   elim c.if-answer_at.branch [
-    then-answer_at w ↦ w.answers-is ∙ rw (bit_shifted c.loop-i.i (few_at c.args.m c.loop-i.i c.requires.few c.loop-i-test.true)) (rw w.if-answer_at.true at (next _ _ _ _ c.answer_at.result c.loop-i.invariant.1 c.answer_at.ensures))
-  | else-answer_at w ↦ w.answers-is ∙ sym (add-zero c.loop-i.answers) ∙ rw w.if-answer_at.false at (next _ _ _ _ c.answer_at.result c.loop-i.invariant.1 c.answer_at.ensures)
+    | then-answer_at w ↦ w.answers-is ∙ rw (bit_shifted c.loop-i.i (few_at c.args.m c.loop-i.i c.requires.few c.loop-i-test.true)) (rw w.if-answer_at.true at (next _ _ _ _ c.answer_at.result c.loop-i.invariant.1 c.answer_at.ensures))
+    | else-answer_at w ↦ w.answers-is ∙ sym (add-zero c.loop-i.answers) ∙ rw w.if-answer_at.false at (next _ _ _ _ c.answer_at.result c.loop-i.invariant.1 c.answer_at.ensures)
   ],
 )
 

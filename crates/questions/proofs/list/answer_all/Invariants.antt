@@ -4,7 +4,6 @@ use Prim.Native.Nat.{◌-◌, ◌≤◌}
 use Rattle.questions.specs.Questions.{yes_up_to}
 use Rattle.questions.proofs.list.answer_all.Given as goal
 
-
 abbrev pub invariant-loop-i : goal.invariant-loop-i
 invariant-loop-i l = (l.i ≤ l.m) × (l.answers ≡ yes_up_to l.tight l.questions l.i)
 

@@ -25,8 +25,8 @@ loop-i-preserved c =
     let l = c.loop-i in (
       omega arith,
       elim c.match-given.branch [
-        in-Vanishes w ↦ rw w.cancels-is (checked_cancels _ _ _ _ _ l.invariant.1 c.question-given.ensures w.in-Vanishes.is)
-      | in-Stated w ↦ rw w.cancels-is (checked_stated _ _ _ _ _ l.invariant.1 c.question-given.ensures _ w.in-Stated.is)
+        | in-Vanishes w ↦ rw w.cancels-is (checked_cancels _ _ _ _ _ l.invariant.1 c.question-given.ensures w.in-Vanishes.is)
+        | in-Stated w ↦ rw w.cancels-is (checked_stated _ _ _ _ _ l.invariant.1 c.question-given.ensures _ w.in-Stated.is)
       ],
     )
 

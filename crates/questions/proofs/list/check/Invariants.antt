@@ -3,7 +3,6 @@ use Prim.Native.Nat.{◌-◌, ◌≤◌}
 use Rattle.questions.proofs.Listing.{Checked}
 use Rattle.questions.proofs.list.check.Given as goal
 
-
 abbrev pub invariant-loop-i : goal.invariant-loop-i
 invariant-loop-i l = (l.i ≤ l.m) × Checked l.n l.questions l.i l.cancels
 

@@ -28,18 +28,17 @@ tested n l size e = ap (λ k. leb k l) e
 
 -- the table as the loop begins: emptied, or as it was
 pub loop-i-init : goal.loop-i-init
-loop-i-init c =
-    (
-      omega arith,
-      rw (sub-zero, zero-add),
-      once_begins _ _ _ _ _ _ _,
-      elim c.if-fills.branch [
-        then-fills w ↦
-          let long : block_start c.args.n ≤ length c.args.table.now = omega (arith, w.if-fills.true, size_known c.args.n _ c.requires.1 c.size.ensures) in
-          rw w.table-is (begun_emptied c.args.n _ c.args.table.now _ _ (le-leb _ _ w.if-fills.true) (long_serves c.args.n _ c.requires.0 c.requires.1 long) w.empty.ensures w.empty.auto.table)
-      | else-fills w ↦ rw w.table-is (begun_same c.args.n _ c.args.table.now (lt-leb _ _ w.if-fills.false))
-      ],
-    )
+loop-i-init c = (
+  omega arith,
+  rw (sub-zero, zero-add),
+  once_begins _ _ _ _ _ _ _,
+  elim c.if-fills.branch [
+    | then-fills w ↦
+        let long : block_start c.args.n ≤ length c.args.table.now = omega (arith, w.if-fills.true, size_known c.args.n _ c.requires.1 c.size.ensures) in
+        rw w.table-is (begun_emptied c.args.n _ c.args.table.now _ _ (le-leb _ _ w.if-fills.true) (long_serves c.args.n _ c.requires.0 c.requires.1 long) w.empty.ensures w.empty.auto.table)
+    | else-fills w ↦ rw w.table-is (begun_same c.args.n _ c.args.table.now (lt-leb _ _ w.if-fills.false))
+  ],
+)
 
 -- the line is refused
 pub refusal-requires : goal.refusal-requires
@@ -62,11 +61,11 @@ returns-in_default c =
 pub returns-in_default-place : goal.returns-in_default-place
 returns-in_default-place c =
     let f = rule_found c.args.s.now c.args.n c.args.limit (c.loop-i.i + 4) c.loop-i.at c.in-Rule.rule c.in-Rule.next
-        (sym c.rule_line-got.ensures.reply ∙ c.in-Rule.is) in
+    (sym c.rule_line-got.ensures.reply ∙ c.in-Rule.is) in
     let told : c.place_after-place.result ≡ place_after c.loop-i.i c.loop-i.last (written_rule f.written) =
-        c.place_after-place.ensures ∙ ap (place_after c.loop-i.i c.loop-i.last) f.told in
+    c.place_after-place.ensures ∙ ap (place_after c.loop-i.i c.loop-i.last) f.told in
     let x = by_stops c.args.ordered c.args.n c.args.hidden c.args.limit c.args.count c.args.body c.loop-i.i c.loop-i.last (drop c.loop-i.at c.args.s.now) f.written _
-        c.loop-i-test.true f.is c.if-ordered.true (sym told ∙ c.in_default-place.is) in
+    c.loop-i-test.true f.is c.if-ordered.true (sym told ∙ c.in_default-place.is) in
     once_filled c.args.limit c.args.s.now c.args.n c.args.count c.args.body _ _ c.loop-i.table c.loop-i.at c.loop-i.i c.loop-i.invariant.2 c.args.ordered c.args.hidden
     c.args.table.now _ (tested c.args.n (length c.args.table.now) _ (size_known c.args.n _ c.requires.1 c.size.ensures)) c.loop-i.invariant.3 (sym x ∙ c.loop-i.invariant.1)
     (λ rs q w. refused-passes c.args.n c.args.hidden c.args.count c.args.body _ _ (sym x ∙ c.loop-i.invariant.1) rs q)
@@ -75,31 +74,30 @@ returns-in_default-place c =
 pub loop-i-preserved : goal.loop-i-preserved
 loop-i-preserved c =
     let f = rule_found c.args.s.now c.args.n c.args.limit (c.loop-i.i + 4) c.loop-i.at c.in-Rule.rule c.in-Rule.next
-        (sym c.rule_line-got.ensures.reply ∙ c.in-Rule.is) in
+    (sym c.rule_line-got.ensures.reply ∙ c.in-Rule.is) in
     let placed : c.args.ordered ≡ true → place_after c.loop-i.i c.loop-i.last (written_rule f.written) ≡ At c.if-ordered.last =
-        elim c.if-ordered.branch [
-          then-ordered+in-At w ↦ λ o. sym (w.place_after-place.ensures ∙ ap (place_after c.loop-i.i c.loop-i.last) f.told) ∙ w.in-At.is ∙ ap At (sym w.last-is)
-        | else-ordered w ↦ λ o. clash o w.if-ordered.false
-        ] in
-    (
+    elim c.if-ordered.branch [
+      | then-ordered+in-At w ↦ λ o. sym (w.place_after-place.ensures ∙ ap (place_after c.loop-i.i c.loop-i.last) f.told) ∙ w.in-At.is ∙ ap At (sym w.last-is)
+      | else-ordered w ↦ λ o. clash o w.if-ordered.false
+    ] in (
       omega arith,
       sym (by_goes c.args.ordered c.args.n c.args.hidden c.args.limit c.args.count c.args.body c.loop-i.i c.loop-i.last (drop c.loop-i.at c.args.s.now) f.written
           (drop c.in-Rule.next c.args.s.now) c.if-ordered.last c.loop-i-test.true f.is placed)
           ∙ c.loop-i.invariant.1,
       elim c.if-fills-2.branch [
-        then-fills-2 w ↦
-          let room : block_start c.args.n ≤ length c.loop-i.table = omega (
-            arith,
-            c.loop-i.auto.table,
-            c.if-fills.auto.table,
-            w.if-fills-2.true,
-            size_known c.args.n _ c.requires.1 c.size.ensures,
-          ) in
-          rw w.table-is (once_puts c.args.limit c.args.s.now c.args.n c.args.count c.args.body _ _ c.loop-i.table c.loop-i.at c.loop-i.i c.loop-i.invariant.2
-          (le-leb _ _ w.if-fills-2.true) _ _ _ _ c.requires.2 c.loop-i-test.true room (long_serves c.args.n _ c.requires.0 c.requires.1 room) f w.put.ensures
-          w.put.auto.table)
-      | else-fills-2 w ↦ rw w.table-is (once_passes c.args.limit c.args.s.now c.args.n c.args.count c.args.body _ _ c.loop-i.table c.loop-i.at c.loop-i.i
-          c.loop-i.invariant.2 (lt-leb _ _ w.if-fills-2.false) _)
+        | then-fills-2 w ↦
+            let room : block_start c.args.n ≤ length c.loop-i.table = omega (
+              arith,
+              c.loop-i.auto.table,
+              c.if-fills.auto.table,
+              w.if-fills-2.true,
+              size_known c.args.n _ c.requires.1 c.size.ensures,
+            ) in
+            rw w.table-is (once_puts c.args.limit c.args.s.now c.args.n c.args.count c.args.body _ _ c.loop-i.table c.loop-i.at c.loop-i.i c.loop-i.invariant.2
+            (le-leb _ _ w.if-fills-2.true) _ _ _ _ c.requires.2 c.loop-i-test.true room (long_serves c.args.n _ c.requires.0 c.requires.1 room) f w.put.ensures
+            w.put.auto.table)
+        | else-fills-2 w ↦ rw w.table-is (once_passes c.args.limit c.args.s.now c.args.n c.args.count c.args.body _ _ c.loop-i.table c.loop-i.at c.loop-i.i
+            c.loop-i.invariant.2 (lt-leb _ _ w.if-fills-2.false) _)
       ],
       c.loop-i.invariant.3,
     )

@@ -9,7 +9,6 @@ use Rattle.reading.specs.Inner.{least_of}
 use Rattle.reading.proofs.FillingOnce.{Begun, FillingOnce}
 use Rattle.reading.proofs.check.check_rules.Given as goal
 
-
 abbrev pub invariant-loop-i : goal.invariant-loop-i
 invariant-loop-i l =
     (l.i ≤ l.count)

@@ -18,7 +18,6 @@ Start = lts.Start tie.the-claims reads.Pre reads.Post
 abbrev After-bound_limit-limit : Type 0
 After-bound_limit-limit = lts.After-bound_limit tie.the-claims reads.Pre reads.Post
 
-
 -- what the text has, since it passed
 opened : (c : Start) → let a = c.args in
     Opened (bound_limit a.paper a.n a.hidden) a.s.now a.n a.count a.body c.requires.0.contents.written

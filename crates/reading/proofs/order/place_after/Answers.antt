@@ -15,7 +15,6 @@ use Rattle.reading.proofs.order.place_after.Goals as goal
 abbrev In-At : Type 0
 In-At = lts.Past-After-known_told tie.the-claims reads.Pre reads.Post
 
-
 -- ---- each way
 
 -- the rule has no place

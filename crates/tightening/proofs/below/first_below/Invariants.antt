@@ -5,7 +5,6 @@ use lib.ListN.{length}
 use Rattle.tightening.proofs.FirstBelow.{PassedTo, TableBlock}
 use Rattle.tightening.proofs.below.first_below.Given as goal
 
-
 abbrev pub invariant-loop-i : goal.invariant-loop-i
 invariant-loop-i l = (l.i ≤ length l.live) × PassedTo l.rules l.least (TableBlock l.live) l.i
 

@@ -5,7 +5,6 @@ use lib.ListN.{get_or}
 use Rattle.tightening.proofs.FirstBelow.{PassedTo, BlockRun}
 use Rattle.tightening.proofs.below.first_in_block.Given as goal
 
-
 abbrev pub invariant-loop-h : goal.invariant-loop-h
 invariant-loop-h l = (l.h ≤ l.i) × PassedTo l.rules l.least (BlockRun (get_or l.live l.i 0) l.live) (suc l.h)
 

@@ -55,12 +55,12 @@ pub loop-i-preserved : goal.loop-i-preserved
 loop-i-preserved c = (
   omega arith,
   rw (add-one c.loop-i.i) (passed_more c.args.rules.now c.args.least.now (OnePlace c.args.at) c.loop-i.i Nowhere c.loop-i.invariant.1 refl (one_none c.args.rules.now c.args.least.now c.args.at c.loop-i.i
-  (λ b. elim c.if-w-lt-NO_RULE.branch [
-    then-w-lt-NO_RULE+else-w-least w ↦
-      let h : lt_z (word_at c.args.rules.now (c.args.at + c.loop-i.i)) (word_at c.args.least.now (c.args.at + c.loop-i.i)) ≡ false = rw (held_value c.w-1.given, held_value w.t15-1.given) at w.if-w-least.false in
-      omega (linear, b.smaller, h)
-  | else-w-lt-NO_RULE w ↦ clash b.rule (rw (held_value c.w-1.given) at w.if-w-lt-NO_RULE.false)
-  ]))),
+      (λ b. elim c.if-w-lt-NO_RULE.branch [
+        | then-w-lt-NO_RULE+else-w-least w ↦
+            let h : lt_z (word_at c.args.rules.now (c.args.at + c.loop-i.i)) (word_at c.args.least.now (c.args.at + c.loop-i.i)) ≡ false = rw (held_value c.w-1.given, held_value w.t15-1.given) at w.if-w-least.false in
+            omega (linear, b.smaller, h)
+        | else-w-lt-NO_RULE w ↦ clash b.rule (rw (held_value c.w-1.given) at w.if-w-lt-NO_RULE.false)
+      ]))),
 )
 
 pub returns : goal.returns

@@ -3,7 +3,6 @@ use Prim.Native.Nat.{◌-◌, ◌≤◌}
 use Rattle.tightening.proofs.FirstBelow.{PassedTo, OnePlace}
 use Rattle.tightening.proofs.below.first_of.Given as goal
 
-
 abbrev pub invariant-loop-i : goal.invariant-loop-i
 invariant-loop-i l = (l.i ≤ l.count) × PassedTo l.rules l.least (OnePlace l.at) l.i
 

@@ -7,7 +7,6 @@ use Rattle.elimination.specs.Hiding.{lone_word}
 use Rattle.elimination.proofs.Rows.{FilledTo}
 use Rattle.tightening.proofs.tighten.gather_lone.Given as goal
 
-
 abbrev pub invariant-loop-i : goal.invariant-loop-i
 invariant-loop-i l = (l.i ≤ length l.live) × (length l.row ≡ length l.initial.row) × FilledTo l.i l.live (lone_word l.table) l.row
 

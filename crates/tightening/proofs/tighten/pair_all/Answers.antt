@@ -7,14 +7,13 @@ use Rattle.tightening.proofs.Walking.{walk_first, walk_ready, walk_on, walk_clas
 use Rattle.tightening.proofs.tighten.pair_all.Goals as goal
 
 pub loop-turn-init : goal.loop-turn-init
-loop-turn-init c =
-    (
-      omega arith,
-      refl,
-      refl,
-      refl,
-      walk_first c.args.n c.args.live.now c.args.table.now c.requires.0 c.requires.1,
-    )
+loop-turn-init c = (
+  omega arith,
+  refl,
+  refl,
+  refl,
+  walk_first c.args.n c.args.live.now c.args.table.now c.requires.0 c.requires.1,
+)
 
 pub offset_bounds-live-turn : goal.offset_bounds-live-turn
 offset_bounds-live-turn c = omega arith
@@ -55,16 +54,15 @@ pub loop-turn-smaller : goal.loop-turn-smaller
 loop-turn-smaller c = omega arith
 
 pub loop-turn-preserved : goal.loop-turn-preserved
-loop-turn-preserved c =
-    (
-      omega arith,
-      c.pair.auto.table ∙ c.loop-turn.invariant.1,
-      c.pair.auto.plus ∙ c.loop-turn.invariant.2,
-      c.pair.auto.minus ∙ c.loop-turn.invariant.3,
-      rw (add-one c.loop-turn.turn)
-          (walk_on c.args.n c.args.live.now c.args.table.now c.requires.0 c.requires.1 c.loop-turn.turn c.loop-turn.table _ _ c.loop-turn-test.true c.loop-turn.invariant.4
-          c.pair.ensures c.if-pair.false),
-    )
+loop-turn-preserved c = (
+  omega arith,
+  c.pair.auto.table ∙ c.loop-turn.invariant.1,
+  c.pair.auto.plus ∙ c.loop-turn.invariant.2,
+  c.pair.auto.minus ∙ c.loop-turn.invariant.3,
+  rw (add-one c.loop-turn.turn)
+      (walk_on c.args.n c.args.live.now c.args.table.now c.requires.0 c.requires.1 c.loop-turn.turn c.loop-turn.table _ _ c.loop-turn-test.true c.loop-turn.invariant.4
+      c.pair.ensures c.if-pair.false),
+)
 
 pub shape_of-table : goal.shape_of-table
 shape_of-table c = c.loop-turn.invariant.1

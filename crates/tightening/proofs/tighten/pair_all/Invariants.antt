@@ -6,7 +6,6 @@ use lib.ListN.{length, get_or}
 use Rattle.tightening.proofs.Walking.{PairedTo}
 use Rattle.tightening.proofs.tighten.pair_all.Given as goal
 
-
 abbrev pub invariant-loop-turn : goal.invariant-loop-turn
 invariant-loop-turn l =
     (l.turn ≤ length l.live) × (length l.table ≡ length l.initial.table) × (length l.plus ≡ length l.initial.plus) × (length l.minus ≡ length l.initial.minus) × PairedTo l.n (get_or l.live l.turn l.n) l.initial.table l.table

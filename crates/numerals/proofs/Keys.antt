@@ -1,24 +1,20 @@
 -- The bytes at a cursor: keys that they start with, and what the kind of the first tells of it. Assumes nothing.
-use mathlib.Core.Path.{◌≡◌, refl, sym, ◌∙◌, ap, ap₂, subst}
-use mathlib.Core.Bool.{Bool, true, false, cond, not, ◌&&◌}
+use mathlib.Core.Path.{◌≡◌, refl, sym, ◌∙◌, ap, ap₂}
+use mathlib.Core.Bool.{Bool, true, false, cond, ◌&&◌}
 use mathlib.Core.List.{List, [], ◌∷◌, ◌++◌}
 use Prim.Native.Nat.{ℕ, suc, ◌+◌, ◌≤◌, ◌<◌}
 use native.Mathlib.Nat.{add-suc}
 use native.Mathlib.Numerals.{add-one}
 use native.Mathlib.Omega.{arith}
-use lib.Dec.{T, leb, eqb}
+use lib.Dec.{leb, eqb}
 use lib.ListN.{length, get_or, drop, length-append, drop_of_length-le, get_or-eq_default}
 use lib.Seq.{drop-cons, drop-drop, drop-append_seam}
-use mir.Val.{has_key}
-use types.Run.{OneOf, miss}
-use denote.Enum.Declared.{tag_of}
 use borrow.Author.Tests.{leb-true, leb-false, eqb-true, le-leb, eq-eqb, ne_eqb}
 use Rattle.numerals.specs.declared.byte.Kind.{Kind}
 use Rattle.numerals.specs.declared.byte.Kind.TheVariants.{Digit, Plus, Minus, Colon, Comma, LineEnd, Other}
 use Rattle.numerals.specs.Bytes.{is_digit, kind_of, digit_zero, plus, minus, colon, comma, newline}
 use Rattle.numerals.specs.Parsing.{Parsed, malformed, expect, starts_with, digit_next}
 use Rattle.numerals.proofs.Cases.{clash, failed, both_true, by_below}
-use Rattle.numerals.specs.contracts.byte.Kind.{the_type}
 
 -- ---- digits
 
@@ -35,38 +31,6 @@ pub no_digit : (b : ℕ) → (digit_zero ≤ b → b ≤ 57 → ⊥) → is_digi
 no_digit b h = failed (is_digit b) (λ e. h (digit_range b e).0 (digit_range b e).1)
 
 -- ---- kinds
-
--- the place of a kind among the kinds
-abbrev pub place : Kind → ℕ
-place k = tag_of the_type k
-
--- a kind whose place is one of some is none whose place is not
-pub kind_none : (ks : List ℕ) (j k : Kind) → T (not (has_key ks (place j))) → OneOf ks (place k) → k ≡ j → ⊥
-kind_none ks j k m h e = miss ks (place j) m (subst (λ (x : Kind). OneOf ks (place x)) e h)
-
--- the places of the other kinds
-abbrev pub others : Kind → List ℕ
-others Digit = 1 ∷ 2 ∷ 3 ∷ 4 ∷ 5 ∷ 6 ∷ []
-others Plus = 0 ∷ 2 ∷ 3 ∷ 4 ∷ 5 ∷ 6 ∷ []
-others Minus = 0 ∷ 1 ∷ 3 ∷ 4 ∷ 5 ∷ 6 ∷ []
-others Colon = 0 ∷ 1 ∷ 2 ∷ 4 ∷ 5 ∷ 6 ∷ []
-others Comma = 0 ∷ 1 ∷ 2 ∷ 3 ∷ 5 ∷ 6 ∷ []
-others LineEnd = 0 ∷ 1 ∷ 2 ∷ 3 ∷ 4 ∷ 6 ∷ []
-others Other = 0 ∷ 1 ∷ 2 ∷ 3 ∷ 4 ∷ 5 ∷ []
-
--- no kind is among the others
-not_other : (k : Kind) → T (not (has_key (others k) (place k)))
-not_other Digit = tt
-not_other Plus = tt
-not_other Minus = tt
-not_other Colon = tt
-not_other Comma = tt
-not_other LineEnd = tt
-not_other Other = tt
-
--- what the `else` of `let Kind::J = k else { .. }` tells
-pub kind_else : (j k : Kind) → OneOf (others j) (place k) → k ≡ j → ⊥
-kind_else j k h = kind_none (others j) j k (not_other j) h
 
 -- the byte of a kind that one byte alone has
 abbrev pub byte_of : Kind → ℕ

@@ -2,7 +2,6 @@
 -- Assumes nothing.
 use mathlib.Core.Path.{◌≡◌, ◌∙◌, ap}
 use mathlib.Core.Bool.{Bool, true, false}
-use mathlib.Core.Logic.{⊎_elim}
 use lib.IntN.{ℤ, pos, ◌+ℤ◌}
 use lib.Signed.{lt_z}
 use mir.Syntax.{w64}
@@ -14,6 +13,7 @@ use Rattle.integers.proofs.midpoint.Lts as lts
 use Rattle.integers.proofs.midpoint.Tie as tie
 use Rattle.integers.proofs.midpoint.Reads as reads
 use Rattle.integers.proofs.midpoint.Goals as goal
+use Rattle.integers.proofs.midpoint.Goals.{then-x-a+else-y-b, else-x-a}
 
 abbrev After-halved-x : Type 0
 After-halved-x = lts.After-halved tie.the-claims reads.Pre reads.Post
@@ -92,7 +92,7 @@ overflow_add-result-2 c = rw (first c.before.before, second c.before) (halves_wo
 pub returns : goal.returns
 returns c = rw (first c.before.before, second c.before)
     (word_value (halves_word c.args.a c.args.b c.ranges.a c.ranges.b)
-    ∙ ⊎_elim
-    (λ w. second_even c.args.a c.args.b c.ranges.a c.ranges.b (second_test c.before w.1.left))
-    (λ w. first_even c.args.a c.args.b c.ranges.a c.ranges.b (first_test c.before w.left))
-    c.if-x-a.branch)
+    ∙ elim c.if-x-a.branch [
+      then-x-a+else-y-b w ↦ second_even c.args.a c.args.b c.ranges.a c.ranges.b (second_test c.before w.if-y-b.false)
+      | else-x-a w ↦ first_even c.args.a c.args.b c.ranges.a c.ranges.b (first_test c.before w.if-x-a.false)
+    ])

@@ -9,7 +9,7 @@ use borrow.Author.Rules.{rules}
 use borrow.Author.Tests.{not-true, not-false}
 use Rattle.numerals.specs.declared.byte.Kind.TheVariants.{LineEnd}
 use Rattle.numerals.specs.Parsing.{parsed, and_then, starts_with}
-use Rattle.numerals.proofs.Keys.{kind_at, kind_else, kind_read, kind_inside, starts_length}
+use Rattle.numerals.proofs.Keys.{kind_at, kind_read, kind_inside, starts_length}
 use Rattle.numerals.proofs.Numerals.{NumeralFound, numeral_found, numeral_none}
 use Rattle.lines.specs.declared.answer.Answer.TheVariants.{Count}
 use Rattle.lines.specs.Lines.{ended, count_judged}
@@ -88,7 +88,7 @@ returns-in_default-kind c = let a = (start c⟪?⟫).args in
     count_answered _ _ _ (c.malformed-in_default-kind.ensures
     ∙ sym (numbered c⟪?⟫
     ∙ rw (ended_not (found c⟪?⟫).value (drop c.in-Number.next a.s.now)
-    (λ e. kind_else LineEnd c.kind_of-kind.result c.in_default-kind.in_default-kind-own.keys2 (kind_is c.before.before.before ∙ e)))
+    (λ e. c.in_default-kind.not-LineEnd (kind_is c.before.before.before ∙ e)))
     (count_malformed a.s.now a.least a.most a.line)))
 
 -- the line ends after the number

@@ -8,7 +8,7 @@ use borrow.Author.Rules.{rules}
 use borrow.Author.Tests.{not-true, not-false}
 use Rattle.numerals.specs.declared.byte.Kind.TheVariants.{LineEnd}
 use Rattle.numerals.specs.Parsing.{starts_with}
-use Rattle.numerals.proofs.Keys.{kind_at, kind_else, kind_read, kind_inside, starts_length}
+use Rattle.numerals.proofs.Keys.{kind_at, kind_read, kind_inside, starts_length}
 use Rattle.lines.specs.Spelling.{hidden_key}
 use Rattle.lines.proofs.Answered.{hidden_answered}
 use Rattle.lines.proofs.Members.{hidden_unkeyed, hidden_none, hidden_some}
@@ -60,7 +60,7 @@ pub returns-in_default : goal.returns-in_default
 returns-in_default c = let a = (start c.before.before.before.before.before.before).args in
     hidden_answered _ _ _ (c.listed.ensures
     ∙ sym (hidden_some a.n a.line a.s.now a.at (keyed c.before.before.before.before.before)
-    (λ e. kind_else LineEnd c.kind_of-kind.result c.in_default.in_default-own.keys2 (kind_is c.before.before.before ∙ e))))
+    (λ e. c.in_default.not-LineEnd (kind_is c.before.before.before ∙ e))))
 
 -- the line ends after it
 line_end : (c : In-LineEnd) → let a = (start c.before.before.before.before).args in

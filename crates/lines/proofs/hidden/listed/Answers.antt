@@ -9,7 +9,7 @@ use borrow.Author.Rules.{rules}
 use borrow.Author.Tests.{not-true, not-false}
 use Rattle.numerals.specs.declared.byte.Kind.TheVariants.{Comma}
 use Rattle.numerals.specs.Order.{smaller_numeral}
-use Rattle.numerals.proofs.Keys.{kind_at, kind_else, kind_read}
+use Rattle.numerals.proofs.Keys.{kind_at, kind_read}
 use Rattle.numerals.proofs.Numerals.{NumeralFound, numeral_found, numeral_none}
 use Rattle.lines.specs.Inner.{list_answer}
 use Rattle.lines.proofs.Members.{Reading, reading_first, reading_none, reading_past, reading_unordered, reading_room, reading_end, reading_more}
@@ -97,7 +97,7 @@ overflow_add-next c = omega (arith, (found c⟪?⟫).inside)
 pub returns-in_default-kind : goal.returns-in_default-kind
 returns-in_default-kind c = let l = turn c⟪?⟫ in
     reading_end l.loop_from.inv (found c⟪?⟫) (above c.before.before.before.before.before.before) c.answer.result (start l).pre
-    (λ q. kind_else Comma c.kind_of-kind.result c.in_default-kind.in_default-kind-own.keys2 (kind_is c.before.before.before ∙ q))
+    (λ q. c.in_default-kind.not-Comma (kind_is c.before.before.before ∙ q))
     (rw (c.with-found.ensures.0, c.with-found.ensures.1, kind_is c.before.before.before) at c.answer.ensures)
 
 -- a comma follows

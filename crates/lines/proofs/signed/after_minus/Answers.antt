@@ -6,7 +6,7 @@ use lib.ListN.{drop}
 use borrow.Author.Rules.{rules}
 use borrow.Author.Tests.{lt-ltb, le-ltb}
 use Rattle.numerals.specs.declared.byte.Kind.TheVariants.{Minus}
-use Rattle.numerals.proofs.Keys.{kind_at, kind_else, kind_read, kind_inside, starts_kind, starts_other}
+use Rattle.numerals.proofs.Keys.{kind_at, kind_read, kind_inside, starts_kind, starts_other}
 use Rattle.lines.proofs.SignedNumbers.{bound_minus, bound_plain}
 use Rattle.lines.proofs.signed.after_minus.Lts as lts
 use Rattle.lines.proofs.signed.after_minus.Tie as tie
@@ -27,7 +27,7 @@ pub returns-in_default : goal.returns-in_default
 returns-in_default c = let a = c.args in
     rw (le-ltb a.at a.at (omega arith))
     (bound_plain (drop a.at a.s.now)
-    (starts_other Minus (drop a.at a.s.now) refl (λ e. kind_else Minus c.kind_of-kind.result c.in_default.in_default-own.keys2 (kind_is c.before.before ∙ e))))
+    (starts_other Minus (drop a.at a.s.now) refl (λ e. c.in_default.not-Minus (kind_is c.before.before ∙ e))))
 
 -- a minus is at the cursor
 minus_here : (c : In-Minus) → let a = c.args in kind_at (drop a.at a.s.now) ≡ Minus

@@ -8,7 +8,7 @@ use Rattle.integers.proofs.Parts.{held_value}
 use Rattle.numerals.specs.declared.byte.Kind.TheVariants.{LineEnd}
 use Rattle.numerals.specs.Parsing.{and_then}
 use Rattle.numerals.proofs.Cursors.{cursor_here}
-use Rattle.numerals.proofs.Keys.{kind_at, kind_else, kind_read, kind_inside}
+use Rattle.numerals.proofs.Keys.{kind_at, kind_read, kind_inside}
 use Rattle.lines.specs.declared.signed.Signed.TheVariants.{Read}
 use Rattle.lines.specs.Lines.{bound_at, bound_line, ended}
 use Rattle.lines.specs.Inner.{capped_integer, signed_answer}
@@ -55,7 +55,7 @@ pub returns-in_default-kind : goal.returns-in_default-kind
 unfolding signed_answer
 returns-in_default-kind c = let a = c.args in
     ap (signed_answer a.s.now) (sym (after c.before.before.before.before ∙ ended_not (bound c.before.before.before.before).value (drop c.in-Read.next a.s.now)
-    (λ e. kind_else LineEnd c.kind_of-kind.result c.in_default-kind.in_default-kind-own.keys2 (kind_is c.before.before ∙ e))))
+    (λ e. c.in_default-kind.not-LineEnd (kind_is c.before.before ∙ e))))
 
 -- the line ends
 end_here : (c : In-LineEnd) → let a = c.args in

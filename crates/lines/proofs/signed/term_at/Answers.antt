@@ -58,5 +58,5 @@ pub returns-in_default-kind : goal.returns-in_default-kind
 unfolding term_answer
 returns-in_default-kind c = let a = c.args in
     ap (term_answer a.s.now) (sym (term_none a.s.now a.at c.if-s-at.false
-    (λ q. kind_none neither Plus c.kind_of-kind.result tt c.in_default-kind.in_default-kind-own.keys3 (c.kind_of-kind.ensures ∙ q))
-    (λ q. kind_none neither Minus c.kind_of-kind.result tt c.in_default-kind.in_default-kind-own.keys3 (c.kind_of-kind.ensures ∙ q))))
+    (λ q. c.in_default-kind.not-Plus (c.kind_of-kind.ensures ∙ q))
+    (λ q. c.in_default-kind.not-Minus (c.kind_of-kind.ensures ∙ q))))

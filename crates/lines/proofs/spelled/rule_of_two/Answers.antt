@@ -10,7 +10,7 @@ use Rattle.integers.proofs.Parts.{word_value, held_value}
 use Rattle.numerals.specs.declared.byte.Kind.TheVariants.{Colon}
 use Rattle.numerals.specs.Bytes.{colon}
 use Rattle.numerals.specs.Parsing.{Parsed, parsed, and_then, expect}
-use Rattle.numerals.proofs.Keys.{kind_at, kind_else, kind_read, kind_inside, starts_kind, starts_other, expect_not, byte_passed}
+use Rattle.numerals.proofs.Keys.{kind_at, kind_read, kind_inside, starts_kind, starts_other, expect_not, byte_passed}
 use Rattle.lines.specs.Spelling.{Term, signed_quantity}
 use Rattle.lines.specs.Lines.{term_of, bound_line}
 use Rattle.lines.specs.Inner.{capped_integer, second_line, two_answer}
@@ -61,7 +61,7 @@ pub returns-in_default-kind : goal.returns-in_default-kind
 unfolding two_answer
 returns-in_default-kind c = let a = c.args in
     ap (two_answer a.s.now _) (sym (after_second c.before.before.before.before ∙ expect_not (colon ∷ []) _ (with_bound (second c.before.before.before.before).value)
-    (starts_other Colon _ refl (λ q. kind_else Colon c.kind_of-kind.result c.in_default-kind.in_default-kind-own.keys2 (kind_is c.before.before ∙ q)))))
+    (starts_other Colon _ refl (λ q. c.in_default-kind.not-Colon (kind_is c.before.before ∙ q)))))
 
 -- a colon is after it
 colon_here : (c : In-Colon) → let a = c.args in

@@ -14,7 +14,7 @@ use borrow.Author.Tests.{not-true, not-false}
 use Rattle.integers.proofs.Parts.{held_value}
 use Rattle.numerals.specs.declared.byte.Kind.TheVariants.{Colon}
 use Rattle.numerals.specs.Parsing.{and_then, starts_with}
-use Rattle.numerals.proofs.Keys.{kind_at, kind_else, kind_read, kind_inside, expect_key, expect_not, starts_length}
+use Rattle.numerals.proofs.Keys.{kind_at, kind_read, kind_inside, expect_key, expect_not, starts_length}
 use Rattle.lines.specs.Spelling.{rule_key, signed_quantity}
 use Rattle.lines.specs.Lines.{term_of, bound_line, after_term, rule_line}
 use Rattle.lines.specs.Inner.{capped_integer, second_line, one_answer, two_answer, spelled_answer}
@@ -93,7 +93,7 @@ returns-in_default-kind c = let a = c.args in
     ∙ ap (λ (x : ℤ). two_answer a.s.now x (second_line (drop c.in-Read.next a.s.now))) (first_told c.before.before.before.before.before)
     ∙ two_after a.s.now (first c.before.before.before.before.before).value (drop c.in-Read.next a.s.now)
     ∙ ap (spelled_answer a.s.now) (sym (after_first c.before.before.before.before.before ∙ after_other (first c.before.before.before.before.before).value (drop c.in-Read.next a.s.now)
-    (λ e. kind_else Colon c.kind_of-kind.result c.in_default-kind.in_default-kind-own.keys2 (kind_is c.before.before.before ∙ e))))
+    (λ e. c.in_default-kind.not-Colon (kind_is c.before.before.before ∙ e))))
 
 -- a colon is after it
 colon_here : (c : In-Colon) → let a = c.args in

@@ -24,9 +24,7 @@ pub returns-in-48-to-57 : goal.returns-in-48-to-57
 returns-in-48-to-57 c = let b = c.args.b in sym (digit_kind b (is_digit_lem b (omega arith) (omega arith)))
 
 pub returns-in_default : goal.returns-in_default
-returns-in_default c = let r = c.in_default-1.rest in
-    sym (kind_other _ (omega arith) r.0.0.0.0.1 r.0.0.0.1 r.0.0.1 r.0.1 r.1)
+returns-in_default c = sym (kind_other _ (omega arith) (omega arith) (omega arith) (omega arith) (omega arith) (omega arith))
 
 pub returns-in_default-2 : goal.returns-in_default-2
-returns-in_default-2 c = let r = c.in_default-1.rest in
-    sym (kind_other _ (omega arith) r.0.0.0.0.1 r.0.0.0.1 r.0.0.1 r.0.1 r.1)
+returns-in_default-2 c = sym (kind_other _ (omega arith) (omega arith) (omega arith) (omega arith) (omega arith) (omega arith))

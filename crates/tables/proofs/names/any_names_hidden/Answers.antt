@@ -2,7 +2,6 @@
 -- Assumes nothing.
 use mathlib.Core.Path.{◌≡◌, refl, sym, ◌∙◌}
 use mathlib.Core.Bool.{Bool, true, false}
-use mathlib.Core.Logic.{⊎_elim}
 use Prim.Native.Nat.{◌*◌, ◌-◌, ◌≤◌}
 use native.Mathlib.Omega.{arith}
 use lib.ListN.{length, take, drop}
@@ -24,6 +23,7 @@ use Rattle.tables.proofs.names.any_names_hidden.Lts as lts
 use Rattle.tables.proofs.names.any_names_hidden.Tie as tie
 use Rattle.tables.proofs.names.any_names_hidden.Reads as reads
 use Rattle.tables.proofs.names.any_names_hidden.Goals as goal
+use Rattle.tables.proofs.names.any_names_hidden.Goals.{then-w-lt-NO_RULE+else-names_hidden, else-w-lt-NO_RULE}
 
 abbrev After-size-m : Type 0
 After-size-m = lts.After-size tie.the-claims reads.Pre reads.Post goal.the-invariant-loop-k goal.the-decreases-loop-k
@@ -85,14 +85,12 @@ loop-k-smaller c = omega arith
 
 pub loop-k-preserved : goal.loop-k-preserved
 loop-k-preserved c = naming_next _ _ _ _ _ c.loop-k.invariant (room c.before.before.before.before) c.loop-k-test.true
-    (⊎_elim
-    (λ p. rw (
-      ruled c.before true p.0.taken,
-      named (record { before = record { before = record { before = c.before; if1 = p.0 }; rule-at = p.1 }; names-hidden = p.2 }),
-      p.3.left,
-    ))
-    (λ p. rw (ruled c.before false p.left))
-    c.if-w-lt-NO_RULE.branch)
+    (elim c.if-w-lt-NO_RULE.branch [
+      then-w-lt-NO_RULE+else-names_hidden w ↦ rw (ruled c.before true w.if-w-lt-NO_RULE.true)
+          (sym (rw (w.rule_at.ensures.reply, held_value {z = word_at c.args.table.now c.loop-k.k} c.w-1.given) at w.names_hidden.ensures)
+          ∙ w.if-names_hidden.false)
+      | else-w-lt-NO_RULE w ↦ rw (ruled c.before false w.if-w-lt-NO_RULE.false)
+    ])
 
 pub returns : goal.returns
 returns c = answer c.before.before false (naming_end _ _ _ _ _ c.loop-k.invariant (room c.before.before) c.loop-k-test.false)

@@ -82,12 +82,12 @@ loop-b-preserved c =
       omega arith,
       rw (add-one l.b) (omega (arith, block_start_suc l.b)),
       omega (arith, block_start_suc l.b, small_start (suc l.b) (omega arith)),
-      c.fill-in-loop-b.auto.values ∙ l.invariant.4,
+      c.fill-in-loop-b.auto.t ∙ l.invariant.4,
       λ t e. rw (add-one l.b) (c.fill-in-loop-b.ensures ∙ rw (l.invariant.2, l.invariant.5 t e) (clear_more c.args.j l.b t l.invariant.0)),
     )
 
 pub shape_of-table : goal.shape_of-table
-shape_of-table c = c.loop-b.invariant.4 ∙ c.fill.auto.values
+shape_of-table c = c.loop-b.invariant.4 ∙ c.fill.auto.t
 
 pub returns : goal.returns
 unfolding cleared block_start

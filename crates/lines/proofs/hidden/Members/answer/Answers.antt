@@ -6,7 +6,7 @@ use Rattle.numerals.proofs.Keys.{kind_else}
 use Rattle.lines.proofs.hidden.Members.answer.Goals as goal
 
 pub returns-in_default : goal.returns-in_default
-returns-in_default c = record { ended = λ e. absurd (kind_else LineEnd _ c.in_default.in_default-own.keys2 e); other = λ e. c.malformed.ensures }
+returns-in_default c = record { ended = λ e. absurd (c.in_default.not-LineEnd e); other = λ e. c.malformed.ensures }
 
 pub returns-then-not-self : goal.returns-then-not-self
 returns-then-not-self c = let a = c.args in record {

@@ -1,14 +1,12 @@
 -- What a line's answer tells of the text: the line is there, with numbers in their limits, up to the cursor of the next one; or its refusal.
 -- Assumes nothing.
-use mathlib.Core.Path.{◌≡◌, refl, sym, ◌∙◌, ap, subst}
-use mathlib.Core.Bool.{Bool, true, false, cond, not}
+use mathlib.Core.Path.{◌≡◌, refl, sym, ◌∙◌, ap}
+use mathlib.Core.Bool.{Bool, true, false, cond}
 use mathlib.Core.List.{List, [], ◌∷◌, ◌++◌, append_assoc}
 use Prim.Native.Nat.{ℕ, ◌≤◌, ◌<◌}
 use native.Mathlib.Omega.{arith}
-use lib.Dec.{T, leb}
+use lib.Dec.{leb}
 use lib.ListN.{length, drop, length-append, length-drop}
-use mir.Val.{has_key}
-use types.Run.{OneOf, miss}
 use denote.Enum.Declared.{tag_of}
 use borrow.Author.Tests.{leb-true}
 use Rattle.numerals.specs.Bytes.{newline}
@@ -202,23 +200,22 @@ pub refused_by : {A : Type 0} {j : Judged A} {got : Answer} (f : Refusal) → Li
 refused_by f l e = let a = l.answered in let same : l.refusal ≡ f = cc in l.is ∙ ap refused same
 
 -- an answer that is not of the line's own kind is its refusal
-other_refused : {A : Type 0} (make : A → ℕ → Answer) (ks : List ℕ) (s : List ℕ) (j : Judged A) (got : Answer) → got ≡ answer_of make s j
-    → ((a : A) (i : ℕ) → T (not (has_key ks (place (make a i))))) → OneOf ks (place got) → LineRefused j got
-other_refused make ks s (accepted a u) got e m o =
-    absurd (miss ks (place (make a (cursor_of s u))) (m a (cursor_of s u)) (subst (λ (x : Answer). OneOf ks (place x)) e o))
-other_refused make ks s (refused f) got e m o = record { refusal = f; is = refl; answered = e }
+other_refused : {A : Type 0} (make : A → ℕ → Answer) (s : List ℕ) (j : Judged A) (got : Answer) → got ≡ answer_of make s j
+    → ((a : A) (i : ℕ) → got ≡ make a i → ⊥) → LineRefused j got
+other_refused make s (accepted a u) got e m = absurd (m a (cursor_of s u) e)
+other_refused make s (refused f) got e m = record { refusal = f; is = refl; answered = e }
 
 -- what the `else` of `let Answer::Count { .. } = got else { .. }` tells of a line of a key and a number
-pub count_refused : (s : List ℕ) (j : Judged ℕ) (got : Answer) → got ≡ count_answer s j → OneOf (1 ∷ 2 ∷ 3 ∷ []) (place got) → LineRefused j got
+pub count_refused : (s : List ℕ) (j : Judged ℕ) (got : Answer) → got ≡ count_answer s j → ((v i : ℕ) → got ≡ Count v i → ⊥) → LineRefused j got
 unfolding count_answer
-count_refused s j got e o = other_refused Count (1 ∷ 2 ∷ 3 ∷ []) s j got e (λ v i. tt) o
+count_refused s j got e o = other_refused Count s j got e o
 
 -- of `let Answer::Hidden { .. } = got else { .. }`, of a line of hidden quantities
-pub hidden_refused : (s : List ℕ) (j : Judged (List ℕ)) (got : Answer) → got ≡ hidden_answer s j → OneOf (0 ∷ 2 ∷ 3 ∷ []) (place got) → LineRefused j got
+pub hidden_refused : (s : List ℕ) (j : Judged (List ℕ)) (got : Answer) → got ≡ hidden_answer s j → ((set i : ℕ) → got ≡ Hidden set i → ⊥) → LineRefused j got
 unfolding hidden_answer
-hidden_refused s j got e o = other_refused (λ qs. Hidden (set_of qs)) (0 ∷ 2 ∷ 3 ∷ []) s j got e (λ qs i. tt) o
+hidden_refused s j got e o = other_refused (λ qs. Hidden (set_of qs)) s j got e (λ qs i. o (set_of qs) i)
 
 -- of `let Answer::Rule { .. } = got else { .. }`, of a line of a rule
-pub rule_refused : (s : List ℕ) (j : Judged Written) (got : Answer) → got ≡ rule_answer s j → OneOf (0 ∷ 1 ∷ 3 ∷ []) (place got) → LineRefused j got
+pub rule_refused : (s : List ℕ) (j : Judged Written) (got : Answer) → got ≡ rule_answer s j → ((r : Rule) (i : ℕ) → got ≡ RuleRead r i → ⊥) → LineRefused j got
 unfolding rule_answer
-rule_refused s j got e o = other_refused (λ w. RuleRead (written_rule w)) (0 ∷ 1 ∷ 3 ∷ []) s j got e (λ w i. tt) o
+rule_refused s j got e o = other_refused (λ w. RuleRead (written_rule w)) s j got e (λ w i. o (written_rule w) i)

@@ -1,10 +1,4 @@
 -- `answer::refusal` meets its contract: the answer is a refusal, so that the loop is never reached. Assumes nothing.
-use mathlib.Core.Path.{◌≡◌, subst}
-use mathlib.Core.List.{[], ◌∷◌}
-use types.Run.{OneOf, miss}
-use borrow.Author.Rules.{rules}
-use Rattle.lines.specs.declared.answer.Answer.{Answer}
-use Rattle.lines.proofs.Found.{place}
 use Rattle.lines.proofs.answer.refusal.Given as goal
 
 

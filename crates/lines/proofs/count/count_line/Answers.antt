@@ -2,6 +2,7 @@
 -- Assumes nothing.
 use mathlib.Core.Path.{◌≡◌, refl, sym, ◌∙◌, ap}
 use mathlib.Core.Bool.{true}
+use mathlib.Core.List.{List}
 use Prim.Native.Nat.{ℕ, ◌+◌, ◌<◌}
 use native.Mathlib.Omega.{arith}
 use lib.ListN.{length, drop, length-drop}
@@ -22,20 +23,8 @@ use Rattle.lines.proofs.count.count_line.Tie as tie
 use Rattle.lines.proofs.count.count_line.Reads as reads
 use Rattle.lines.proofs.count.count_line.Goals as goal
 
-abbrev Start : Type 0
-Start = lts.Start tie.the-claims reads.Pre reads.Post
-
 abbrev Else-not-has_key : Type 0
 Else-not-has_key = lts.Else1 tie.the-claims reads.Pre reads.Post
-
-abbrev In-Number-2 : Type 0
-In-Number-2 = lts.After-got tie.the-claims reads.Pre reads.Post
-
-abbrev After-kind_of-kind : Type 0
-After-kind_of-kind = lts.After-kind_of tie.the-claims reads.Pre reads.Post
-
-abbrev In-LineEnd : Type 0
-In-LineEnd = lts.Past-After-enum_told2 tie.the-claims reads.Pre reads.Post
 
 pub returns-then-not-has_key : goal.returns-then-not-has_key
 returns-then-not-has_key c = let a = c.args in
@@ -59,75 +48,52 @@ returns-in_default c = let a = c.args in
     ∙ rw (numeral_none a.s.now (a.at + length a.key.now) (sym c.numeral_at-got.ensures ∙ c.in_default.is))
     (count_malformed a.s.now a.least a.most a.line)))
 
--- where the function began
-abbrev start : In-Number-2 → Start
-start c = c.before.before.before.before.before.before.before
-
 -- the number is there
-found : (c : In-Number-2) → let a = (start c).args in
-    NumeralFound a.s.now (a.at + length a.key.now) c.in-Number.value c.in-Number.next
-found c = let a = (start c).args in
-    numeral_found a.s.now (a.at + length a.key.now) _ _ (sym c.numeral_at-got.ensures ∙ c.in-Number.is)
+module _ (s key : List ℕ) (at least most line : ℕ) (value next : ℕ) (k : starts_with key (drop at s) ≡ true) (f : NumeralFound s (at + length key) value next) where
+  -- so the answer is that of the line's end after it
+  numbered : count_answer s (count_judged key least most line (drop at s)) ≡ form_answer s least most line (ended f.value (drop next s))
+  unfolding and_then
+  numbered = count_keyed s least most line key at k ∙ rw f.is
 
--- the answer is that of the line's end after it
-numbered : (c : In-Number-2) → let a = (start c).args in
-    count_answer a.s.now (count_judged a.key.now a.least a.most a.line (drop a.at a.s.now))
-    ≡ form_answer a.s.now a.least a.most a.line (ended (found c).value (drop c.in-Number.next a.s.now))
-unfolding and_then
-numbered c = let a = (start c).args in
-    count_keyed a.s.now a.least a.most a.line a.key.now a.at (keyed c.before.before.before) ∙ rw (found c).is
-
--- the kind is that of the byte after it
-kind_is : (c : After-kind_of-kind) → let a = (start c⟪?⟫).args in
-    c.kind_of-kind.result ≡ kind_at (drop c.in-Number.next a.s.now)
-kind_is c = let a = (start c⟪?⟫).args in
-    kind_read a.s.now c.in-Number.next c.byte_at.ensures c.kind_of-kind.ensures
+  -- or, where the line ends there, that of the number
+  read : kind_at (drop next s) ≡ LineEnd
+      → count_answer s (count_judged key least most line (drop at s)) ≡ form_answer s least most line (parsed f.value (drop (next + 1) s))
+  read e = numbered ∙ rw (ended_here f.value s next e)
 
 pub returns-in_default-kind : goal.returns-in_default-kind
-returns-in_default-kind c = let a = (start c⟪?⟫).args in
+returns-in_default-kind c = let a = c.args in let s = a.s.now in let next = c.in-Number.next in
+    let f = numeral_found s (a.at + length a.key.now) _ _ (sym c.numeral_at-got.ensures ∙ c.in-Number.is) in
     count_answered _ _ _ (c.malformed-in_default-kind.ensures
-    ∙ sym (numbered c⟪?⟫
-    ∙ rw (ended_not (found c⟪?⟫).value (drop c.in-Number.next a.s.now)
-    (λ e. c.in_default-kind.not-LineEnd (kind_is c.before.before.before ∙ e)))
-    (count_malformed a.s.now a.least a.most a.line)))
-
--- the line ends after the number
-line_end : (c : In-LineEnd) → let a = (start c⟪?⟫).args in
-    kind_at (drop c.in-Number.next a.s.now) ≡ LineEnd
-line_end c = sym (kind_is c.before) ∙ c.in-LineEnd.is
-
--- inside the text
-end_inside : (c : In-LineEnd) → let a = (start c⟪?⟫).args in
-    c.in-Number.next < length a.s.now
-end_inside c = let a = (start c⟪?⟫).args in
-    kind_inside LineEnd a.s.now c.in-Number.next refl (line_end c)
-
--- the answer is that of the number
-read : (c : In-LineEnd) → let a = (start c⟪?⟫).args in
-    count_answer a.s.now (count_judged a.key.now a.least a.most a.line (drop a.at a.s.now))
-    ≡ form_answer a.s.now a.least a.most a.line (parsed (found c⟪?⟫).value (drop (c.in-Number.next + 1) a.s.now))
-read c = let a = (start c⟪?⟫).args in
-    numbered c⟪?⟫ ∙ rw (ended_here (found c⟪?⟫).value a.s.now c.in-Number.next (line_end c))
+    ∙ sym (numbered s a.key.now a.at a.least a.most a.line _ _ (sym c.has_key.ensures ∙ c.if-not-has_key.false) f
+    ∙ rw (ended_not f.value (drop next s) (λ e. c.in_default-kind.not-LineEnd (kind_read s next c.byte_at.ensures c.kind_of-kind.ensures ∙ e)))
+    (count_malformed s a.least a.most a.line)))
 
 pub returns-then-count-least : goal.returns-then-count-least
-returns-then-count-least c = let st = start c⟪?⟫ in let a = st.args in
+returns-then-count-least c = let a = c.args in let s = a.s.now in let next = c.in-Number.next in
+    let f = numeral_found s (a.at + length a.key.now) _ _ (sym c.numeral_at-got.ensures ∙ c.in-Number.is) in
+    let e = sym (kind_read s next c.byte_at.ensures c.kind_of-kind.ensures) ∙ c.in-LineEnd.is in
     count_answered _ _ _ (c.out_of_limit.ensures
-    ∙ sym (read c.before.before.before ∙ count_low a.s.now a.least a.most a.line (found c⟪?⟫).value _ st.pre.0
-    (omega (arith, (found c⟪?⟫).told, c.if-count-least.true))))
+    ∙ sym (read s a.key.now a.at a.least a.most a.line _ _ (sym c.has_key.ensures ∙ c.if-not-has_key.false) f e
+    ∙ count_low s a.least a.most a.line f.value _ c.requires.0 (omega (arith, f.told, c.if-count-least.true))))
 
 pub returns-then-most-count : goal.returns-then-most-count
-returns-then-most-count c = let st = start c⟪?⟫ in let a = st.args in
+returns-then-most-count c = let a = c.args in let s = a.s.now in let next = c.in-Number.next in
+    let f = numeral_found s (a.at + length a.key.now) _ _ (sym c.numeral_at-got.ensures ∙ c.in-Number.is) in
+    let e = sym (kind_read s next c.byte_at.ensures c.kind_of-kind.ensures) ∙ c.in-LineEnd.is in
     count_answered _ _ _ (c.out_of_limit-then-most-count.ensures
-    ∙ sym (read c.before.before.before.before ∙ count_high a.s.now a.least a.most a.line (found c⟪?⟫).value _ st.pre.0 st.pre.1
-    (omega (arith, (found c⟪?⟫).told, c.if-count-least.false)) (omega (arith, (found c⟪?⟫).told, c.if-most-count.true))))
+    ∙ sym (read s a.key.now a.at a.least a.most a.line _ _ (sym c.has_key.ensures ∙ c.if-not-has_key.false) f e
+    ∙ count_high s a.least a.most a.line f.value _ c.requires.0 c.requires.1
+    (omega (arith, f.told, c.if-count-least.false)) (omega (arith, f.told, c.if-most-count.true))))
 
 pub overflow_add-result : goal.overflow_add-result
-overflow_add-result c = omega (arith, end_inside c.before.before.before)
+overflow_add-result c = let s = c.args.s.now in let next = c.in-Number.next in
+    omega (arith, kind_inside LineEnd s next refl (sym (kind_read s next c.byte_at.ensures c.kind_of-kind.ensures) ∙ c.in-LineEnd.is))
 
 pub returns : goal.returns
-returns c = let st = start c⟪?⟫ in let a = st.args in
-    let next : ℕ = c.in-Number.next in
-    count_answered _ _ _ (sym (read c.before.before.before
-    ∙ count_inside a.s.now a.least a.most a.line (found c⟪?⟫).value (next + 1) st.pre.0 st.pre.1
-    (omega (arith, (found c⟪?⟫).told, c.if-count-least.false)) (omega (arith, (found c⟪?⟫).told, c.if-most-count.false)) (omega (arith, end_inside c.before.before.before))
-    ∙ ap (λ (v : ℕ). Count v (next + 1)) (sym (found c⟪?⟫).told)))
+returns c = let a = c.args in let s = a.s.now in let next : ℕ = c.in-Number.next in
+    let f = numeral_found s (a.at + length a.key.now) _ _ (sym c.numeral_at-got.ensures ∙ c.in-Number.is) in
+    let e = sym (kind_read s next c.byte_at.ensures c.kind_of-kind.ensures) ∙ c.in-LineEnd.is in
+    count_answered _ _ _ (sym (read s a.key.now a.at a.least a.most a.line _ _ (sym c.has_key.ensures ∙ c.if-not-has_key.false) f e
+    ∙ count_inside s a.least a.most a.line f.value (next + 1) c.requires.0 c.requires.1
+    (omega (arith, f.told, c.if-count-least.false)) (omega (arith, f.told, c.if-most-count.false)) (omega (arith, kind_inside LineEnd s next refl e))
+    ∙ ap (λ (v : ℕ). Count v (next + 1)) (sym f.told)))

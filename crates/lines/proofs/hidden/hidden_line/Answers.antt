@@ -67,9 +67,9 @@ line_end : (c : In-LineEnd) → let a = (start c.before.before.before.before).ar
     kind_at (drop (a.at + length hidden_key) a.s.now) ≡ LineEnd
 line_end c = sym (kind_is c.before) ∙ c.in-LineEnd.is
 
-{- add_t14 : tie.Need-overflow-add-t14
-add_t14 c = let a = (start c.before.before.before.before.before).args in
-    omega (arith, kind_inside LineEnd a.s.now (a.at + length hidden_key) refl (line_end c)) -}
+pub overflow_add-result : goal.overflow_add-result
+overflow_add-result c = let a = c.args in
+    omega (arith, kind_inside LineEnd a.s.now (a.at + length hidden_key) refl (line_end c.before))
 
 pub returns : goal.returns
 returns c = let a = (start c.before.before.before.before.before).args in

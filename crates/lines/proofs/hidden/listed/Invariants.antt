@@ -9,7 +9,7 @@ use borrow.Author.Rules.{rules}
 use borrow.Author.Tests.{not-true, not-false}
 use Rattle.numerals.specs.declared.byte.Kind.TheVariants.{Comma}
 use Rattle.numerals.specs.Order.{smaller_numeral}
-use Rattle.numerals.proofs.Keys.{kind_at, kind_else, kind_read}
+use Rattle.numerals.proofs.Keys.{kind_at, kind_read}
 use Rattle.numerals.proofs.Numerals.{NumeralFound, numeral_found, numeral_none}
 use Rattle.lines.specs.Inner.{list_answer}
 use Rattle.lines.proofs.Members.{Reading, reading_first, reading_none, reading_past, reading_unordered, reading_room, reading_end, reading_more}

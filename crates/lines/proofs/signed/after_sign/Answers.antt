@@ -6,7 +6,6 @@ use Prim.Native.Nat.{◌<◌}
 use native.Mathlib.Omega.{arith}
 use lib.ListN.{drop}
 use borrow.Author.Rules.{rules}
-use borrow.Author.Tests.{eqb-true, eqb-false}
 use Rattle.integers.proofs.Parts.{held_value}
 use Rattle.numerals.specs.declared.read.Numeral.TheVariants.{Number}
 use Rattle.numerals.specs.Parsing.{numeral_of, numeral_answer}
@@ -20,9 +19,6 @@ use Rattle.lines.proofs.signed.after_sign.Goals as goal
 abbrev In-Number : Type 0
 In-Number = lts.Past-After-known_told tie.the-claims reads.Pre reads.Post
 
-abbrev Joined-else-minus : Type 0
-Joined-else-minus = lts.Joined1 tie.the-claims reads.Pre reads.Post
-
 pub returns-in_default : goal.returns-in_default
 returns-in_default c = let a = c.args in
     bound_bare a.s.now _ a.minus (sym c.numeral_at-got.ensures ∙ c.in_default.is)
@@ -34,15 +30,13 @@ number c = sym c.numeral_at-got.ensures ∙ c.in-Number.is
 
 pub returns-then-value-eq0 : goal.returns-then-value-eq0
 returns-then-value-eq0 c = let a = c.args in
-    rw c.if-minus.true (minus_zero a.s.now _ _ _ (number c.before.before.before) (eqb-true _ 0 c.if-value-eq0.true))
+    rw c.if-minus.true (minus_zero a.s.now _ _ _ (number c.before.before.before) c.if-value-eq0.true)
 
 pub with_sign-requires : goal.with_sign-requires
 with_sign-requires c = let a = c.args in answer_cap a.s.now _ _ _ (number c.before.before)
 
--- after a minus it is above 0
-above : (c : Joined-else-minus) → let a = c.args in a.minus ≡ true → 0 < c.in-Number.value
-above c e = ⊎_elim (λ x. omega (arith, eqb-false c.in-Number.value 0 x.1.left)) (λ x. clash e x.left) c.else-minus.branch
-
 pub returns : goal.returns
 returns c = let a = c.args in
-    rw (held_value c.with_sign.type_inv, c.with_sign.ensures) (number_bound a.minus a.s.now _ _ _ (number c.before.before.before) (above c.before.before))
+    -- after a minus it is above 0
+    let above : a.minus ≡ true → 0 < c.in-Number.value = λ e. ⊎_elim (λ x. omega arith) (λ x. clash e x) c.else-minus.either in
+    rw (held_value c.with_sign.type_inv, c.with_sign.ensures) (number_bound a.minus a.s.now _ _ _ (number c.before.before.before) above)

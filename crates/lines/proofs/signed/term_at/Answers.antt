@@ -8,7 +8,6 @@ use Rattle.integers.proofs.Parts.{held_value}
 use Rattle.numerals.specs.declared.byte.Kind.TheVariants.{Plus, Minus}
 use Rattle.numerals.specs.declared.read.Numeral.TheVariants.{Number}
 use Rattle.numerals.specs.Parsing.{numeral_of, numeral_answer}
-use Rattle.numerals.proofs.Keys.{kind_none}
 use Rattle.lines.specs.Inner.{term_answer}
 use Rattle.lines.proofs.SignedNumbers.{answer_cap, term_end, term_bare, term_plus, term_minus, term_none}
 use Rattle.lines.proofs.signed.term_at.Lts as lts
@@ -49,10 +48,6 @@ pub returns-in-Minus : goal.returns-in-Minus
 returns-in-Minus c = let a = c.args in
     rw (held_value c.with_sign-in-Minus.type_inv, c.with_sign-in-Minus.ensures)
     (term_minus a.s.now a.at _ _ c.if-s-at.false (sym c.kind_of-kind.ensures ∙ c.in-Minus.is) (number c.before.before.before.before.before))
-
--- the places of the kinds that are no sign
-abbrev neither : List ℕ
-neither = 0 ∷ 3 ∷ 4 ∷ 5 ∷ 6 ∷ []
 
 pub returns-in_default-kind : goal.returns-in_default-kind
 unfolding term_answer

@@ -6,11 +6,11 @@ use Rattle.lines.proofs.hidden.Members.with.Goals as goal
 
 pub returns-then-q-lt1 : goal.returns-then-q-lt1
 returns-then-q-lt1 c = let a = c.args in let e = within_zero a.n a.q c.if-q-lt1.true in
-    (omega (arith, bit_outside a.n a.q e), rw e)
+    record { set = omega (arith, bit_outside a.n a.q e); within = rw e }
 
 pub returns-then-n-q : goal.returns-then-n-q
 returns-then-n-q c = let a = c.args in let e = within_above a.n a.q c.if-q-lt1.false c.if-n-q.true in
-    (omega (arith, bit_outside a.n a.q e), rw e)
+    record { set = omega (arith, bit_outside a.n a.q e); within = rw e }
 
 pub overflow_add-result : goal.overflow_add-result
 overflow_add-result c = let a = c.args in
@@ -21,4 +21,4 @@ pub returns : goal.returns
 returns c = let a = c.args in
     let l = c.if-q-lt1.false in let m = c.if-n-q.false in
     let w = within_inside a.n a.q l m in
-    (rw (c.bit.ensures, bit_inside a.n a.q w), rw w)
+    record { set = rw (c.bit.ensures, bit_inside a.n a.q w); within = rw w }

@@ -2,7 +2,6 @@
 use mathlib.Core.Path.{◌≡◌, refl, sym, ◌∙◌, ap}
 use mathlib.Core.Bool.{Bool, true, false, cond, ◌&&◌, ◌||◌, or-false}
 use mathlib.Core.List.{List}
-use mathlib.Core.Logic.{◌⊎◌, inl, inr}
 use Prim.Native.Nat.{ℕ, suc, ◌+◌, ◌*◌, ◌/◌, ◌≤◌, ◌<◌}
 use native.Mathlib.Omega.{arith}
 use lib.Dec.{ltb}
@@ -16,9 +15,8 @@ use Rattle.places.specs.declared.Place.TheVariants.{At}
 use Rattle.places.specs.Numbering.{block_start, block_of, is_one, higher_at, lower_at}
 use Rattle.places.proofs.Numbering.{block_start_mono, block_unique, higher_half, at_lower}
 use Rattle.rules.specs.declared.rule.Rule.{Rule}
-use Rattle.rules.specs.Meaning.{bound_of, names}
+use Rattle.rules.specs.Meaning.{bound_of}
 use Rattle.tables.specs.Places.{find_place}
-use Rattle.tables.specs.Meaning.{rule_in}
 use Rattle.tables.proofs.Tests.{neither}
 use Rattle.elimination.specs.Hiding.{every, lone_word, live_at, pairing, paired, eliminated}
 use Rattle.elimination.specs.ByRules.{IsSum}

@@ -20,6 +20,7 @@ pub mod Addable
 pub mod Lists
 pub mod Rows
 pub mod BareSums
+pub mod Best
 pub mod Blocks
 pub mod BlockOrder
 pub mod Promised

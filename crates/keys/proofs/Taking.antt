@@ -1,6 +1,6 @@
 -- One turn as the program takes it, with the live quantities in a list: what it does to the table and to the values. Assumes nothing.
 use mathlib.Core.Path.{◌≡◌, refl, sym, ◌∙◌}
-use mathlib.Core.Bool.{Bool, true, false, cond, not, ◌&&◌}
+use mathlib.Core.Bool.{Bool, true, false, cond, ◌&&◌}
 use mathlib.Core.List.{List}
 use mathlib.Core.Logic.{◌⊎◌, inl, inr}
 use Prim.Native.Nat.{ℕ, suc, ◌+◌, ◌-◌, ◌*◌, ◌/◌, ◌≤◌, ◌<◌}
@@ -231,18 +231,3 @@ table_ready n set part t values j r h = record {
 -- a prefix of a list that is long enough has its length
 pub taken_length : (count : ℕ) (out : List ℕ) → count ≤ length out → count ≡ length (take count out)
 taken_length count out h = sym (length-take-le count out h)
-
--- what a negated test shows
-pub not_true : {b : Bool} → not b ≡ true → b ≡ false
-not_true {b} e = go b e
-  where
-    go : (b : Bool) → not b ≡ true → b ≡ false
-    go true e = clash e refl
-    go false e = refl
-
-pub not_false : {b : Bool} → not b ≡ false → b ≡ true
-not_false {b} e = go b e
-  where
-    go : (b : Bool) → not b ≡ false → b ≡ true
-    go true e = refl
-    go false e = clash refl e

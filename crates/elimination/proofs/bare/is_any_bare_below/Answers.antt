@@ -1,7 +1,7 @@
 -- `bare::is_any_bare_below` meets its contract. The loop's invariant: no bare sum of the quantities passed is a contradiction. The measure is what
 -- is left of the list. Assumes nothing.
 use mathlib.Core.Path.{◌≡◌, sym, ◌∙◌}
-use Prim.Native.Nat.{◌+◌, ◌-◌, ◌*◌, ◌≤◌, ◌<◌}
+use Prim.Native.Nat.{◌+◌, ◌*◌, ◌≤◌, ◌<◌}
 use native.Mathlib.Numerals.{add-one}
 use native.Mathlib.Omega.{arith}
 use lib.ListN.{length, get_or}
@@ -10,7 +10,7 @@ use Rattle.words.specs.Change.{word_at}
 use Rattle.rules.specs.Limits.{max_quantities}
 use Rattle.elimination.specs.Hiding.{bare_below}
 use Rattle.elimination.proofs.Rows.{row_held}
-use Rattle.elimination.proofs.BareSums.{ClearTo, clear_none, clear_more, clear_all, any_plus, any_minus}
+use Rattle.elimination.proofs.BareSums.{clear_none, clear_more, clear_all, any_plus, any_minus}
 use Rattle.elimination.proofs.bare.is_any_bare_below.Lts as lts
 use Rattle.elimination.proofs.bare.is_any_bare_below.Tie as tie
 use Rattle.elimination.proofs.bare.is_any_bare_below.Reads as reads
@@ -73,10 +73,6 @@ overflow_add-x c = omega (arith, here c.before.before.before)
 pub offset_bounds-minus-x : goal.offset_bounds-minus-x
 offset_bounds-minus-x c = omega (arith, here c.before.before.before)
 
-shared_slice_copy_out_is_bare_below_2 :
-    goal.bounds-minus-x invariant-loop decreases-loop
-shared_slice_copy_out_is_bare_below_2 c = omega (arith, here c.before.before)
-
 pub is_bare_below-requires : goal.is_bare_below-requires
 is_bare_below-requires c =
     let a = get_or c.args.live.now c.loop-i.i 0 in
@@ -96,16 +92,8 @@ overflow_add-x-in-loop-i c = omega (arith, here c.before.before.before.before.be
 pub offset_bounds-plus-x-in-loop-i : goal.offset_bounds-plus-x-in-loop-i
 offset_bounds-plus-x-in-loop-i c = omega (arith, here c.before.before.before.before.before.before)
 
-shared_slice_copy_out_is_bare_below_3 :
-    goal.bounds-plus-x-in-loop-i invariant-loop decreases-loop
-shared_slice_copy_out_is_bare_below_3 c = omega (arith, here c.before.before.before.before.before)
-
 pub offset_bounds-minus-x-in-loop-i : goal.offset_bounds-minus-x-in-loop-i
 offset_bounds-minus-x-in-loop-i c = omega (arith, here c.before.before.before.before.before.before.before)
-
-shared_slice_copy_out_is_bare_below_4 :
-    goal.bounds-minus-x-in-loop-i invariant-loop decreases-loop
-shared_slice_copy_out_is_bare_below_4 c = omega (arith, here c.before.before.before.before.before.before)
 
 pub is_bare_below-requires-in-loop-i : goal.is_bare_below-requires-in-loop-i
 is_bare_below-requires-in-loop-i c =

@@ -5,7 +5,6 @@ use native.Mathlib.Omega.{arith}
 use lib.IntN.{ℤ, neg_ℤ, ◌+ℤ◌}
 use mir.Syntax.{w64}
 use mir.Val.{SFits}
-use borrow.Author.Rules.{rules}
 use Rattle.integers.specs.Bound.{smaller}
 use Rattle.integers.proofs.Parts.{word_value, held_value}
 use Rattle.integers.proofs.Within.{sum_word, within_neg}

@@ -1,22 +1,12 @@
 -- `pair::pair_blocks` meets its contract. The loop's invariant: the sums are put in at every place before the block of the quantity of place i in the list, or of all n
 -- quantities where the list has ended. The measure is the quantities left. Assumes nothing.
-use mathlib.Core.Path.{◌≡◌, refl, ◌∙◌}
-use Prim.Native.Nat.{suc, ◌-◌, ◌≤◌, ◌<◌}
-use native.Mathlib.Numerals.{add-one}
-use native.Mathlib.Omega.{arith}
-use lib.ListN.{length, get_or, get_or-eq_default}
-use mir.Syntax.{w64}
-use mir.Val.{to_z, of_z}
-use Rattle.integers.proofs.Parts.{word_value}
-use Rattle.words.specs.Change.{word_at, change, starting_at}
-use Rattle.words.proofs.Change.{change_on}
+use mathlib.Core.Path.{◌≡◌}
+use Prim.Native.Nat.{◌-◌, ◌≤◌}
+use lib.ListN.{length, get_or}
+use Rattle.words.specs.Change.{word_at, change}
 use Rattle.places.specs.Numbering.{block_start}
-use Rattle.places.proofs.Numbering.{block_start_mono}
 use Rattle.elimination.specs.Hiding.{pairing}
 use Rattle.elimination.specs.Inner.{among}
-use Rattle.elimination.proofs.Addable.{adds_held}
-use Rattle.elimination.proofs.Rows.{row_part}
-use Rattle.elimination.proofs.Blocks.{inside_same, blocks_first, blocks_next}
 use Rattle.elimination.proofs.pair.pair_blocks.Given as goal
 
 

@@ -1,5 +1,4 @@
 -- `pair::pair_one` meets its contract: the three operations on words give what their definitions say. Assumes nothing.
-use borrow.Author.Rules.{rules}
 use Rattle.integers.proofs.Parts.{word_value, held_value}
 use Rattle.words.specs.Change.{word_at}
 use Rattle.elimination.proofs.pair.pair_one.Goals as goal

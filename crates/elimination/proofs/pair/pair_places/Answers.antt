@@ -3,7 +3,6 @@ use mathlib.Core.Path.{◌≡◌, ◌∙◌}
 use Prim.Native.Nat.{suc, ◌+◌, ◌*◌}
 use native.Mathlib.Omega.{arith}
 use lib.ListN.{set, get_or}
-use borrow.Author.Rules.{rules}
 use Rattle.integers.proofs.Parts.{word_value, held_value}
 use Rattle.words.specs.Change.{word_at}
 use Rattle.places.specs.Numbering.{block_start}

@@ -6,7 +6,6 @@ use native.Mathlib.Omega.{arith}
 use lib.IntN.{ℤ, pos}
 use lib.Seq.{set-get_or}
 use mathlib.Core.Bool.{true, false}
-use borrow.Author.Rules.{rules}
 use Rattle.integers.proofs.Parts.{word_value}
 use Rattle.tables.specs.Tables.{has_rule}
 use Rattle.elimination.specs.Hiding.{with_sum}

@@ -1,5 +1,4 @@
 -- `pair::pair_two` meets its contract: both operations on words give what their definition says. Assumes nothing.
-use borrow.Author.Rules.{rules}
 use Rattle.integers.proofs.Parts.{word_value, held_value}
 use Rattle.words.specs.Change.{word_at}
 use Rattle.elimination.proofs.pair.pair_two.Goals as goal

@@ -1,22 +1,13 @@
 -- `pair::pair_twos` meets its contract. The loop's invariant: the sums are put in at the places before those with the lower quantity of place h in the list. The
 -- measure is the lower quantities left. Assumes nothing.
-use mathlib.Core.Path.{◌≡◌, refl, ◌∙◌, ap}
-use Prim.Native.Nat.{ℕ, suc, ◌+◌, ◌-◌, ◌*◌, ◌≤◌, ◌<◌}
-use native.Mathlib.Numerals.{add-one}
-use native.Mathlib.Omega.{arith}
+use mathlib.Core.Path.{◌≡◌}
+use Prim.Native.Nat.{◌+◌, ◌-◌, ◌*◌, ◌≤◌}
 use lib.IntN.{ℤ}
 use lib.ListN.{length, get_or}
-use borrow.Author.Rules.{rules}
-use Rattle.integers.proofs.Parts.{held_value}
 use Rattle.words.specs.Change.{word_at, change, starting_at}
 use Rattle.places.specs.Numbering.{block_start}
-use Rattle.places.proofs.Numbering.{block_start_suc}
-use Rattle.tables.proofs.Sizes.{small_square, small_start}
-use Rattle.elimination.specs.Hiding.{on_two, pairing}
-use Rattle.elimination.specs.Inner.{among, two_paired, four_paired}
-use Rattle.elimination.proofs.Lists.{listed_at, rising_above}
-use Rattle.elimination.proofs.Rows.{row_held}
-use Rattle.elimination.proofs.Blocks.{four_same, twos_first, twos_next, twos_more}
+use Rattle.elimination.specs.Hiding.{pairing}
+use Rattle.elimination.specs.Inner.{among}
 use Rattle.elimination.proofs.pair.pair_twos.Given as goal
 
 

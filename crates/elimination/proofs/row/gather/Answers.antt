@@ -1,13 +1,13 @@
 -- `row::gather` meets its contract. The loop's invariant: the bounds with the quantities passed are gathered, and the rows keep their lengths. The measure is
 -- what is left of the list. Assumes nothing.
 use mathlib.Core.Path.{◌≡◌, refl, ◌∙◌}
-use Prim.Native.Nat.{suc, ◌+◌, ◌-◌, ◌*◌, ◌≤◌, ◌<◌}
+use Prim.Native.Nat.{suc, ◌+◌, ◌*◌, ◌<◌}
 use native.Mathlib.Numerals.{add-one}
 use native.Mathlib.Omega.{arith}
 use lib.ListN.{length, get_or}
 use Rattle.places.proofs.Numbering.{block_start_mono}
 use Rattle.elimination.specs.Hiding.{pair_word}
-use Rattle.elimination.proofs.Rows.{FilledTo, filled_none, filled_more, filled_all}
+use Rattle.elimination.proofs.Rows.{filled_none, filled_more, filled_all}
 use Rattle.elimination.proofs.row.gather.Goals as goal
 
 pub loop-i-init : goal.loop-i-init

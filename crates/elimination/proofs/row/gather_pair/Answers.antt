@@ -5,7 +5,6 @@ use Prim.Native.Nat.{ℕ, suc, ◌+◌, ◌*◌, ◌/◌, ◌%◌, ◌≤◌, �
 use native.Mathlib.Omega.{arith}
 use lib.IntN.{ℤ}
 use lib.ListN.{length, set, length-set}
-use borrow.Author.Rules.{rules}
 use Rattle.integers.proofs.Parts.{held_value}
 use Rattle.words.specs.Change.{word_at}
 use Rattle.places.specs.Numbering.{block_start, place_of_pair}
@@ -15,7 +14,6 @@ use Rattle.tables.proofs.Sizes.{small_square}
 use Rattle.elimination.specs.Hiding.{pair_word}
 use Rattle.elimination.proofs.TermWords.{pair_same, pair_first, pair_second}
 use Rattle.elimination.proofs.row.gather_pair.Lts as lts
-use Rattle.elimination.proofs.row.gather_pair.Tie as tie
 use Rattle.elimination.proofs.row.gather_pair.Reads as reads
 use Rattle.elimination.proofs.row.gather_pair.Goals as goal
 

@@ -6,7 +6,6 @@ use Rattle.integers.proofs.Parts.{word_value}
 use Rattle.elimination.specs.Hiding.{bare_below}
 use Rattle.elimination.proofs.Addable.{sum_fits, held_rule}
 use Rattle.elimination.proofs.word.is_bare_below.Lts as lts
-use Rattle.elimination.proofs.word.is_bare_below.Tie as tie
 use Rattle.elimination.proofs.word.is_bare_below.Reads as reads
 use Rattle.elimination.proofs.word.is_bare_below.Goals as goal
 

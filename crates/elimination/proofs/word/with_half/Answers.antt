@@ -3,7 +3,6 @@ use mathlib.Core.Path.{◌≡◌, ◌∙◌}
 use lib.IntN.{◌+ℤ◌}
 use mir.Syntax.{w64}
 use mir.Val.{SFits, to_z, of_z}
-use borrow.Author.Rules.{rules}
 use Rattle.integers.specs.Bound.{half}
 use Rattle.integers.proofs.Parts.{word_value, held_value}
 use Rattle.elimination.specs.Hiding.{with_half}

@@ -2,7 +2,6 @@
 use lib.IntN.{◌+ℤ◌}
 use mir.Syntax.{w64}
 use mir.Val.{SFits}
-use borrow.Author.Rules.{rules}
 use Rattle.integers.proofs.Parts.{word_value, held_value}
 use Rattle.elimination.specs.Hiding.{with_sum}
 use Rattle.elimination.proofs.Addable.{sum_fits, held_rule}

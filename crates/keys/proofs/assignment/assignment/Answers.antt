@@ -1,5 +1,4 @@
 -- `assignment::assignment` meets its contract: the checks, the decision in the workspace, then the values. Assumes nothing.
-use borrow.Author.Rules.{rules}
 use Rattle.keys.proofs.Promised.{untouched, assignment_rest, assignment_refused, assignment_five, assignment_done, decided_reduced}
 use Rattle.keys.proofs.assignment.assignment.Goals as goal
 

@@ -1,6 +1,5 @@
 -- `assignment::fill` meets its contract: all values 0, then those outside the set read back. Assumes nothing.
 use mathlib.Core.Path.{◌∙◌}
-use borrow.Author.Rules.{rules}
 use Rattle.keys.proofs.Filling.{fillable_readable, filled}
 use Rattle.keys.proofs.assignment.fill.Goals as goal
 

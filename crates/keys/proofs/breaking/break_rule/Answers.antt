@@ -1,6 +1,5 @@
 -- `breaking::break_rule` meets its contract: the rule's opposite goes into the table, in which all quantities outside the set are eliminated, and the values are read back from it.
 -- Assumes nothing.
-use borrow.Author.Rules.{rules}
 use Rattle.keys.proofs.Opposites.{put_opposed, opposed_fits, opposed_fillable, opposed_broken}
 use Rattle.keys.proofs.breaking.break_rule.Goals as goal
 

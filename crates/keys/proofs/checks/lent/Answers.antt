@@ -1,7 +1,5 @@
 -- `checks::lent` meets its contract. Assumes nothing.
 use mathlib.Core.Path.{sym, ◌∙◌}
-use borrow.Author.Rules.{rules}
-use borrow.Author.Tests.{not-true, not-false}
 use Rattle.keys.proofs.Checking.{lent_size, lent_short, lent_done}
 use Rattle.keys.proofs.checks.lent.Goals as goal
 

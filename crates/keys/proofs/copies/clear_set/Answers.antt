@@ -1,11 +1,9 @@
 -- `copies::clear_set` meets its contract. The loop's invariant: the places of the members passed are cleared. The measure is the quantities left. Assumes nothing.
 use mathlib.Core.Path.{◌≡◌, sym, ◌∙◌}
-use mathlib.Core.Logic.{⊎_elim}
-use Prim.Native.Nat.{◌-◌, ◌≤◌}
 use native.Mathlib.Omega.{arith}
-use borrow.Author.Rules.{rules}
 use Rattle.rules.specs.Hidden.{hidden_in}
-use Rattle.keys.proofs.KeyCopies.{cleared_up_to, clear_none, clear_other, clear_member, clear_length, clear_all}
+use Rattle.keys.proofs.KeyCopies.{clear_none, clear_other, clear_member, clear_length, clear_all}
+use Rattle.keys.proofs.copies.clear_set.Goals.{then-is_hidden, else-is_hidden}
 use Rattle.keys.proofs.copies.clear_set.Goals as goal
 
 pub loop-j-init : goal.loop-j-init
@@ -28,11 +26,11 @@ loop-j-preserved c =
     let l = c.loop-j in
     (
       omega arith,
-      ⊎_elim
-          (λ p. p.4 ∙ clear_member (hidden_in c.args.set) _ _ _ _ _ _ c.requires.0 c.loop-j-test.true c.requires.1
-          (sym c.is_hidden.ensures ∙ p.0.taken) l.invariant.1 p.2.ensures)
-          (λ p. p.1 ∙ clear_other (hidden_in c.args.set) _ _ _ _ (sym c.is_hidden.ensures ∙ p.0.left) l.invariant.1)
-          c.if-is_hidden.branch,
+      elim c.if-is_hidden.branch [
+          then-is_hidden w ↦ w.table-is ∙ clear_member (hidden_in c.args.set) _ _ _ _ _ _ c.requires.0 c.loop-j-test.true c.requires.1
+          (sym c.is_hidden.ensures ∙ w.if-is_hidden.true) l.invariant.1 w.clear.ensures
+          | else-is_hidden w ↦ w.table-is ∙ clear_other (hidden_in c.args.set) _ _ _ _ (sym c.is_hidden.ensures ∙ w.if-is_hidden.false) l.invariant.1
+      ],
     )
 
 pub shape_of-table : goal.shape_of-table

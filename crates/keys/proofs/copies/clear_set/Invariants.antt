@@ -1,11 +1,8 @@
 -- `copies::clear_set` meets its contract. The loop's invariant: the places of the members passed are cleared. The measure is the quantities left. Assumes nothing.
-use mathlib.Core.Path.{◌≡◌, sym, ◌∙◌}
-use mathlib.Core.Logic.{⊎_elim}
+use mathlib.Core.Path.{◌≡◌}
 use Prim.Native.Nat.{◌-◌, ◌≤◌}
-use native.Mathlib.Omega.{arith}
-use borrow.Author.Rules.{rules}
 use Rattle.rules.specs.Hidden.{hidden_in}
-use Rattle.keys.proofs.KeyCopies.{cleared_up_to, clear_none, clear_other, clear_member, clear_length, clear_all}
+use Rattle.keys.proofs.KeyCopies.{cleared_up_to}
 use Rattle.keys.proofs.copies.clear_set.Given as goal
 
 

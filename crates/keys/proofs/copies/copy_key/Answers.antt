@@ -1,6 +1,5 @@
 -- `copies::copy_key` meets its contract: the first table is copied over the second, and in the copy the places of the set's quantities are cleared. Assumes nothing.
 use native.Mathlib.Omega.{arith}
-use borrow.Author.Rules.{rules}
 use Rattle.tables.proofs.Sizes.{size_known}
 use Rattle.keys.proofs.Parts.{second_room}
 use Rattle.keys.proofs.KeyCopies.{copied_key}
@@ -18,14 +17,9 @@ pub slice_bounds-clear_set-count : goal.slice_bounds-clear_set-count
 slice_bounds-clear_set-count c =
     omega (arith, c.requires.1, size_known _ _ c.requires.0 c.size-m.ensures)
 
-{- part_clear_set_start : tie.Need-slice-bounds-clear-set-start
-part_clear_set_start c =
-    let z = c.before.before.before in
-    let s = z.before in
-    omega (arith, s.requires.1, size_known _ _ s.requires.0 z.size.ensures) -}
-
-{- part_clear_set_end : tie.Need-slice-bounds-clear-set-end
-part_clear_set_end c = search rules -}
+pub slice_bounds-clear_set-start : goal.slice_bounds-clear_set-start
+slice_bounds-clear_set-start c =
+    omega (arith, c.requires.1, size_known _ _ c.requires.0 c.size-m.ensures)
 
 pub clear_set-requires : goal.clear_set-requires
 clear_set-requires c =

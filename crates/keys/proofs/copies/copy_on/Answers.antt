@@ -1,11 +1,9 @@
 -- `copies::copy_on` meets its contract. The loop's invariant: the words passed are copied on. The measure is what is left. Assumes nothing.
 use mathlib.Core.Path.{◌≡◌, refl, ◌∙◌}
-use Prim.Native.Nat.{◌-◌, ◌≤◌}
 use native.Mathlib.Omega.{arith}
-use lib.ListN.{length, length-set}
-use borrow.Author.Rules.{rules}
+use lib.ListN.{length-set}
 use Rattle.integers.proofs.Parts.{held_value}
-use Rattle.keys.proofs.KeyCopies.{copied_up_to, copy_none, copy_more, copy_all}
+use Rattle.keys.proofs.KeyCopies.{copy_none, copy_more, copy_all}
 use Rattle.keys.proofs.copies.copy_on.Goals as goal
 
 pub loop-i-init : goal.loop-i-init

@@ -1,5 +1,4 @@
 -- `decide::decide` meets its contract: the table is copied, and all quantities that its rules name are eliminated in the copy. Assumes nothing.
-use borrow.Author.Rules.{rules}
 use Rattle.keys.proofs.Deciding.{copy_fits, copy_decides}
 use Rattle.keys.proofs.decide.decide.Goals as goal
 

@@ -1,7 +1,5 @@
 -- `key::check` meets its contract: at each check either its refusal stands or the next is made. Assumes nothing.
 use mathlib.Core.Path.{sym, ◌∙◌}
-use borrow.Author.Rules.{rules}
-use borrow.Author.Tests.{not-true, not-false}
 use Rattle.integers.proofs.Parts.{held_value}
 use Rattle.keys.proofs.Checking.{lent_limit, lent_held, key_lent, key_set, key_words, key_passes}
 use Rattle.keys.proofs.key.check.Goals as goal

@@ -1,25 +1,12 @@
 -- `key::hide_members` meets its contract. The loop's invariant: of the first j quantities those of the set are hidden, and no contradiction was met. The measure is the quantities left.
 -- Assumes nothing.
 use mathlib.Core.Path.{◌≡◌, refl, ◌∙◌}
-use Prim.Native.Nat.{◌-◌, ◌≤◌}
 use native.Mathlib.Numerals.{add-one}
 use native.Mathlib.Omega.{arith}
-use lib.ListN.{length}
 use Rattle.rules.specs.Hidden.{hidden_in}
-use Rattle.keys.specs.Keys.{hide_up_to}
 use Rattle.keys.proofs.Several.{hide_none}
-use Rattle.keys.proofs.Deciding.{NoneMet}
 use Rattle.keys.proofs.Hiding.{hide_ready, hide_gone, member_next, member_clear, set_clash, set_hidden}
-use Rattle.keys.proofs.key.hide_members.Lts as lts
-use Rattle.keys.proofs.key.hide_members.Tie as tie
-use Rattle.keys.proofs.key.hide_members.Reads as reads
 use Rattle.keys.proofs.key.hide_members.Goals as goal
-
-abbrev After-hide_member : Type 0
-After-hide_member = lts.After-hide_member tie.the-claims reads.Pre reads.Post goal.the-invariant-loop-j goal.the-decreases-loop-j
-
-abbrev After-minus-1 : Type 0
-After-minus-1 = lts.After-minus tie.the-claims reads.Pre reads.Post goal.the-invariant-loop-j goal.the-decreases-loop-j
 
 pub loop-j-init : goal.loop-j-init
 loop-j-init c =
@@ -42,38 +29,23 @@ hide_member-requires c =
       gone = hide_gone _ c.args.set l.j t c.requires.0.sums.room l.invariant.0;
     })
 
--- a turn keeps the lengths
-sizes : (c : After-hide_member) → let l = c.loop-j in
-    (length c.hide_member.new.table ≡ length c.args.table.now) × (length c.hide_member.new.list ≡ length c.args.list.now)
-    × (length c.hide_member.new.plus ≡ length c.args.plus.now)
-    × (length c.hide_member.new.minus ≡ length c.args.minus.now)
-sizes c =
-    let l = c.loop-j in
-    let k = c.hide_member.auto in
-    (k.1.1.0 ∙ l.invariant.1, k.1.1.1.1.0 ∙ l.invariant.2, k.1.1.1.1.1.0 ∙ l.invariant.3, k.1.1.1.1.1.1.0 ∙ l.invariant.4)
-
-abbrev hidden_of : After-minus-1 → After-hide_member
-hidden_of c = c.before.before.before.before.before
-
 pub shape_of-table-then-hide_member : goal.shape_of-table-then-hide_member
-shape_of-table-then-hide_member c = (sizes (hidden_of c.before.before)).0
+shape_of-table-then-hide_member c = c.hide_member.auto.table ∙ c.loop-j.invariant.1
 
 pub shape_of-list-then-hide_member : goal.shape_of-list-then-hide_member
-shape_of-list-then-hide_member c = (sizes (hidden_of c.before.before)).1
+shape_of-list-then-hide_member c = c.hide_member.auto.list ∙ c.loop-j.invariant.2
 
 pub shape_of-plus-then-hide_member : goal.shape_of-plus-then-hide_member
-shape_of-plus-then-hide_member c = (sizes (hidden_of c.before.before)).2
+shape_of-plus-then-hide_member c = c.hide_member.auto.plus ∙ c.loop-j.invariant.3
 
 pub shape_of-minus-then-hide_member : goal.shape_of-minus-then-hide_member
-shape_of-minus-then-hide_member c = (sizes (hidden_of c.before.before)).3
+shape_of-minus-then-hide_member c = c.hide_member.auto.minus ∙ c.loop-j.invariant.4
 
 pub returns-then-hide_member : goal.returns-then-hide_member
 returns-then-hide_member c =
-    let y = hidden_of c.before.before in
-    let a = y.before.before.before.before.before in
-    let l = a.before.loop in
-    let s = a.before.before.before in
-    set_clash s.args.n s.args.set s.args.table.now s.pre.0 l.j l.table _ _ a.loop_j_test.taken l.inv.5 y.hide_member.ensures
+    let l = c.loop-j in
+    let s = c.args in
+    set_clash s.n s.set s.table.now c.requires.0 l.j l.table _ _ c.loop-j-test.true l.invariant.5 c.hide_member.ensures
     c.if-hide_member.true
 
 pub overflow_add-j : goal.overflow_add-j
@@ -84,20 +56,17 @@ loop-j-smaller c = omega arith
 
 pub loop-j-preserved : goal.loop-j-preserved
 loop-j-preserved c =
-    let y = hidden_of c.before.before in
-    let a = y.before.before.before.before.before in
-    let l = a.before.loop in
-    let s = a.before.before.before in
-    let t = s.args.table.now in
-    let k = sizes y in (
+    let l = c.loop-j in
+    let s = c.args in
+    let t = s.table.now in (
       omega arith,
-      k.0,
-      k.1,
-      k.2,
-      k.3,
-      rw (add-one l.j) (member_next _ s.args.set t s.pre.0 l.j l.table _ _ a.loop_j_test.taken l.inv.5 y.hide_member.ensures),
+      c.hide_member.auto.table ∙ l.invariant.1,
+      c.hide_member.auto.list ∙ l.invariant.2,
+      c.hide_member.auto.plus ∙ l.invariant.3,
+      c.hide_member.auto.minus ∙ l.invariant.4,
+      rw (add-one l.j) (member_next _ s.set t c.requires.0 l.j l.table _ _ c.loop-j-test.true l.invariant.5 c.hide_member.ensures),
       rw (add-one l.j)
-          (member_clear _ s.args.set t s.pre.0 l.j l.table _ _ a.loop_j_test.taken l.inv.5 y.hide_member.ensures c.if-hide_member.false l.inv.6),
+          (member_clear _ s.set t c.requires.0 l.j l.table _ _ c.loop-j-test.true l.invariant.5 c.hide_member.ensures c.if-hide_member.false l.invariant.6),
     )
 
 pub shape_of-table : goal.shape_of-table

@@ -1,15 +1,11 @@
 -- `key::hide_members` meets its contract. The loop's invariant: of the first j quantities those of the set are hidden, and no contradiction was met. The measure is the quantities left.
 -- Assumes nothing.
-use mathlib.Core.Path.{◌≡◌, refl, ◌∙◌}
+use mathlib.Core.Path.{◌≡◌}
 use Prim.Native.Nat.{◌-◌, ◌≤◌}
-use native.Mathlib.Numerals.{add-one}
-use native.Mathlib.Omega.{arith}
 use lib.ListN.{length}
 use Rattle.rules.specs.Hidden.{hidden_in}
 use Rattle.keys.specs.Keys.{hide_up_to}
-use Rattle.keys.proofs.Several.{hide_none}
 use Rattle.keys.proofs.Deciding.{NoneMet}
-use Rattle.keys.proofs.Hiding.{hide_ready, hide_gone, member_next, member_clear, set_clash, set_hidden}
 use Rattle.keys.proofs.key.hide_members.Given as goal
 
 

@@ -1,7 +1,6 @@
 -- `key::key` meets its contract: the checks, then the key made where some integers satisfy the sheet. Assumes nothing.
 use Rattle.keys.proofs.Checking.{key_stands}
 use Rattle.keys.proofs.Promised.{untouched, key_refused, key_five, plain_done}
-use borrow.Author.Rules.{rules}
 use Rattle.keys.proofs.key.key.Goals as goal
 
 pub returns-in_default : goal.returns-in_default

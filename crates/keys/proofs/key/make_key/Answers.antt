@@ -1,6 +1,5 @@
 -- `key::make_key` meets its contract: the sheet is copied, its hidden quantities hidden in the copy, and the key decided. Assumes nothing.
 use Rattle.keys.proofs.Making.{copy_fits, tried_early, made_rest, tried_late, tried_done}
-use borrow.Author.Rules.{rules}
 use Rattle.keys.proofs.key.make_key.Goals as goal
 
 pub hide_set-requires : goal.hide_set-requires

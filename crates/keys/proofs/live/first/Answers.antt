@@ -1,5 +1,4 @@
 -- `live::first` meets its contract. Assumes nothing.
-use borrow.Author.Rules.{rules}
 use Rattle.keys.proofs.Listing.{none_inside, none_outside}
 use Rattle.keys.proofs.live.first.Goals as goal
 

@@ -1,7 +1,6 @@
 -- `live::is_live` meets its contract. Assumes nothing.
 use native.Mathlib.Numerals.{add-one}
 use borrow.Author.Tests.{le-leb, lt-leb}
-use borrow.Author.Rules.{rules}
 use Rattle.keys.proofs.live.is_live.Goals as goal
 
 pub returns-then-from-i : goal.returns-then-from-i

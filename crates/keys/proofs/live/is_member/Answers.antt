@@ -1,6 +1,5 @@
 -- `live::is_member` meets its contract. Assumes nothing.
 use native.Mathlib.Numerals.{add-one}
-use borrow.Author.Rules.{rules}
 use Rattle.keys.proofs.live.is_member.Goals as goal
 
 pub returns-in-Inside : goal.returns-in-Inside

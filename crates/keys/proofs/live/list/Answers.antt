@@ -1,14 +1,12 @@
 -- `live::list` meets its contract. The loop's invariant: the live ones of the quantities passed are listed, at most as many as were passed, and the list keeps its length. The measure is
 -- what is left of the quantities. Assumes nothing.
 use mathlib.Core.Path.{◌≡◌, refl, sym, ◌∙◌}
-use mathlib.Core.Logic.{⊎_elim}
-use Prim.Native.Nat.{◌-◌, ◌≤◌, ◌<◌}
+use Prim.Native.Nat.{◌<◌}
 use native.Mathlib.Numerals.{add-one}
 use native.Mathlib.Omega.{arith}
 use lib.ListN.{length, length-set}
-use borrow.Author.Rules.{rules}
-use Rattle.keys.specs.Inner.{LiveListed}
 use Rattle.keys.proofs.Listing.{live_none, live_passed, live_put}
+use Rattle.keys.proofs.live.list.Goals.{then-is_live, else-is_live}
 use Rattle.keys.proofs.live.list.Goals as goal
 
 pub loop-i-init : goal.loop-i-init
@@ -40,20 +38,20 @@ loop-i-preserved c =
     let live = c.is_live.ensures in
     let last : l.count < length l.out = omega (arith, l.invariant.2, c.requires.1) in
     rw (add-one l.i)
-    (⊎_elim
-    (λ x. rw (x.1, x.2, add-one l.count) (
+    (elim c.if-is_live.branch [
+    then-is_live w ↦ rw (w.out-is, w.count-is, add-one l.count) (
       omega arith,
       omega arith,
       length-set l.out l.count l.i ∙ l.invariant.2,
-      live_put _ _ _ l.i l.count l.out (sym live ∙ x.0.taken) last l.invariant.3,
-    ))
-    (λ x. rw (x.1, x.2) (
+      live_put _ _ _ l.i l.count l.out (sym live ∙ w.if-is_live.true) last l.invariant.3,
+    )
+    | else-is_live w ↦ rw (w.out-is, w.count-is) (
       omega arith,
       omega arith,
       l.invariant.2,
-      live_passed _ _ _ l.i l.count l.out (sym live ∙ x.0.left) l.invariant.3,
-    ))
-    c.if-is_live.branch)
+      live_passed _ _ _ l.i l.count l.out (sym live ∙ w.if-is_live.false) l.invariant.3,
+    )
+    ])
 
 pub shape_of-out : goal.shape_of-out
 shape_of-out c = c.loop-i.invariant.2

@@ -1,14 +1,9 @@
 -- `live::list` meets its contract. The loop's invariant: the live ones of the quantities passed are listed, at most as many as were passed, and the list keeps its length. The measure is
 -- what is left of the quantities. Assumes nothing.
-use mathlib.Core.Path.{◌≡◌, refl, sym, ◌∙◌}
-use mathlib.Core.Logic.{⊎_elim}
-use Prim.Native.Nat.{◌-◌, ◌≤◌, ◌<◌}
-use native.Mathlib.Numerals.{add-one}
-use native.Mathlib.Omega.{arith}
-use lib.ListN.{length, length-set}
-use borrow.Author.Rules.{rules}
+use mathlib.Core.Path.{◌≡◌}
+use Prim.Native.Nat.{◌-◌, ◌≤◌}
+use lib.ListN.{length}
 use Rattle.keys.specs.Inner.{LiveListed}
-use Rattle.keys.proofs.Listing.{live_none, live_passed, live_put}
 use Rattle.keys.proofs.live.list.Given as goal
 
 

@@ -2,30 +2,15 @@
 use mathlib.Core.Path.{sym, ◌∙◌}
 use native.Mathlib.Numerals.{add-one}
 use native.Mathlib.Omega.{arith}
-use borrow.Author.Rules.{rules}
 use Rattle.integers.proofs.Parts.{held_value}
-use Rattle.keys.proofs.Taking.{turn_step, value_passed, value_chosen, value_ready, taken_length, not_true, not_false}
-use Rattle.keys.proofs.turns.choose_value.Lts as lts
-use Rattle.keys.proofs.turns.choose_value.Tie as tie
-use Rattle.keys.proofs.turns.choose_value.Reads as reads
+use Rattle.keys.proofs.Taking.{turn_step, value_passed, value_chosen, value_ready, taken_length}
 use Rattle.keys.proofs.turns.choose_value.Goals as goal
-
-abbrev Start : Type 0
-Start = lts.Start tie.the-claims reads.Pre reads.Post
-
-abbrev After-minus-1 : Type 0
-After-minus-1 = lts.After-minus tie.the-claims reads.Pre reads.Post
-
-
--- from the end to the start
-abbrev start_of : After-minus-1 → Start
-start_of c = c.before.before.before.before.before.before.before.before.before.before.before.before
 
 pub is_member-requires : goal.is_member-requires
 is_member-requires c = let r = c.requires.0.ready in omega (arith, r.one, r.most)
 
 pub returns-then-not-is_member : goal.returns-then-not-is_member
-returns-then-not-is_member c = value_passed _ _ _ _ _ _ (sym c.is_member.ensures ∙ not_true c.if-not-is_member.true)
+returns-then-not-is_member c = value_passed _ _ _ _ _ _ (sym c.is_member.ensures ∙ c.if-not-is_member.true)
 
 pub list-count-requires : goal.list-count-requires
 list-count-requires c = (c.requires.0.ready.most, c.requires.0.rows.list_room, omega (arith, c.requires.0.ready.one))
@@ -41,12 +26,12 @@ choose-requires c =
     (turn_step _ _ _ _ _ _ _ _ _ _ _ c.requires.0 c.list-count.ensures, value_ready _ _ _ _ _ _ _ _ (add-one _) c.list-count.ensures c.requires.1)
 
 pub offset_bounds-values-j : goal.offset_bounds-values-j
-offset_bounds-values-j c = let r = (start_of c).requires.0.ready in omega (arith, r.one, r.most)
+offset_bounds-values-j c = let r = c.requires.0.ready in omega (arith, r.one, r.most)
 
 pub bounds-values-j : goal.bounds-values-j
-bounds-values-j c = let s = start_of c in omega (arith, s.pre.0.ready.one, s.pre.1.room)
+bounds-values-j c = omega (arith, c.requires.0.ready.one, c.requires.1.room)
 
 pub returns : goal.returns
 returns c =
     rw (held_value c.choose.type_inv)
-    (value_chosen _ _ _ _ _ _ _ _ _ _ (add-one _) c.list-count.ensures (sym c.is_member.ensures ∙ not_false c.if-not-is_member.false) c.choose.ensures)
+    (value_chosen _ _ _ _ _ _ _ _ _ _ (add-one _) c.list-count.ensures (sym c.is_member.ensures ∙ c.if-not-is_member.false) c.choose.ensures)

@@ -1,10 +1,8 @@
 -- `turns::choose_values` meets its contract. The loop's invariant: the members past the first j quantities have their values. The measure is the quantities left. Assumes nothing.
-use mathlib.Core.Path.{◌≡◌, refl, ◌∙◌}
+use mathlib.Core.Path.{◌≡◌}
 use Prim.Native.Nat.{◌-◌, ◌≤◌}
-use native.Mathlib.Omega.{arith}
 use lib.ListN.{length}
 use Rattle.keys.specs.Inner.{read_back}
-use Rattle.keys.proofs.Taking.{table_ready, read_none, read_more, read_ready}
 use Rattle.keys.proofs.turns.choose_values.Given as goal
 
 

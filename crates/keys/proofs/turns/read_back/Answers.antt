@@ -1,7 +1,6 @@
 -- `turns::read_back` meets its contract: the room taken is long enough for n. Assumes nothing.
 use native.Mathlib.Omega.{arith}
 use Rattle.keys.proofs.ReadBack.{part_read}
-use borrow.Author.Rules.{rules}
 use Rattle.keys.proofs.turns.read_back.Goals as goal
 
 pub returns-then-n-le-SMALL : goal.returns-then-n-le-SMALL

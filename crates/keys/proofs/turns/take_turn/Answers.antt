@@ -2,15 +2,14 @@
 use mathlib.Core.Path.{sym, ◌∙◌}
 use native.Mathlib.Numerals.{add-one}
 use native.Mathlib.Omega.{arith}
-use borrow.Author.Rules.{rules}
-use Rattle.keys.proofs.Taking.{turn_step, turn_passed, turn_taken, taken_length, not_true, not_false}
+use Rattle.keys.proofs.Taking.{turn_step, turn_passed, turn_taken, taken_length}
 use Rattle.keys.proofs.turns.take_turn.Goals as goal
 
 pub is_member-requires : goal.is_member-requires
 is_member-requires c = let r = c.requires.ready in omega (arith, r.one, r.most)
 
 pub returns-then-not-is_member : goal.returns-then-not-is_member
-returns-then-not-is_member c = turn_passed _ _ _ _ _ (sym c.is_member.ensures ∙ not_true c.if-not-is_member.true)
+returns-then-not-is_member c = turn_passed _ _ _ _ _ (sym c.is_member.ensures ∙ c.if-not-is_member.true)
 
 pub list-count-requires : goal.list-count-requires
 list-count-requires c = (c.requires.ready.most, c.requires.rows.list_room, omega (arith, c.requires.ready.one))
@@ -27,4 +26,4 @@ pair-requires c =
 
 pub returns : goal.returns
 returns c =
-    turn_taken _ _ _ _ _ _ _ _ _ _ _ _ _ c.requires (add-one _) c.list-count.ensures (sym c.is_member.ensures ∙ not_false c.if-not-is_member.false) c.pair.ensures
+    turn_taken _ _ _ _ _ _ _ _ _ _ _ _ _ c.requires (add-one _) c.list-count.ensures (sym c.is_member.ensures ∙ c.if-not-is_member.false) c.pair.ensures

@@ -1,13 +1,9 @@
 -- `turns::take_turns` meets its contract. The loop's invariant: the members among the first j quantities have had their turn. The measure is the quantities left. Assumes nothing.
-use mathlib.Core.Path.{◌≡◌, refl, ◌∙◌}
+use mathlib.Core.Path.{◌≡◌}
 use Prim.Native.Nat.{◌-◌, ◌≤◌}
-use native.Mathlib.Numerals.{add-one}
-use native.Mathlib.Omega.{arith}
 use lib.ListN.{length, drop}
 use Rattle.places.specs.Numbering.{block_start}
 use Rattle.keys.specs.Inner.{member_of, AtTurns}
-use Rattle.keys.proofs.AtTurns.{no_turn}
-use Rattle.keys.proofs.Taking.{turn_rest, turn_more, turn_clash, turn_ready, set_done, set_none}
 use Rattle.keys.proofs.turns.take_turns.Given as goal
 
 

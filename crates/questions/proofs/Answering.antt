@@ -1,13 +1,12 @@
 -- One question answered from one word of a tight table: yes exactly when every assignment of the sheet meets it. Assumes nothing.
-use mathlib.Core.Path.{◌≡◌, refl, sym, ◌∙◌}
-use mathlib.Core.Bool.{Bool, true, false, ◌&&◌}
+use mathlib.Core.Path.{◌≡◌, refl}
+use mathlib.Core.Bool.{Bool, true}
 use mathlib.Core.List.{List}
 use mathlib.Core.Logic.Iff
 use mathlib.Core.Logic.{◌↔◌}
-use Prim.Native.Nat.{ℕ, ◌≤◌, ◌<◌}
+use Prim.Native.Nat.{ℕ, ◌<◌}
 use native.Mathlib.Omega.{arith}
 use lib.IntN.{ℤ}
-use lib.ListN.{length}
 use lib.Signed.{le_z, ◌≤ℤ◌}
 use Rattle.integers.proofs.Parts.{linear, le_z_true, le_le_z}
 use Rattle.words.specs.Change.{word_at}
@@ -15,7 +14,7 @@ use Rattle.places.specs.declared.Place.TheVariants.{At}
 use Rattle.places.specs.Numbering.{block_start}
 use Rattle.rules.specs.declared.rule.Rule.{Rule}
 use Rattle.rules.specs.Meaning.{Assignment, Meets, bound_of}
-use Rattle.rules.specs.Steps.{halved_of, in_order}
+use Rattle.rules.specs.Steps.{halved_of}
 use Rattle.rules.proofs.Meanings.{halved_meaning, in_order_meaning}
 use Rattle.tables.specs.Places.{rule_at, find_place}
 use Rattle.tables.specs.Tables.{has_rule}

@@ -1,6 +1,6 @@
 -- The checks of asking: which refusal stands at each, what it tells that they pass, and that they are document 02's. Assumes nothing.
-use mathlib.Core.Path.{◌≡◌, refl, sym, ◌∙◌, ap}
-use mathlib.Core.Bool.{Bool, true, false, not, ◌&&◌, and-false}
+use mathlib.Core.Path.{◌≡◌, sym, ◌∙◌}
+use mathlib.Core.Bool.{true, false, not, ◌&&◌, and-false}
 use mathlib.Core.List.{List}
 use mathlib.Core.Logic.{◌↔◌}
 use Prim.Native.Nat.{ℕ, ◌≤◌, ◌<◌}
@@ -27,7 +27,7 @@ use Rattle.keys.proofs.Checking.{length_test, bounds, decided_some}
 use Rattle.questions.specs.Questions.{max_questions, question_count, questions_within, none_cancels}
 use Rattle.questions.specs.Meaning.{ListSized, QuestionsWithin, ask_needs_then, ask_needs}
 use Rattle.questions.specs.Asking.{ask_checks}
-use Rattle.questions.specs.Inner.{list_checks, AskReady, AskChecked}
+use Rattle.questions.specs.Inner.{list_checks, AskChecked}
 use Rattle.questions.proofs.Listing.{within_all, cancels_none}
 
 -- ---- the tests, and what they mean

@@ -1,13 +1,13 @@
 -- The contract of asking, from plain facts: the answers from a tight table mean what they say, and the call is refused by the first need that is not met. Assumes nothing.
 use mathlib.Core.Path.{◌≡◌, refl, sym, ◌∙◌, ap}
-use mathlib.Core.Bool.{Bool, true, false, cond, not, ◌&&◌}
+use mathlib.Core.Bool.{Bool, true, false, cond, not}
 use mathlib.Core.List.{List}
 use mathlib.Core.Logic.Iff
 use mathlib.Core.Logic.{◌↔◌}
-use Prim.Native.Nat.{ℕ, ◌*◌, ◌≤◌, ◌<◌, ◌^◌}
+use Prim.Native.Nat.{ℕ, ◌≤◌, ◌<◌, ◌^◌}
 use native.Mathlib.Omega.{arith}
 use lib.IntN.{ℤ, pos, nat_abs}
-use lib.ListN.{length, take}
+use lib.ListN.{length}
 use lib.Pow.{pow_pos}
 use lib.Signed.{le_z}
 use borrow.Author.Tests.{lt-ltb}
@@ -16,8 +16,6 @@ use Rattle.words.specs.Change.{word_at}
 use Rattle.words.specs.Lent.{Lent}
 use Rattle.places.specs.declared.Place.TheVariants.{At}
 use Rattle.places.specs.Numbering.{block_start}
-use Rattle.rules.specs.declared.paper.Paper.TheVariants.{Sheet}
-use Rattle.rules.specs.declared.rule.Rule.{Rule}
 use Rattle.rules.specs.declared.refusal.Refusal.{Refusal}
 use Rattle.rules.specs.declared.refusal.Refusal.TheVariants.{NoAssignment}
 use Rattle.rules.specs.Meaning.{bound_of}
@@ -31,14 +29,14 @@ use Rattle.tables.specs.declared.reply.Reply.TheVariants.{Refused as NotDone}
 use Rattle.tables.specs.Places.{rule_at, find_place}
 use Rattle.tables.specs.Replies.{check}
 use Rattle.tables.specs.Tables.{has_rule}
-use Rattle.tables.specs.Meaning.{Satisfies, Satisfiable, Unsatisfiable, Breaks, MetByAll}
+use Rattle.tables.specs.Meaning.{Satisfies, Unsatisfiable, Breaks, MetByAll}
 use Rattle.tables.proofs.Places.{has_place_found}
 use Rattle.tables.proofs.Refusing.{decided_as}
 use Rattle.tables.proofs.Tests.{clash}
 use Rattle.keys.specs.Keys.{refuted}
 use Rattle.keys.specs.Inner.{Fits}
 use Rattle.keys.specs.Meaning.{key_needs_then}
-use Rattle.keys.proofs.Checking.{checked_fits, decided_none, decided_some}
+use Rattle.keys.proofs.Checking.{checked_fits, decided_none}
 use Rattle.keys.proofs.Promised.{untouched}
 use Rattle.tightening.specs.Tightening.{tightened}
 use Rattle.tightening.specs.Meaning.{TightTable}

@@ -1,25 +1,21 @@
 -- The sheet's tight table in the workspace: nothing is hidden, so it is the sheet itself that is tightened; and it is tight by the definition. Assumes nothing.
-use mathlib.Core.Path.{◌≡◌, refl, sym, ◌∙◌}
-use mathlib.Core.Bool.{Bool, true, false}
+use mathlib.Core.Path.{◌≡◌, refl, ◌∙◌}
+use mathlib.Core.Bool.{false}
 use mathlib.Core.List.{List}
-use mathlib.Core.Logic.{◌↔◌}
-use Prim.Native.Nat.{ℕ, zero, suc, ◌≤◌, ◌<◌, ◌^◌}
+use Prim.Native.Nat.{ℕ, zero, suc, ◌≤◌, ◌<◌}
 use native.Mathlib.Omega.{arith}
 use lib.IntN.{ℤ}
 use lib.ListN.{length, take}
 use Rattle.words.specs.Change.{word_at}
 use Rattle.places.specs.Numbering.{block_start}
-use Rattle.rules.specs.declared.paper.Paper.TheVariants.{Sheet}
 use Rattle.rules.specs.Hidden.{hidden_in}
-use Rattle.rules.specs.Limits.{max_quantities}
 use Rattle.rules.proofs.Sets.{past_hidden}
-use Rattle.tables.specs.Meaning.{Solutions, HoldsRule, Satisfies, Satisfiable, BoundsWithin, NoneAbove}
+use Rattle.tables.specs.Meaning.{Solutions}
 use Rattle.keys.specs.Keys.{hide_up_to, key_of}
-use Rattle.keys.proofs.Copying.{SameTable, same_back, holds_same, front_same}
+use Rattle.keys.proofs.Copying.{SameTable, front_same}
 use Rattle.tightening.specs.Tightening.{tightened, tight_key_of}
 use Rattle.tightening.specs.Meaning.{TightKey, TightTable}
 use Rattle.tightening.proofs.TightSteps.{tight_length}
-use Rattle.tightening.proofs.TightMaking.{tight_made}
 
 -- ---- nothing is hidden
 

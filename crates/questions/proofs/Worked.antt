@@ -1,12 +1,10 @@
 -- Questions to named sheets (document 02, [3]), as one table: the answers in the list's order, and each refusal before those that come after it. Every case is computed by the definitions that the
 -- contracts cite. Assumes nothing.
 use mathlib.Core.Path.{◌≡◌, refl}
-use mathlib.Core.List.{List, [], ◌∷◌, ◌++◌}
+use mathlib.Core.List.{List, [], ◌∷◌}
 use Prim.Native.Nat.{ℕ, zero, suc}
 use lib.IntN.{ℤ, pos, negsuc}
 use lib.ListN.{replicate}
-use Rattle.rules.specs.declared.rule.Rule.{Rule}
-use Rattle.rules.specs.Refusal.{Returned}
 use Rattle.rules.specs.Steps.{rule_of}
 use Rattle.tables.specs.Given.{given_within}
 use Rattle.tables.specs.Tables.{table_of}

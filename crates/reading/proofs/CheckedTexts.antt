@@ -3,11 +3,9 @@ use mathlib.Core.Path.{◌≡◌, sym, ◌∙◌}
 use mathlib.Core.List.{List, []}
 use Prim.Native.Nat.{ℕ}
 use Rattle.rules.specs.declared.paper.Paper.{Paper}
-use Rattle.rules.specs.declared.refusal.Refusal.{Refusal}
 use Rattle.lines.specs.Lines.{accepted, refused}
 use Rattle.reading.specs.declared.check.Checked.{Checked}
 use Rattle.reading.specs.declared.check.Checked.TheVariants.{Passed}
-use Rattle.reading.specs.declared.check.Checked.TheVariants.{Refused as Failed}
 use Rattle.reading.specs.Meaning.{Passes}
 use Rattle.reading.specs.Reading.{check_text, checked_of}
 use Rattle.reading.specs.Promises.{TextChecked}

@@ -6,7 +6,6 @@ use Prim.Native.Nat.{ℕ}
 use lib.IntN.{ℤ, pos, negsuc}
 use Rattle.rules.specs.declared.rule.Rule.{Rule}
 use Rattle.rules.specs.Hidden.{hidden_in}
-use Rattle.rules.specs.Refusal.{Returned}
 use Rattle.rules.specs.Steps.{rule_of}
 use Rattle.tables.specs.Replies.{reply_returned}
 use Rattle.tables.specs.Tables.{table_of}

@@ -4,16 +4,16 @@ use mathlib.Core.Path.{◌≡◌, refl, sym, ◌∙◌}
 use mathlib.Core.Bool.{Bool, true, false}
 use mathlib.Core.List.{List}
 use mathlib.Core.Logic.{◌↔◌}
-use Prim.Native.Nat.{ℕ, ◌≤◌, ◌<◌}
+use Prim.Native.Nat.{ℕ, ◌<◌}
 use native.Mathlib.Omega.{arith}
 use lib.IntN.{ℤ, pos}
-use lib.ListN.{length, take}
+use lib.ListN.{take}
 use lib.Signed.{◌≤ℤ◌}
 use Rattle.integers.proofs.Parts.{linear, lt_z_false}
 use Rattle.words.specs.Change.{word_at}
 use Rattle.places.specs.Numbering.{block_start}
 use Rattle.rules.specs.Limits.{no_rule}
-use Rattle.rules.specs.Meaning.{Assignment, Meets, names}
+use Rattle.rules.specs.Meaning.{Assignment, Meets}
 use Rattle.tables.specs.Places.{rule_at}
 use Rattle.tables.specs.Tables.{has_rule}
 use Rattle.tables.specs.Meaning.{HoldsRule, rule_in, Satisfies, Satisfiable, Solutions, SheetAllows, NamesVisible, joined, MetByAll}
@@ -25,7 +25,7 @@ use Rattle.keys.specs.Inner.{Fits}
 use Rattle.keys.proofs.Several.{allows_own, key_exact, key_visible}
 use Rattle.keys.proofs.Fitting.{hide_ample}
 use Rattle.keys.proofs.Copying.{SameTable, same_front, front_same, same_back, holds_same, same_satisfies}
-use Rattle.tightening.specs.Meaning.{Bounded, LeastMet, VisibleAt, TightKey, SheetsAllowSame}
+use Rattle.tightening.specs.Meaning.{VisibleAt, TightKey, SheetsAllowSame}
 
 -- two integers that are at most each other are the same
 le_same : {a b : ℤ} → a ≤ℤ b → b ≤ℤ a → a ≡ b

@@ -33,7 +33,7 @@ use Rattle.keys.proofs.Visible.{key_rest}
 use Rattle.keys.proofs.Copying.{SameTable, same_paired, same_lone}
 use Rattle.keys.proofs.Deciding.{rest_fits, refuted_exactly}
 use Rattle.tightening.specs.Tightening.{pair_up_to, clash_up_to, strengthening, strengthened, tightened, tight_key_of}
-use Rattle.tightening.specs.Meaning.{Bounded, LeastMet, VisibleAt, TightKey}
+use Rattle.tightening.specs.Meaning.{Bounded, VisibleAt, TightKey}
 use Rattle.tightening.specs.Promises.{LeastBound}
 use Rattle.tightening.proofs.Least.{clash_refuted, tightened_least}
 use Rattle.tightening.proofs.Growing.{pair_ample}

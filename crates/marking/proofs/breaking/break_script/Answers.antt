@@ -1,5 +1,4 @@
 -- `breaking::break_script` meets its contract: the script is copied, and the rule broken in the copy. Assumes nothing.
-use borrow.Author.Rules.{rules}
 use Rattle.marking.proofs.Broken.{script_breakable, script_broken}
 use Rattle.marking.proofs.breaking.break_script.Goals as goal
 

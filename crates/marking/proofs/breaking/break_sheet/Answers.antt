@@ -4,7 +4,6 @@ use Prim.Native.Nat.{◌-◌}
 use lib.ListN.{length}
 use borrow.Rule.Slice.PartMut.{mid_of, put_mid}
 use Rattle.places.specs.Numbering.{block_start}
-use borrow.Author.Rules.{rules}
 use Rattle.tables.proofs.Sizes.{size_known}
 use Rattle.keys.proofs.Parts.{PartBack, second_back}
 use Rattle.marking.proofs.Broken.{sheet_breakable, sheet_readable, sheet_shown, sheet_written, sheet_lent, second_part}
@@ -27,15 +26,9 @@ pub slice_bounds-break_rule-count : goal.slice_bounds-break_rule-count
 slice_bounds-break_rule-count c =
     omega (arith, c.requires.is.room, c.copy_key.auto.words, size_known _ _ c.requires.is.hides.most c.size-m.ensures)
 
-{- part_break_rule_start : tie.Need-slice-bounds-break-rule-start
-part_break_rule_start c =
-    let y = c.before in
-    let z = y.before.before in
-    let s = z.before in
-    omega (arith, s.requires.is.room, y.copy_key.auto.1.1.0, size_known _ _ s.requires.is.hides.most z.size.ensures) -}
-
-{- part_break_rule_end : tie.Need-slice-bounds-break-rule-end
-part_break_rule_end c = search rules -}
+pub slice_bounds-break_rule-start : goal.slice_bounds-break_rule-start
+slice_bounds-break_rule-start c =
+    omega (arith, c.requires.is.room, c.copy_key.auto.words, size_known _ _ c.requires.is.hides.most c.size-m.ensures)
 
 pub break_rule-requires : goal.break_rule-requires
 break_rule-requires c =

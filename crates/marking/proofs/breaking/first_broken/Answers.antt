@@ -3,7 +3,6 @@ use mathlib.Core.Path.{◌≡◌, refl}
 use Prim.Native.Nat.{◌-◌, ◌≤◌}
 use native.Mathlib.Omega.{arith}
 use lib.ListN.{length}
-use borrow.Author.Rules.{rules}
 use borrow.Rule.Slice.PartMut.{mid_of, put_mid}
 use Rattle.places.specs.Numbering.{block_start}
 use Rattle.rules.specs.Limits.{max_quantities}
@@ -40,11 +39,8 @@ offset_bounds-workspace-m c = omega (arith, known c.before, small_start _ (most_
 pub slice_bounds-least_bounds-count : goal.slice_bounds-least_bounds-count
 slice_bounds-least_bounds-count c = omega (arith, known c.before, c.requires.room)
 
-{- part_least_bounds_start : tie.Need-slice-bounds-least-bounds-start
-part_least_bounds_start c = let s = c.before.before in omega (arith, known c, s.requires.room) -}
-
-{- part_least_bounds_end : tie.Need-slice-bounds-least-bounds-end
-part_least_bounds_end c = search rules -}
+pub slice_bounds-least_bounds-start : goal.slice_bounds-least_bounds-start
+slice_bounds-least_bounds-start c = omega (arith, size_known _ _ c.requires.fits.sums.most c.size-m.ensures, c.requires.room)
 
 pub least_bounds-requires : goal.least_bounds-requires
 least_bounds-requires c =
@@ -61,11 +57,8 @@ offset_bounds-words-m c = omega (arith, known c.before.before.before.before.befo
 pub slice_bounds-first_below-count : goal.slice_bounds-first_below-count
 slice_bounds-first_below-count c = omega (arith, known c.before.before.before.before.before, c.requires.room, (given_back c.before.before.before).size)
 
-{- part_first_below_start : tie.Need-slice-bounds-first-below-start
-part_first_below_start c = let y = c.before.before.before in let z = y.before.before in let s = z.before.before in omega (arith, known z, s.requires.room, (given_back y).size) -}
-
-{- part_first_below_end : tie.Need-slice-bounds-first-below-end
-part_first_below_end c = search rules -}
+pub slice_bounds-first_below-start : goal.slice_bounds-first_below-start
+slice_bounds-first_below-start c = omega (arith, size_known _ _ c.requires.fits.sums.most c.size-m.ensures, c.requires.room, (given_back c.before.before.before).size)
 
 pub first_below-requires : goal.first_below-requires
 first_below-requires c =

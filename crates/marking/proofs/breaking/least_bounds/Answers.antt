@@ -1,5 +1,4 @@
 -- `breaking::least_bounds` meets its contract: the table is copied, and its copy made the tightest. Assumes nothing.
-use borrow.Author.Rules.{rules}
 use Rattle.marking.proofs.Broken.{copy_comparable, copy_least}
 use Rattle.marking.proofs.breaking.least_bounds.Goals as goal
 

@@ -1,7 +1,5 @@
 -- `check::numbers_within` meets its contract. Assumes nothing.
 use mathlib.Core.Path.{sym, ◌∙◌}
-use borrow.Author.Rules.{rules}
-use borrow.Author.Tests.{not-true, not-false}
 use Rattle.integers.proofs.Parts.{held_value}
 use Rattle.keys.proofs.Checking.{bounds_test}
 use Rattle.marking.proofs.Checking.{set_outside, sheet_outside, script_decides}

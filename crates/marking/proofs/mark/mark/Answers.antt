@@ -1,5 +1,4 @@
 -- `mark::mark` meets its contract: the checks, then the verdict. Assumes nothing.
-use borrow.Author.Rules.{rules}
 use Rattle.marking.proofs.Promised.{checked_accepted, mark_refused, mark_given}
 use Rattle.marking.proofs.mark.mark.Goals as goal
 

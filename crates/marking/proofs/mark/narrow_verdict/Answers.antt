@@ -2,7 +2,6 @@
 use mathlib.Core.Path.{◌≡◌, ◌∙◌, ap}
 use Prim.Native.Nat.{◌<◌}
 use native.Mathlib.Omega.{arith}
-use borrow.Author.Rules.{rules}
 use Rattle.integers.proofs.Parts.{held_value}
 use Rattle.words.specs.Change.{word_at}
 use Rattle.places.specs.Numbering.{block_start}

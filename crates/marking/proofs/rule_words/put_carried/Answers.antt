@@ -1,6 +1,5 @@
 -- `rule_words::put_carried` meets its contract. Assumes nothing.
 use mathlib.Core.Path.{sym, ap, ◌∙◌}
-use borrow.Author.Rules.{rules}
 use Rattle.marking.specs.Verdicts.{carried_words}
 use Rattle.marking.proofs.rule_words.put_carried.Goals as goal
 

@@ -1,6 +1,5 @@
 -- `rule_words::put_rule` meets its contract: each variant's words. Assumes nothing.
 use mathlib.Core.Path.{sym, ap}
-use borrow.Author.Rules.{rules}
 use Rattle.integers.proofs.Parts.{held_value}
 use Rattle.rules.specs.RuleWords.{rule_words}
 use Rattle.marking.proofs.rule_words.put_rule.Goals as goal

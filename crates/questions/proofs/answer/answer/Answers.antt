@@ -1,9 +1,7 @@
 -- `answer::answer` meets its contract: the no-rule word answers no, and any other is compared with the halved question's bound. Assumes nothing.
 use mathlib.Core.Path.{◌≡◌, sym, ◌∙◌, ap}
-use lib.Signed.{le_z}
 use mir.Syntax.{w64}
 use mir.Val.{to_z, of_z}
-use borrow.Author.Rules.{rules}
 use Rattle.integers.proofs.Parts.{held_value, word_value}
 use Rattle.rules.specs.Meaning.{bound_of}
 use Rattle.rules.specs.Steps.{halved_of}

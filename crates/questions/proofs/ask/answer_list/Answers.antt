@@ -1,5 +1,4 @@
 -- `ask::answer_list` meets its contract: the sheet is tightened in the workspace, and each question answered from a word there. Assumes nothing.
-use borrow.Author.Rules.{rules}
 use Rattle.questions.proofs.Promised.{ask_tightens, ask_five, ask_room, ask_answers, ask_answered}
 use Rattle.questions.proofs.ask.answer_list.Goals as goal
 

@@ -1,5 +1,4 @@
 -- `ask::ask` meets its contract: a refusal of the checks stands with nothing changed, and else the list is answered. Assumes nothing.
-use borrow.Author.Rules.{rules}
 use Rattle.questions.proofs.Promised.{ask_refused}
 use Rattle.questions.proofs.ask.ask.Goals as goal
 

@@ -1,15 +1,11 @@
 -- `check::check` meets its contract: at each check either its refusal stands or the next is made. Assumes nothing.
-use mathlib.Core.Bool.{Bool, true}
+use mathlib.Core.Bool.{true}
 use mathlib.Core.Path.{◌≡◌, sym, ◌∙◌}
-use Prim.Native.Nat.{ℕ, ◌≤◌}
 use native.Mathlib.Omega.{arith}
-use borrow.Author.Rules.{rules}
-use borrow.Author.Tests.{not-true, not-false}
 use lib.ListN.{length}
 use Rattle.integers.proofs.Parts.{held_value}
 use Rattle.places.specs.Numbering.{block_start}
 use Rattle.rules.specs.declared.paper.Paper.TheVariants.{Sheet}
-use Rattle.tables.specs.Meaning.{NoneAbove}
 use Rattle.tables.specs.Tables.{serves}
 use Rattle.tables.proofs.Sizes.{serves_tells, serves_sized}
 use Rattle.keys.specs.Keys.{bounds_in_limit}

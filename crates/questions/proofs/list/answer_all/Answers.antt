@@ -2,21 +2,15 @@
 use mathlib.Core.Path.{◌≡◌, sym, ◌∙◌}
 use mathlib.Core.Bool.{Bool, cond}
 use mathlib.Core.List.{List}
-use mathlib.Core.Logic.{⊎_elim}
-use Prim.Native.Nat.{ℕ, suc, ◌+◌, ◌-◌, ◌*◌, ◌%◌, ◌^◌, ◌≤◌, ◌<◌}
+use Prim.Native.Nat.{ℕ, suc, ◌+◌, ◌*◌, ◌%◌, ◌^◌, ◌≤◌, ◌<◌}
 use native.Mathlib.Nat.{add-zero}
 use native.Mathlib.Omega.{arith}
 use lib.IntN.{ℤ}
 use lib.Pow.{pow_mono}
 use Rattle.questions.specs.Questions.{max_questions, answer_at, yes_up_to}
 use Rattle.questions.proofs.Bits.{yes_zero, yes_more, yes_below}
-use Rattle.questions.proofs.list.answer_all.Lts as lts
-use Rattle.questions.proofs.list.answer_all.Tie as tie
-use Rattle.questions.proofs.list.answer_all.Reads as reads
 use Rattle.questions.proofs.list.answer_all.Goals as goal
-
-abbrev In-loop-i : Type 0
-In-loop-i = lts.In-loop tie.the-claims reads.Pre reads.Post goal.the-invariant-loop-i goal.the-decreases-loop-i
+use Rattle.questions.proofs.list.answer_all.Goals.{then-answer_at, else-answer_at}
 
 -- the bit of the present question, as the shift makes it
 bit_shifted : (i : ℕ) → i < max_questions → (1 * 2 ^ i) % 2 ^ 64 ≡ 2 ^ i
@@ -32,8 +26,8 @@ next : (t list : List ℤ) (i answers : ℕ) (b : Bool) → answers ≡ yes_up_t
 next t list i answers b e a = rw (e, a) (sym (yes_more t list i))
 
 -- the present question is one of few
-few : (c : In-loop-i) → c.loop-i.i < max_questions
-few c = omega (arith, c.requires.few, c.loop-i-test.true)
+few_at : (m i : ℕ) → m ≤ max_questions → i < m → i < max_questions
+few_at m i h l = omega arith
 
 pub loop-i-init : goal.loop-i-init
 loop-i-init c = (omega arith, sym (yes_zero c.args.tight.now c.args.questions.now))
@@ -48,15 +42,15 @@ answer_at-requires c = let p = c.requires in record {
 }
 
 pub overflow_shl-answers : goal.overflow_shl-answers
-overflow_shl-answers c = omega (arith, few c.before.before)
+overflow_shl-answers c = omega (arith, few_at c.args.m c.loop-i.i c.requires.few c.loop-i-test.true)
 
 pub overflow_add-answers : goal.overflow_add-answers
 overflow_add-answers c = let a = c.args in
-    rw (bit_shifted c.loop-i.i (few c.before.before), c.loop-i.invariant.1)
-    (record { fits = bit_room a.tight.now a.questions.now c.loop-i.i (few c.before.before) })
+    rw (bit_shifted c.loop-i.i (few_at c.args.m c.loop-i.i c.requires.few c.loop-i-test.true), c.loop-i.invariant.1)
+    (record { fits = bit_room a.tight.now a.questions.now c.loop-i.i (few_at c.args.m c.loop-i.i c.requires.few c.loop-i-test.true) })
 
 pub overflow_add-i : goal.overflow_add-i
-overflow_add-i c = omega (arith, few c.before.before)
+overflow_add-i c = omega (arith, few_at c.args.m c.loop-i.i c.requires.few c.loop-i-test.true)
 
 pub loop-i-smaller : goal.loop-i-smaller
 loop-i-smaller c = omega arith
@@ -64,10 +58,10 @@ loop-i-smaller c = omega arith
 pub loop-i-preserved : goal.loop-i-preserved
 loop-i-preserved c = (
   omega (arith, c.loop-i-test.true),
-  ⊎_elim
-      (λ p. p.1 ∙ rw (bit_shifted c.loop-i.i (few c.before.before)) (rw p.0.taken at (next _ _ _ _ c.answer_at.result c.loop-i.invariant.1 c.answer_at.ensures)))
-      (λ p. p.1 ∙ sym (add-zero c.loop-i.answers) ∙ rw p.0.left at (next _ _ _ _ c.answer_at.result c.loop-i.invariant.1 c.answer_at.ensures))
-      c.if-answer_at.branch,
+  elim c.if-answer_at.branch [
+    then-answer_at w ↦ w.answers-is ∙ rw (bit_shifted c.loop-i.i (few_at c.args.m c.loop-i.i c.requires.few c.loop-i-test.true)) (rw w.if-answer_at.true at (next _ _ _ _ c.answer_at.result c.loop-i.invariant.1 c.answer_at.ensures))
+  | else-answer_at w ↦ w.answers-is ∙ sym (add-zero c.loop-i.answers) ∙ rw w.if-answer_at.false at (next _ _ _ _ c.answer_at.result c.loop-i.invariant.1 c.answer_at.ensures)
+  ],
 )
 
 pub returns : goal.returns

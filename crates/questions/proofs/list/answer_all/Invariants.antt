@@ -1,15 +1,7 @@
 -- `list::answer_all` meets its contract. The loop's invariant: the number is that of the answers so far, which has as many bits. Assumes nothing.
-use mathlib.Core.Path.{◌≡◌, sym, ◌∙◌}
-use mathlib.Core.Bool.{Bool, cond}
-use mathlib.Core.List.{List}
-use mathlib.Core.Logic.{⊎_elim}
-use Prim.Native.Nat.{ℕ, suc, ◌+◌, ◌-◌, ◌*◌, ◌%◌, ◌^◌, ◌≤◌, ◌<◌}
-use native.Mathlib.Nat.{add-zero}
-use native.Mathlib.Omega.{arith}
-use lib.IntN.{ℤ}
-use lib.Pow.{pow_mono}
-use Rattle.questions.specs.Questions.{max_questions, answer_at, yes_up_to}
-use Rattle.questions.proofs.Bits.{yes_zero, yes_more, yes_below}
+use mathlib.Core.Path.{◌≡◌}
+use Prim.Native.Nat.{◌-◌, ◌≤◌}
+use Rattle.questions.specs.Questions.{yes_up_to}
 use Rattle.questions.proofs.list.answer_all.Given as goal
 
 

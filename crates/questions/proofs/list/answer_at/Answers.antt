@@ -1,22 +1,15 @@
 -- `list::answer_at` meets its contract: a question that passed the check is a rule with a place, and its answer is the one from the word there. Assumes nothing.
-use mathlib.Core.Path.{◌≡◌, sym, ◌∙◌, ap, ap₂, subst}
-use mathlib.Core.List.{[], ◌∷◌}
+use mathlib.Core.Path.{◌≡◌, sym, ◌∙◌, ap, ap₂}
 use Prim.Native.Nat.{◌<◌}
 use native.Mathlib.Omega.{arith}
-use lib.IntN.{ℤ}
-use denote.Enum.Declared.{tag_of}
-use types.Run.{OneOf, miss}
-use borrow.Author.Rules.{rules}
 use Rattle.integers.proofs.Parts.{held_value}
 use Rattle.words.specs.Change.{word_at}
 use Rattle.places.specs.declared.Place.TheVariants.{At}
 use Rattle.places.specs.Numbering.{block_start}
 use Rattle.rules.specs.declared.rule.Rule.{Rule}
 use Rattle.rules.specs.Steps.{halved_of}
-use Rattle.tables.specs.declared.given.Given.{Given}
 use Rattle.tables.specs.declared.given.Given.TheVariants.{Stated}
 use Rattle.tables.specs.Places.{find_place}
-use Rattle.tables.specs.contracts.given.Given.{the_type}
 use Rattle.tables.proofs.Sizes.{small_start}
 use Rattle.questions.specs.Questions.{question_at, answer_of}
 use Rattle.questions.proofs.Finding.{question_stated, question_inside, question_somewhere, answer_there}
@@ -42,7 +35,7 @@ stated : (c : After-question-given) → let a = c.args in c.question-given.resul
 stated c = question_stated c.args.n c.args.questions.now c.args.i c.requires.within c.requires.states _ c.question-given.ensures
 
 pub returns-in_default : goal.returns-in_default
-returns-in_default c = absurd (miss (1 ∷ 2 ∷ []) 0 tt (subst (λ (x : Given). OneOf (1 ∷ 2 ∷ []) (tag_of the_type x)) (stated c.before) c.in_default.in_default-own.keys2))
+returns-in_default c = absurd (c.in_default.not-Stated _ (question_stated c.args.n c.args.questions.now c.args.i c.requires.within c.requires.states _ c.question-given.ensures))
 
 stated_rule : {r s : Rule} → Stated r ≡ Stated s → r ≡ s
 stated_rule e = cc

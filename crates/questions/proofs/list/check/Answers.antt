@@ -1,11 +1,9 @@
 -- `list::check` meets its contract. The loop's invariant: the questions so far are in their limits, and the flag says whether one of them is +q-q. Assumes nothing.
 use mathlib.Core.Path.{◌≡◌}
-use mathlib.Core.Logic.{⊎_elim}
-use Prim.Native.Nat.{◌-◌, ◌≤◌}
 use native.Mathlib.Omega.{arith}
-use borrow.Author.Rules.{rules}
-use Rattle.questions.proofs.Listing.{Checked, checked_first, checked_cancels, checked_stated, reply_outside, reply_cancels, reply_done}
+use Rattle.questions.proofs.Listing.{checked_first, checked_cancels, checked_stated, reply_outside, reply_cancels, reply_done}
 use Rattle.questions.proofs.list.check.Goals as goal
+use Rattle.questions.proofs.list.check.Goals.{in-Vanishes, in-Stated}
 
 pub loop-i-init : goal.loop-i-init
 loop-i-init c = (omega arith, checked_first _ _)
@@ -26,10 +24,10 @@ pub loop-i-preserved : goal.loop-i-preserved
 loop-i-preserved c =
     let l = c.loop-i in (
       omega arith,
-      ⊎_elim
-          (λ x. rw x.2 (checked_cancels _ _ _ _ _ l.invariant.1 c.question-given.ensures x.1.given.1))
-          (λ x. rw x.2 (checked_stated _ _ _ _ _ l.invariant.1 c.question-given.ensures _ x.1.given.1))
-          c.match-given.branch,
+      elim c.match-given.branch [
+        in-Vanishes w ↦ rw w.cancels-is (checked_cancels _ _ _ _ _ l.invariant.1 c.question-given.ensures w.in-Vanishes.is)
+      | in-Stated w ↦ rw w.cancels-is (checked_stated _ _ _ _ _ l.invariant.1 c.question-given.ensures _ w.in-Stated.is)
+      ],
     )
 
 pub returns-then-cancels : goal.returns-then-cancels

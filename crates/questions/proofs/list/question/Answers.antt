@@ -1,5 +1,4 @@
 -- `list::question` meets its contract: the three words of the question, as they are read, are given as a rule. Assumes nothing.
-use borrow.Author.Rules.{rules}
 use Rattle.integers.proofs.Parts.{held_value}
 use Rattle.questions.specs.Questions.{first_of, second_of, bound_word}
 use Rattle.questions.proofs.list.question.Goals as goal

@@ -2,7 +2,6 @@
 use mathlib.Core.Path.{◌≡◌}
 use mathlib.Core.Bool.{false}
 use native.Mathlib.Omega.{arith}
-use borrow.Author.Rules.{rules}
 use Rattle.rules.specs.Limits.{bound_limit}
 use Rattle.reading.specs.Promises.{RulesFilled}
 use Rattle.reading.proofs.Limits.{unsigned, cap_casts, cap_value}

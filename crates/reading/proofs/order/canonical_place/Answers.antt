@@ -2,7 +2,6 @@
 -- quantity. Assumes nothing.
 use mathlib.Core.Path.{◌∙◌, ap}
 use native.Mathlib.Omega.{arith}
-use borrow.Author.Rules.{rules}
 use borrow.Author.Tests.{lt-ltb, le-ltb}
 use Rattle.places.specs.declared.Place.TheVariants.{At}
 use Rattle.rules.specs.Literal.{quantity_of}

@@ -1,5 +1,4 @@
 -- `read::read` meets its contract: the text is checked, and what was checked is read. Assumes nothing.
-use borrow.Author.Rules.{rules}
 use Rattle.reading.proofs.ReadTexts.{checked_vouched, read_whole}
 use Rattle.reading.proofs.read.read.Goals as goal
 

@@ -1,5 +1,4 @@
 -- `read::read_checked` meets its contract: the refusal that the check has told, then that of the table's length, or the table is filled. Assumes nothing.
-use borrow.Author.Rules.{rules}
 use Rattle.reading.proofs.ReadTexts.{read_refused, passes, room, read_short, read_done}
 use Rattle.reading.proofs.read.read_checked.Goals as goal
 

@@ -1,10 +1,8 @@
 -- `all::list` meets its contract. The loop's invariant: the first i quantities are listed. The measure is the quantities left. Assumes nothing.
-use mathlib.Core.Path.{◌≡◌, refl, ◌∙◌}
-use Prim.Native.Nat.{ℕ, ◌-◌, ◌≤◌, ◌<◌}
+use mathlib.Core.Path.{refl, ◌∙◌}
 use native.Mathlib.Numerals.{add-one}
 use native.Mathlib.Omega.{arith}
-use lib.ListN.{length, get_or, length-set}
-use borrow.Author.Rules.{rules}
+use lib.ListN.{length-set}
 use Rattle.steps.proofs.Listing.{all_more}
 use Rattle.steps.proofs.all.list.Goals as goal
 

@@ -1,11 +1,7 @@
 -- `all::list` meets its contract. The loop's invariant: the first i quantities are listed. The measure is the quantities left. Assumes nothing.
-use mathlib.Core.Path.{◌≡◌, refl, ◌∙◌}
+use mathlib.Core.Path.{◌≡◌}
 use Prim.Native.Nat.{ℕ, ◌-◌, ◌≤◌, ◌<◌}
-use native.Mathlib.Numerals.{add-one}
-use native.Mathlib.Omega.{arith}
-use lib.ListN.{length, get_or, length-set}
-use borrow.Author.Rules.{rules}
-use Rattle.steps.proofs.Listing.{all_more}
+use lib.ListN.{length, get_or}
 use Rattle.steps.proofs.all.list.Given as goal
 
 

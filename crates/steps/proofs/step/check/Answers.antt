@@ -1,6 +1,5 @@
 -- `step::check` meets its contract: at each check either its refusal stands or the next is made. Assumes nothing.
 use native.Mathlib.Omega.{arith}
-use borrow.Author.Rules.{rules}
 use Rattle.steps.proofs.Checking.{step_stops, step_zero, step_past, step_long, step_passes}
 use Rattle.steps.proofs.step.check.Goals as goal
 

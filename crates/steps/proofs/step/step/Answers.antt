@@ -1,7 +1,6 @@
 -- `step::step` meets its contract: the checks, the decision, those of the set hidden, then the blocks. Assumes nothing.
 use native.Mathlib.Omega.{arith}
 use lib.ListN.{length}
-use borrow.Author.Rules.{rules}
 use Rattle.rules.specs.Refusing.{passed, AllMet}
 use Rattle.keys.proofs.Promised.{untouched}
 use Rattle.steps.specs.Meaning.{step_needs_then}

@@ -1,5 +1,4 @@
 -- `key::tight_key` meets its contract: the key call's checks, then the tight key made where some integers satisfy the sheet. Assumes nothing.
-use borrow.Author.Rules.{rules}
 use Rattle.keys.proofs.Checking.{key_stands}
 use Rattle.keys.proofs.Promised.{untouched, key_refused, key_five}
 use Rattle.tightening.proofs.TightMaking.{tight_keyed, tight_stops, tight_copied, tight_finished}

@@ -1,5 +1,4 @@
 -- `key::tighten_copy` meets its contract: the sheet is copied, its hidden quantities hidden in the copy, and the key tightened there. Assumes nothing.
-use borrow.Author.Rules.{rules}
 use Rattle.keys.proofs.Taking.{taken_length}
 use Rattle.keys.proofs.Making.{copy_fits}
 use Rattle.tightening.proofs.TightMaking.{tight_ready, tight_early, tight_tried}

@@ -1,7 +1,7 @@
 -- `tighten::gather_lone` meets its contract. The loop's invariant: the bounds of the quantities passed are gathered, and the row keeps its length. The measure is
 -- what is left of the list. Assumes nothing.
 use mathlib.Core.Path.{◌≡◌, refl}
-use Prim.Native.Nat.{◌+◌, ◌-◌, ◌*◌, ◌≤◌, ◌<◌}
+use Prim.Native.Nat.{◌+◌, ◌*◌, ◌≤◌, ◌<◌}
 use native.Mathlib.Numerals.{add-one}
 use native.Mathlib.Omega.{arith}
 use lib.ListN.{length, get_or, length-set}
@@ -9,10 +9,9 @@ use Rattle.integers.proofs.Parts.{held_value}
 use Rattle.places.specs.Numbering.{block_start}
 use Rattle.rules.specs.Limits.{max_quantities}
 use Rattle.elimination.specs.Hiding.{lone_word}
-use Rattle.elimination.proofs.Rows.{FilledTo, filled_none, filled_more}
+use Rattle.elimination.proofs.Rows.{filled_none, filled_more}
 use Rattle.tightening.proofs.Strengthening.{lone_places, plus_lone, minus_lone, lone_all}
 use Rattle.tightening.proofs.tighten.gather_lone.Lts as lts
-use Rattle.tightening.proofs.tighten.gather_lone.Tie as tie
 use Rattle.tightening.proofs.tighten.gather_lone.Reads as reads
 use Rattle.tightening.proofs.tighten.gather_lone.Goals as goal
 
@@ -87,16 +86,15 @@ loop-i-smaller c = omega arith
 
 pub loop-i-preserved : goal.loop-i-preserved
 loop-i-preserved c =
-    let l = c.loop-i in
     let live = c.args.live.now in
     let t = c.args.table.now in
-    let a = get_or live l.i 0 in
+    let a = get_or live c.loop-i.i 0 in
     let p = place c.before.before.before in
-    let room : 2 * a + 2 ≤ length l.row = omega (arith, p.0, l.invariant.1, c.requires.row_room) in (
+    let room : 2 * a + 2 ≤ length c.loop-i.row = omega (arith, p.0, c.loop-i.invariant.1, c.requires.row_room) in (
       omega arith,
-      rw (length-set, length-set) l.invariant.1,
-      rw (add-one l.i, held_value c.row-1.given, held_value c.row-in-loop-i-1.given, plus_lone t a, minus_lone t a)
-          (filled_more l.i live (lone_word t) l.row _ c.requires.listed.rising c.loop-i-test.true room refl l.invariant.2),
+      rw (length-set, length-set) c.loop-i.invariant.1,
+      rw (add-one c.loop-i.i, held_value c.row-1.given, held_value c.row-in-loop-i-1.given, plus_lone t a, minus_lone t a)
+          (filled_more c.loop-i.i live (lone_word t) c.loop-i.row _ c.requires.listed.rising c.loop-i-test.true room refl c.loop-i.invariant.2),
     )
 
 pub shape_of-row : goal.shape_of-row
@@ -105,5 +103,5 @@ shape_of-row c = c.loop-i.invariant.1
 pub returns : goal.returns
 returns c =
     let l = c.loop-i in
-    let e : l.i ≡ length c.args.live.now = omega arith in
-    lone_all _ _ _ _ (rw e at l.invariant.2)
+    let e : c.loop-i.i ≡ length c.args.live.now = omega arith in
+    lone_all _ _ _ _ (rw e at c.loop-i.invariant.2)

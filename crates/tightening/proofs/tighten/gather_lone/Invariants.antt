@@ -1,16 +1,10 @@
 -- `tighten::gather_lone` meets its contract. The loop's invariant: the bounds of the quantities passed are gathered, and the row keeps its length. The measure is
 -- what is left of the list. Assumes nothing.
-use mathlib.Core.Path.{◌≡◌, refl}
-use Prim.Native.Nat.{◌+◌, ◌-◌, ◌*◌, ◌≤◌, ◌<◌}
-use native.Mathlib.Numerals.{add-one}
-use native.Mathlib.Omega.{arith}
-use lib.ListN.{length, get_or, length-set}
-use Rattle.integers.proofs.Parts.{held_value}
-use Rattle.places.specs.Numbering.{block_start}
-use Rattle.rules.specs.Limits.{max_quantities}
+use mathlib.Core.Path.{◌≡◌}
+use Prim.Native.Nat.{◌-◌, ◌≤◌}
+use lib.ListN.{length}
 use Rattle.elimination.specs.Hiding.{lone_word}
-use Rattle.elimination.proofs.Rows.{FilledTo, filled_none, filled_more}
-use Rattle.tightening.proofs.Strengthening.{lone_places, plus_lone, minus_lone, lone_all}
+use Rattle.elimination.proofs.Rows.{FilledTo}
 use Rattle.tightening.proofs.tighten.gather_lone.Given as goal
 
 

@@ -1,11 +1,9 @@
 -- `tighten::pair_all` meets its contract. The loop's invariant: all quantities below the one at its turn in the list, or all where the list has ended, are paired
 -- without a contradiction. The measure is what is left of the list. Assumes nothing.
-use mathlib.Core.Path.{◌≡◌, refl, ◌∙◌}
-use Prim.Native.Nat.{◌-◌, ◌≤◌}
+use mathlib.Core.Path.{refl, ◌∙◌}
 use native.Mathlib.Numerals.{add-one}
 use native.Mathlib.Omega.{arith}
-use lib.ListN.{length, get_or}
-use Rattle.tightening.proofs.Walking.{PairedTo, walk_first, walk_ready, walk_on, walk_clash, walk_end}
+use Rattle.tightening.proofs.Walking.{walk_first, walk_ready, walk_on, walk_clash, walk_end}
 use Rattle.tightening.proofs.tighten.pair_all.Goals as goal
 
 pub loop-turn-init : goal.loop-turn-init
@@ -26,12 +24,11 @@ bounds-live-turn c = omega arith
 
 pub pair-requires : goal.pair-requires
 pair-requires c =
-    let l = c.loop-turn in
     record {
-      ready = walk_ready c.args.n c.args.live.now c.args.table.now c.requires.0 c.requires.1 l.turn l.table c.loop-turn-test.true l.invariant.4;
+      ready = walk_ready c.args.n c.args.live.now c.args.table.now c.requires.0 c.requires.1 c.loop-turn.turn c.loop-turn.table c.loop-turn-test.true c.loop-turn.invariant.4;
       listed = c.requires.1.listed;
-      plus_room = omega (arith, l.invariant.2, c.requires.2.plus_room);
-      minus_room = omega (arith, l.invariant.3, c.requires.2.minus_room);
+      plus_room = omega (arith, c.loop-turn.invariant.2, c.requires.2.plus_room);
+      minus_room = omega (arith, c.loop-turn.invariant.3, c.requires.2.minus_room);
     }
 
 pub shape_of-table-then-pair : goal.shape_of-table-then-pair
@@ -48,8 +45,7 @@ shape_of-minus-then-pair c =
 
 pub returns-then-pair : goal.returns-then-pair
 returns-then-pair c =
-    let l = c.loop-turn in
-    walk_clash c.args.n c.args.live.now c.args.table.now c.requires.0 c.requires.1 l.turn l.table _ _ c.loop-turn-test.true l.invariant.4
+    walk_clash c.args.n c.args.live.now c.args.table.now c.requires.0 c.requires.1 c.loop-turn.turn c.loop-turn.table _ _ c.loop-turn-test.true c.loop-turn.invariant.4
     c.pair.ensures c.if-pair.true
 
 pub overflow_add-turn : goal.overflow_add-turn
@@ -60,14 +56,13 @@ loop-turn-smaller c = omega arith
 
 pub loop-turn-preserved : goal.loop-turn-preserved
 loop-turn-preserved c =
-    let l = c.loop-turn in
     (
       omega arith,
-      c.pair.auto.table ∙ l.invariant.1,
-      c.pair.auto.plus ∙ l.invariant.2,
-      c.pair.auto.minus ∙ l.invariant.3,
-      rw (add-one l.turn)
-          (walk_on c.args.n c.args.live.now c.args.table.now c.requires.0 c.requires.1 l.turn l.table _ _ c.loop-turn-test.true l.invariant.4
+      c.pair.auto.table ∙ c.loop-turn.invariant.1,
+      c.pair.auto.plus ∙ c.loop-turn.invariant.2,
+      c.pair.auto.minus ∙ c.loop-turn.invariant.3,
+      rw (add-one c.loop-turn.turn)
+          (walk_on c.args.n c.args.live.now c.args.table.now c.requires.0 c.requires.1 c.loop-turn.turn c.loop-turn.table _ _ c.loop-turn-test.true c.loop-turn.invariant.4
           c.pair.ensures c.if-pair.false),
     )
 
@@ -82,5 +77,4 @@ shape_of-minus c = c.loop-turn.invariant.3
 
 pub returns : goal.returns
 returns c =
-    let l = c.loop-turn in
-    walk_end c.args.n c.args.live.now c.args.table.now c.requires.0 c.requires.1 l.turn l.table c.loop-turn-test.false l.invariant.4
+    walk_end c.args.n c.args.live.now c.args.table.now c.requires.0 c.requires.1 c.loop-turn.turn c.loop-turn.table c.loop-turn-test.false c.loop-turn.invariant.4

@@ -1,11 +1,9 @@
 -- `tighten::pair_all` meets its contract. The loop's invariant: all quantities below the one at its turn in the list, or all where the list has ended, are paired
 -- without a contradiction. The measure is what is left of the list. Assumes nothing.
-use mathlib.Core.Path.{◌≡◌, refl, ◌∙◌}
+use mathlib.Core.Path.{◌≡◌}
 use Prim.Native.Nat.{◌-◌, ◌≤◌}
-use native.Mathlib.Numerals.{add-one}
-use native.Mathlib.Omega.{arith}
 use lib.ListN.{length, get_or}
-use Rattle.tightening.proofs.Walking.{PairedTo, walk_first, walk_ready, walk_on, walk_clash, walk_end}
+use Rattle.tightening.proofs.Walking.{PairedTo}
 use Rattle.tightening.proofs.tighten.pair_all.Given as goal
 
 

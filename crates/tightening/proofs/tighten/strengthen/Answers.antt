@@ -1,7 +1,6 @@
 -- `tighten::strengthen` meets its contract: pairing the gathered row with itself strengthens the table. Assumes nothing.
 use mathlib.Core.Path.{refl}
 use native.Mathlib.Omega.{arith}
-use borrow.Author.Rules.{rules}
 use Rattle.tables.proofs.Tests.{clash}
 use Rattle.elimination.specs.Inner.{Row}
 use Rattle.tightening.proofs.Strengthening.{lone_adds, strengthening_paired}

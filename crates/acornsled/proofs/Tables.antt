@@ -6,6 +6,7 @@ use mathlib.Core.List.{List}
 use Prim.Native.Nat.{ℕ, ◌<◌, ◌≤◌}
 use native.Mathlib.Omega.{arith}
 use lib.IntN.{ℤ}
+use lib.ListN.{length}
 use Rattle.rules.specs.declared.refusal.Refusal.{Refusal}
 use Rattle.rules.specs.Hidden.{hidden_in}
 use Rattle.rules.specs.Refusal.{refusal_number, Returned, refused_as}
@@ -47,13 +48,13 @@ given_same before (Marked (Tight rule)) h = rw (words_values rule)
 given_same before (Refused f) h = absurd (omega (arith, refusal_below f))
 
 -- no need of the call is refused with 5
-needs_never : {n set w v : ℕ} {sheet script : List ℤ} (f : Refusal) → RefusedBy (mark_needs n set sheet script w v) f → (refusal_number f ≡ 5) → ⊥
-needs_never f (inl x) e = omega (arith, rw x.1 at e)
-needs_never f (inr (a, inl x)) e = omega (arith, rw x.1 at e)
-needs_never f (inr (a, inr (b, inl x))) e = omega (arith, rw x.1 at e)
-needs_never f (inr (a, inr (b, inr (c, inl x)))) e = omega (arith, rw x.1 at e)
-needs_never f (inr (a, inr (b, inr (c, inr (d, inl x))))) e = omega (arith, rw x.1 at e)
-needs_never f (inr (a, inr (b, inr (c, inr (d, inr x))))) e = x.1
+needs_never : (n set w v : ℕ) (sheet script : List ℤ) (f : Refusal) → RefusedBy (mark_needs n set sheet script w v) f → (refusal_number f ≡ 5) → ⊥
+needs_never n set w v sheet script f (inl x) e = omega (arith, rw x.1 at e)
+needs_never n set w v sheet script f (inr (a, inl x)) e = omega (arith, rw x.1 at e)
+needs_never n set w v sheet script f (inr (a, inr (b, inl x))) e = omega (arith, rw x.1 at e)
+needs_never n set w v sheet script f (inr (a, inr (b, inr (c, inl x)))) e = omega (arith, rw x.1 at e)
+needs_never n set w v sheet script f (inr (a, inr (b, inr (c, inr (d, inl x))))) e = omega (arith, rw x.1 at e)
+needs_never n set w v sheet script f (inr (a, inr (b, inr (c, inr (d, inr x))))) e = x.1
 
 -- ---- a loose verdict without a rule
 
@@ -69,7 +70,7 @@ module _ {n set : ℕ} {sheet script w u w' u' : List ℤ} where
   -- and 5 is no number of a reply
   marked_never : (x : Marking) → TablesMarked n set sheet script w u x w' u' → (marking_number x ≡ 5) → ⊥
   marked_never (Marked v) m e = omega (arith, verdict_from v)
-  marked_never (Refused f) m e = needs_never f ((m.decided.refused f).0 refl) e
+  marked_never (Refused f) m e = needs_never n set (length w) (length u) sheet script f ((m.decided.refused f).0 refl) e
 
 -- ---- the call
 

@@ -34,7 +34,7 @@ use Rattle.lines.specs.Spelling.{Written, rule, line_within}
 use Rattle.lines.specs.Lines.{refused}
 use Rattle.reading.specs.declared.read.Reading.TheVariants.{Refused}
 use Rattle.reading.specs.Texts.{rule_lines, lines_text}
-use Rattle.reading.specs.Meaning.{Opening, ruled, lines_of, OutsideAt, outside_at}
+use Rattle.reading.specs.Meaning.{Opening, ruled, lines_of, AllFine, OutsideAt, outside_at}
 use Rattle.reading.specs.Reading.{read_reply, reading_returned}
 use Rattle.reading.proofs.Ending.{sheet_lines}
 use Rattle.reading.proofs.Means.{text_means}
@@ -178,7 +178,8 @@ module _ (paper : Paper) (n set : ℕ) (t : List ℤ) (some : 1 ≤ n) (most : n
       text = sheet_lines (contents_of n set t)
           ∙ ap (λ (rs : List Written). lines_text (lines_of (ruled n (hidden_list n set) (length (table_rules n t)) rs))) table_apart
           ∙ lines_more n (hidden_list n set) (length (table_rules n t)) before (here ∷ after);
-      fine = rw (← hidden_limit paper n set within) (opening_fine n set t some most limit before (rules_fine n limit 0 (take k t) short inside));
+      fine = subst (λ (b : ℕ). AllFine n b (lines_of (ruled n (hidden_list n set) (length (table_rules n t)) before))) (hidden_limit paper n set within)
+          (opening_fine n set t some most limit before (rules_fine n limit 0 (take k t) short inside));
       most = omega (arith, count);
       number = omega (arith, lines_count before);
     };

@@ -1,6 +1,5 @@
 -- `key::print_table` meets its contract: the tightest key's text where the call is done, its refusal where not; there is room for both. Assumes nothing.
 use native.Mathlib.Omega.{arith}
-use borrow.Author.Rules.{rules}
 use Rattle.reports.proofs.TableReports.{report_room, key_serves, report_done, report_refusal}
 use Rattle.reports.proofs.key.print_table.Goals as goal
 
@@ -8,7 +7,10 @@ pub print_text-requires : goal.print_text-requires
 print_text-requires c =
     let done = c.in-Done.is in
     let room = rw (report_done c.tight_key-reply.ensures c.requires.0 (omega arith) done) at (report_room c.requires.0) in
-    (key_serves c.tight_key-reply.ensures c.requires.0 (omega arith) done, omega (arith, room, c.requires.1))
+    record {
+      table_value = key_serves c.tight_key-reply.ensures c.requires.0 (omega arith) done;
+      table_in_bounds = omega (arith, room, c.requires.1);
+    }
 
 pub put_refusal-requires : goal.put_refusal-requires
 put_refusal-requires c =

@@ -1,7 +1,6 @@
 -- `mark::put_shown` meets its contract: the rule's line and the assignment's. Assumes nothing.
 use native.Mathlib.Omega.{arith}
 use lib.ListN.{take}
-use borrow.Author.Rules.{rules}
 use Rattle.numerals.proofs.Splices.{spliced_more}
 use Rattle.reports.specs.Marks.{shown_text}
 use Rattle.reports.proofs.MarkTexts.{shown_length}
@@ -15,7 +14,7 @@ put_rule-next-requires c =
 pub put_values-requires : goal.put_values-requires
 put_values-requires c =
     let a = c.args in
-    (omega arith, omega (arith, c.put_rule-next.auto.words, shown_length a.rule (take a.n a.values.now)))
+    (omega arith, omega (arith, c.put_rule-next.auto.out, shown_length a.rule (take a.n a.values.now)))
 
 pub returns : goal.returns
 unfolding shown_text

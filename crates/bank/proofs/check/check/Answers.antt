@@ -23,7 +23,6 @@ In-Passed = lts.Past-After-known_told tie.the-claims reads.Pre reads.Post
 abbrev After-bound_limit-limit : Type 0
 After-bound_limit-limit = lts.After-bound_limit tie.the-claims reads.Pre reads.Post
 
-
 -- the text, and what its header tells where it passed
 abbrev text_of : In-Passed → List ℕ
 text_of c = c.args.s.now

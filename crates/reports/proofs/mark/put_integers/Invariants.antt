@@ -15,7 +15,6 @@ use Rattle.numerals.proofs.Splices.{spliced_none, spliced_more}
 use Rattle.reports.proofs.MarkTexts.{later_text, later_none, later_more, later_more_length, later_longer, integers_none, integers-text, integers_length}
 use Rattle.reports.proofs.mark.put_integers.Given as goal
 
-
 abbrev pub invariant-loop-i : goal.invariant-loop-i
 invariant-loop-i l =
     (1 ≤ l.i) × (l.i ≤ l.n) × (length l.out ≡ length l.initial.out) × Spliced l.initial.out l.initial.next (later_text l.i l.values) l.next l.out

@@ -7,7 +7,6 @@ use Rattle.scripts.specs.declared.reply.Subject.{Subject}
 use Rattle.reports.specs.Marks.{paper_key, word_text, paper_name}
 use Rattle.reports.proofs.mark.put_paper.Goals as goal
 
-
 -- the line of one paper has one length
 same_line : {p q : Subject} → p ≡ q → length (word_text paper_key (paper_name p)) ≡ length (word_text paper_key (paper_name q))
 same_line e = ap (λ (p : Subject). length (word_text paper_key (paper_name p))) e

@@ -6,7 +6,7 @@ use Rattle.numerals.proofs.Splices.{spliced_more}
 use Rattle.reports.proofs.MarkTexts.{values-text, values_length}
 use Rattle.reports.proofs.mark.put_values.Goals as goal
 
-{- 
+{-
 slice_aggregate_put_text : tie.Need-slice-aggregate-put-text
 slice_aggregate_put_text c = search rules -}
 

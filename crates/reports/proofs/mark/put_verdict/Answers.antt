@@ -16,7 +16,6 @@ use Rattle.reports.proofs.mark.put_verdict.Goals as goal
 abbrev Start : Type 0
 Start = lts.Start tie.the-claims reads.Pre reads.Post
 
-
 -- the integers that are printed
 abbrev shown : Start → List ℤ
 shown c = take c.args.n c.args.values.now

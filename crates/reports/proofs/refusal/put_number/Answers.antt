@@ -3,7 +3,7 @@ use native.Mathlib.Omega.{arith}
 use borrow.Author.Rules.{rules}
 use Rattle.reports.proofs.refusal.put_number.Goals as goal
 
-{- 
+{-
 slice_aggregate_put_count : tie.Need-slice-aggregate-put-count
 slice_aggregate_put_count c = search rules -}
 

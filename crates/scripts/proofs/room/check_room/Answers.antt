@@ -16,7 +16,6 @@ use Rattle.scripts.proofs.room.check_room.Goals as goal
 abbrev After-size-m : Type 0
 After-size-m = lts.After-size tie.the-claims reads.Pre reads.Post
 
-
 -- the size of a table
 size : (c : After-size-m) → c.size-m.result ≡ block_start c.args.n
 size c = size_known _ _ c.requires.1 c.size-m.ensures

@@ -15,7 +15,6 @@ Start = lts.Start tie.the-claims reads.Pre reads.Post
 abbrev After-mark_once-arg-1 : Type 0
 After-mark_once-arg-1 = lts.After-mark_once-arg tie.the-claims reads.Pre reads.Post
 
-
 abbrev start_of : After-mark_once-arg-1 → Start
 start_of c = c.before.before.before.before.before.before
 

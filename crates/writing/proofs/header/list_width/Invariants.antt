@@ -11,7 +11,6 @@ use Rattle.writing.proofs.ListTexts.{list_none, list_more_length, member_short}
 use Rattle.writing.proofs.Lengths.{hidden_length}
 use Rattle.writing.proofs.header.list_width.Given as goal
 
-
 abbrev pub invariant-loop-j : goal.invariant-loop-j
 invariant-loop-j l = (l.j ≤ l.n) × (l.total ≡ length (list_text (hidden_list l.j l.set)))
 

@@ -6,7 +6,7 @@ use Rattle.numerals.proofs.Splices.{spliced_more}
 use Rattle.writing.proofs.Texts.{count_length, head-text, head_length}
 use Rattle.writing.proofs.header.put_header.Goals as goal
 
-{- 
+{-
 slice_aggregate_put_count : tie.Need-slice-aggregate-put-count
 slice_aggregate_put_count c = search rules -}
 

@@ -12,7 +12,6 @@ use Rattle.writing.specs.Writing.{hidden_list}
 use Rattle.writing.proofs.ListTexts.{list_none, list_more, list_more_length, list_longer}
 use Rattle.writing.proofs.header.put_list.Given as goal
 
-
 abbrev pub invariant-loop-j : goal.invariant-loop-j
 invariant-loop-j l = (l.j ≤ l.n) × (length l.out ≡ length l.initial.out) × Spliced l.initial.out l.at (list_text (hidden_list l.j l.set)) l.next l.out
 

@@ -22,7 +22,6 @@ Then-at-start = lts.Then2 tie.the-claims reads.Pre reads.Post tie.handed_clauses
 abbrev Else-at-start : Type 0
 Else-at-start = lts.Else2 tie.the-claims reads.Pre reads.Post tie.handed_clauses
 
-
 -- the first of the list
 first : (c : Then-at-start) → let a = c.args in member_text a.set a.j ≡ decimal (a.j + 1)
 first c =

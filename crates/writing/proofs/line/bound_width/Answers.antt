@@ -15,7 +15,6 @@ use Rattle.writing.proofs.line.bound_width.Goals as goal
 abbrev After-signed_width : Type 0
 After-signed_width = lts.After-signed_width tie.the-claims reads.Pre reads.Post
 
-
 -- the width measured is that of the bound, which is read back from its bits
 width : (c : After-signed_width) → c.signed_width.result ≡ length (signed_decimal c.args.bound)
 width c = c.signed_width.ensures ∙ ap (λ (z : ℤ). length (signed_decimal z)) (word_value c.ranges.bound)

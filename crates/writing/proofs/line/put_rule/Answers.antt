@@ -5,7 +5,7 @@ use Rattle.numerals.proofs.Splices.{spliced_more}
 use Rattle.writing.proofs.Lines.{rule-line, line_length}
 use Rattle.writing.proofs.line.put_rule.Goals as goal
 
-{- 
+{-
 slice_aggregate_put_text : tie.Need-slice-aggregate-put-text
 slice_aggregate_put_text c = search rules -}
 

@@ -16,7 +16,6 @@ use Rattle.writing.proofs.line.term_width.Goals as goal
 abbrev After-width : Type 0
 After-width = lts.After-width tie.the-claims reads.Pre reads.Post
 
-
 -- the width measured is that of the quantity's number
 width : (c : After-width) → c.width.result ≡ length (decimal (quantity_of c.args.x))
 width c = c.width.ensures ∙ ap (λ (q : ℕ). length (decimal q)) c.quantity.ensures

@@ -11,7 +11,6 @@ use Rattle.writing.specs.Inner.{Measured}
 use Rattle.writing.proofs.Texts.{measure_none, measure_more, measure_small}
 use Rattle.writing.proofs.write.measured.Given as goal
 
-
 abbrev pub invariant-loop-k : goal.invariant-loop-k
 invariant-loop-k l = (l.k ≤ l.m) × Measured (take l.k l.table) l.total
 

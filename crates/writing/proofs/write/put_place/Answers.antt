@@ -18,7 +18,6 @@ use Rattle.writing.proofs.write.put_place.Goals as goal
 abbrev After-rule_at : Type 0
 After-rule_at = lts.After-rule_at tie.the-claims reads.Pre reads.Post
 
-
 -- the place's line is that of the rule found
 line : (c : After-rule_at) → let a = c.args in place_text a.k a.w ≡ rule_line_text c.rule_at.result
 line c =

@@ -15,7 +15,6 @@ use Rattle.writing.specs.Inner.{place_text, rules_text}
 use Rattle.writing.proofs.Texts.{text_none, text_more, text_more_length, text_longer}
 use Rattle.writing.proofs.write.put_rules.Given as goal
 
-
 abbrev pub invariant-loop-k : goal.invariant-loop-k
 invariant-loop-k l = (l.k ≤ l.m) × (length l.out ≡ length l.initial.out) × Spliced l.initial.out l.from (rules_text (take l.k l.table)) l.at l.out
 

@@ -24,7 +24,6 @@ Then-w-lt-NO_RULE = lts.Then1 tie.the-claims reads.Pre reads.Post
 abbrev After-rule_at : Type 0
 After-rule_at = lts.After-rule_at tie.the-claims reads.Pre reads.Post
 
-
 -- the word holds a rule
 holds : (c : Then-w-lt-NO_RULE) → has_rule c.args.w ≡ true
 holds c = rw (word_value c.ranges.w) at c.if-w-lt-NO_RULE.true

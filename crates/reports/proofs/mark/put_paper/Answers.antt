@@ -2,7 +2,6 @@
 use mathlib.Core.Path.{◌≡◌, ap}
 use native.Mathlib.Omega.{arith}
 use lib.ListN.{length}
-use borrow.Author.Rules.{rules}
 use Rattle.scripts.specs.declared.reply.Subject.{Subject}
 use Rattle.reports.specs.Marks.{paper_key, word_text, paper_name}
 use Rattle.reports.proofs.mark.put_paper.Goals as goal

@@ -3,7 +3,6 @@ use mathlib.Core.List.{List, append-nil}
 use native.Mathlib.Omega.{arith}
 use lib.IntN.{ℤ}
 use lib.ListN.{take}
-use borrow.Author.Rules.{rules}
 use Rattle.numerals.specs.Bytes.{bytes}
 use Rattle.numerals.proofs.Splices.{spliced_more}
 use Rattle.reports.specs.Marks.{verdict_key, word_text}

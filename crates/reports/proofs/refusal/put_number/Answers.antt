@@ -1,6 +1,5 @@
 -- `refusal::put_number` meets its contract. Assumes nothing.
 use native.Mathlib.Omega.{arith}
-use borrow.Author.Rules.{rules}
 use Rattle.reports.proofs.refusal.put_number.Goals as goal
 
 {- 

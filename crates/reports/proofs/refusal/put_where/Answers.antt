@@ -1,6 +1,5 @@
 -- `refusal::put_where` meets its contract. Assumes nothing.
 use native.Mathlib.Omega.{arith}
-use borrow.Author.Rules.{rules}
 use Rattle.reports.proofs.refusal.put_where.Goals as goal
 
 {- 

@@ -4,7 +4,6 @@ use Prim.Native.Nat.{◌*◌}
 use mir.Syntax.{w64}
 use mir.Val.{Fits}
 use native.Mathlib.Omega.{arith}
-use borrow.Author.Rules.{rules}
 use Rattle.places.specs.Numbering.{block_start}
 use Rattle.tables.proofs.Sizes.{small_start, size_known}
 use Rattle.scripts.proofs.Rooms.{sheet_short, script_short, workspace_short, values_short, room_roomy}

@@ -1,6 +1,5 @@
 -- `stack::mark_small` meets its contract: a table of the small room has words enough for its most quantities. Assumes nothing.
 use native.Mathlib.Omega.{arith}
-use borrow.Author.Rules.{rules}
 use Rattle.places.specs.Numbering.{block_start}
 use Rattle.scripts.specs.Inner.{small_count}
 use Rattle.scripts.proofs.OwnRoom.{own_room}

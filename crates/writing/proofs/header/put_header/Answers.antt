@@ -1,6 +1,5 @@
 -- `header::put_header` meets its contract: the three lines one after the other. Assumes nothing.
 use native.Mathlib.Omega.{arith}
-use borrow.Author.Rules.{rules}
 use Rattle.lines.specs.Spelling.{quantities_key, rules_key}
 use Rattle.numerals.proofs.Splices.{spliced_more}
 use Rattle.writing.proofs.Texts.{count_length, head-text, head_length}

@@ -4,8 +4,6 @@ use mathlib.Core.List.{◌∷◌}
 use Prim.Native.Nat.{◌+◌}
 use native.Mathlib.Omega.{arith}
 use lib.ListN.{length}
-use borrow.Author.Rules.{rules}
-use borrow.Author.Tests.{not-true, not-false}
 use Rattle.numerals.specs.Bytes.{comma}
 use Rattle.numerals.specs.Decimal.{decimal}
 use Rattle.numerals.proofs.Splices.{spliced_none, spliced_more}

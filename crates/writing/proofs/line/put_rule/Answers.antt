@@ -1,6 +1,5 @@
 -- `line::put_rule` meets its contract: the key, the value and the line's end. Assumes nothing.
 use native.Mathlib.Omega.{arith}
-use borrow.Author.Rules.{rules}
 use Rattle.numerals.proofs.Splices.{spliced_more}
 use Rattle.writing.proofs.Lines.{rule-line, line_length}
 use Rattle.writing.proofs.line.put_rule.Goals as goal

@@ -3,7 +3,6 @@ use mathlib.Core.Path.{◌≡◌, ◌∙◌, ap}
 use Prim.Native.Nat.{ℕ}
 use native.Mathlib.Omega.{arith}
 use lib.ListN.{length}
-use borrow.Author.Rules.{rules}
 use Rattle.rules.specs.Literal.{quantity_of}
 use Rattle.numerals.specs.Decimal.{decimal}
 use Rattle.numerals.proofs.Decimals.{decimal_width}

@@ -3,7 +3,6 @@ use mathlib.Core.Path.{◌≡◌, ap}
 use mathlib.Core.Bool.{false}
 use native.Mathlib.Omega.{arith}
 use lib.ListN.{length}
-use borrow.Author.Rules.{rules}
 use Rattle.integers.proofs.Parts.{word_value}
 use Rattle.numerals.proofs.Splices.{spliced_none}
 use Rattle.tables.specs.Tables.{has_rule}

@@ -4,7 +4,6 @@ use mathlib.Core.Bool.{true, false}
 use Prim.Native.Nat.{◌≤◌}
 use native.Mathlib.Omega.{arith}
 use lib.ListN.{length}
-use borrow.Author.Rules.{rules}
 use Rattle.integers.proofs.Parts.{word_value}
 use Rattle.rules.specs.Limits.{max_quantities}
 use Rattle.tables.specs.Tables.{has_rule}

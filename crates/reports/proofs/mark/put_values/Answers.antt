@@ -5,10 +5,6 @@ use Rattle.numerals.proofs.Splices.{spliced_more}
 use Rattle.reports.proofs.MarkTexts.{values-text, values_length}
 use Rattle.reports.proofs.mark.put_values.Goals as goal
 
-{- 
-slice_aggregate_put_text : tie.Need-slice-aggregate-put-text
-slice_aggregate_put_text c = search rules -}
-
 pub put_text-first-requires : goal.put_text-first-requires
 put_text-first-requires c =
     let a = c.args in

@@ -21,7 +21,7 @@ use Rattle.lines.specs.Lines.{count_line}
 use Rattle.lines.specs.Spelling.{line_text}
 use Rattle.lines.proofs.Spellings.{count_complete}
 use Rattle.reading.specs.Texts.{lines_text, header_text, sheet_text}
-use Rattle.reading.specs.Meaning.{LineFails, malformed_at, outside_at, cancels_at, FailsFor}
+use Rattle.reading.specs.Meaning.{malformed_at, outside_at, cancels_at, FailsFor}
 use Rattle.marking.specs.declared.verdict.Verdict.{Verdict}
 use Rattle.marking.specs.declared.verdict.Verdict.TheVariants.{Equal, Loose, Tight}
 use Rattle.marking.specs.Verdicts.{verdict_number}

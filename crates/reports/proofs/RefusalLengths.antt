@@ -14,7 +14,7 @@ use Rattle.rules.specs.Refusal.{refusal_number, refusal_line}
 use Rattle.rules.proofs.Refusals.{refusal_below}
 use Rattle.lines.specs.Spelling.{Written, line_within}
 use Rattle.reading.specs.Texts.{rule_lines}
-use Rattle.reading.specs.Meaning.{Opening, start, counted, headed, ruled, lines_of, count_of, limit_at, AllFine, AtMost, Reaches, LineFails, malformed_at, outside_at, cancels_at, FailsFor}
+use Rattle.reading.specs.Meaning.{Opening, start, counted, headed, ruled, lines_of, count_of, limit_at, AllFine, AtMost, Reaches, malformed_at, outside_at, cancels_at, FailsFor}
 use Rattle.writing.proofs.Texts.{count_length}
 use Rattle.reports.specs.Refusals.{refused_key, line_key, number_text, where_text, refusal_text}
 

@@ -9,7 +9,6 @@ use native.Mathlib.Omega.{arith}
 use lib.IntN.{ℤ, pos}
 use lib.ListN.{length, take}
 use lib.Seq.{take_all}
-use Rattle.integers.specs.Bound.{Within}
 use Rattle.integers.proofs.Parts.{positive_part, negative_part, word_of, lt_z_true}
 use Rattle.integers.proofs.Within.{within_to}
 use Rattle.words.specs.Change.{word_at}
@@ -19,7 +18,7 @@ use Rattle.rules.specs.Hidden.{hidden_in}
 use Rattle.rules.specs.Limits.{no_rule}
 use Rattle.rules.specs.Meaning.{Assignment}
 use Rattle.tables.specs.Tables.{has_rule}
-use Rattle.tables.specs.Meaning.{Satisfies, Satisfiable, Solutions, MeetsAll, WordsWithin, BoundsWithin, NoneAbove}
+use Rattle.tables.specs.Meaning.{Satisfies, Satisfiable, Solutions, WordsWithin, BoundsWithin, NoneAbove}
 use Rattle.tables.proofs.Lists.{smallest_most}
 use Rattle.numerals.specs.Decimal.{signed_decimal}
 use Rattle.lines.specs.Spelling.{written_rules}
@@ -35,7 +34,7 @@ use Rattle.tightening.proofs.Tight.{alike_same as tables-alike}
 use Rattle.tightening.proofs.TightSteps.{tight_length, tightened_within}
 use Rattle.tightening.proofs.TightMaking.{tight_made}
 use Rattle.reading.specs.Texts.{Contents, sheet_text}
-use Rattle.reading.specs.Meaning.{Reads, rules_of}
+use Rattle.reading.specs.Meaning.{rules_of}
 use Rattle.writing.specs.Writing.{rules_at, table_rules, hidden_list, written_text}
 use Rattle.writing.specs.Promises.{max_written}
 use Rattle.writing.proofs.Lengths.{longest}

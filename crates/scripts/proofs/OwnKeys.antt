@@ -15,7 +15,7 @@ use Rattle.places.proofs.Numbering.{block_start_mono}
 use Rattle.rules.specs.declared.paper.Paper.TheVariants.{Sheet, Script}
 use Rattle.rules.specs.Hidden.{hidden_in}
 use Rattle.rules.specs.Limits.{max_quantities}
-use Rattle.rules.specs.Meaning.{Assignment, names}
+use Rattle.rules.specs.Meaning.{names}
 use Rattle.tables.specs.declared.reply.Reply.TheVariants.{Done}
 use Rattle.tables.specs.Places.{rule_at}
 use Rattle.tables.specs.Tables.{has_rule}

@@ -1,6 +1,5 @@
 -- `acornsled_ask` meets its contract. Assumes nothing.
 use mathlib.Core.Path.{sym, ◌∙◌, ap}
-use borrow.Author.Rules.{rules}
 use Rattle.questions.specs.Replies.{asked_number}
 use Rattle.acornsled.proofs.Asking.{ask_refused, ask_answered}
 use Rattle.acornsled.proofs.acornsled_ask.Goals as goal

@@ -1,5 +1,4 @@
 -- `acornsled_assignment` meets its contract. Assumes nothing.
-use borrow.Author.Rules.{rules}
 use Rattle.acornsled.proofs.Promised.{assignment_answer}
 use Rattle.acornsled.proofs.acornsled_assignment.Goals as goal
 

@@ -1,5 +1,4 @@
 -- `acornsled_bank_read` meets its contract. Assumes nothing.
-use borrow.Author.Rules.{rules}
 use Rattle.acornsled.proofs.Promised.{bank_answer}
 use Rattle.acornsled.proofs.acornsled_bank_read.Goals as goal
 

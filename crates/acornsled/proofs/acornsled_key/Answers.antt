@@ -1,5 +1,4 @@
 -- `acornsled_key` meets its contract. Assumes nothing.
-use borrow.Author.Rules.{rules}
 use Rattle.acornsled.proofs.Promised.{key_answer}
 use Rattle.acornsled.proofs.acornsled_key.Goals as goal
 

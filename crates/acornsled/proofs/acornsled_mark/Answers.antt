@@ -1,6 +1,5 @@
 -- `acornsled_mark` meets its contract: the number of two texts marked. Assumes nothing.
 use native.Mathlib.Omega.{arith}
-use borrow.Author.Rules.{rules}
 use Rattle.acornsled.proofs.Promised.{mark_answer}
 use Rattle.acornsled.proofs.acornsled_mark.Goals as goal
 

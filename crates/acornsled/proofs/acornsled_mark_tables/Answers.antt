@@ -1,5 +1,4 @@
 -- `acornsled_mark_tables` meets its contract. Assumes nothing.
-use borrow.Author.Rules.{rules}
 use Rattle.acornsled.proofs.Tables.{tables_refused, tables_marked}
 use Rattle.acornsled.proofs.acornsled_mark_tables.Goals as goal
 

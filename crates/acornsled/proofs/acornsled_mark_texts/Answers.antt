@@ -1,5 +1,4 @@
 -- `acornsled_mark_texts` meets its contract. Assumes nothing.
-use borrow.Author.Rules.{rules}
 use Rattle.acornsled.proofs.Promised.{mark_texts_refused, mark_texts_marked}
 use Rattle.acornsled.proofs.acornsled_mark_texts.Goals as goal
 

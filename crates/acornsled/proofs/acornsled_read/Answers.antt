@@ -1,5 +1,4 @@
 -- `acornsled_read` meets its contract. Assumes nothing.
-use borrow.Author.Rules.{rules}
 use Rattle.acornsled.proofs.Promised.{read_answer}
 use Rattle.acornsled.proofs.acornsled_read.Goals as goal
 

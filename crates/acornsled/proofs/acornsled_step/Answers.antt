@@ -1,5 +1,4 @@
 -- `acornsled_step` meets its contract. Assumes nothing.
-use borrow.Author.Rules.{rules}
 use Rattle.acornsled.proofs.Promised.{step_answer}
 use Rattle.acornsled.proofs.acornsled_step.Goals as goal
 

@@ -1,5 +1,4 @@
 -- `acornsled_tight_key` meets its contract. Assumes nothing.
-use borrow.Author.Rules.{rules}
 use Rattle.acornsled.proofs.Promised.{tight_answer}
 use Rattle.acornsled.proofs.acornsled_tight_key.Goals as goal
 

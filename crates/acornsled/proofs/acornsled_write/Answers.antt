@@ -1,5 +1,4 @@
 -- `acornsled_write` meets its contract. Assumes nothing.
-use borrow.Author.Rules.{rules}
 use Rattle.acornsled.proofs.Promised.{write_answer}
 use Rattle.acornsled.proofs.acornsled_write.Goals as goal
 

@@ -1,5 +1,4 @@
 -- `tell` meets its contract. Assumes nothing.
-use borrow.Author.Rules.{rules}
 use Rattle.acornsled.proofs.Promised.{reading_refused, reading_accepted}
 use Rattle.acornsled.proofs.tell.Goals as goal
 

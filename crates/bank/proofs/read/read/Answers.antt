@@ -1,5 +1,4 @@
 -- `read::read` meets its contract: the text is checked, and what was checked is read. Assumes nothing.
-use borrow.Author.Rules.{rules}
 use Rattle.bank.proofs.Promised.{bank_vouched, bank_read}
 use Rattle.bank.proofs.read.read.Goals as goal
 

@@ -2,7 +2,6 @@
 use mathlib.Core.Path.{sym}
 use native.Mathlib.Omega.{arith}
 use lib.Seq.{length-take-le}
-use borrow.Author.Rules.{rules}
 use Rattle.rules.specs.declared.paper.Paper.TheVariants.{Sheet}
 use Rattle.reports.proofs.RefusalLengths.{refusal_length}
 use Rattle.reports.proofs.Reports.{printed, report_refused}

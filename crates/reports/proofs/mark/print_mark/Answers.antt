@@ -1,6 +1,5 @@
 -- `mark::print_mark` meets its contract: what is printed is the reply's text, and there is room for it. Assumes nothing.
 use native.Mathlib.Omega.{arith}
-use borrow.Author.Rules.{rules}
 use Rattle.reports.proofs.MarkRoom.{verdict_room, refusal_room}
 use Rattle.reports.proofs.MarkPromised.{reply_marked, reply_refused, mark_printed}
 use Rattle.reports.proofs.mark.print_mark.Goals as goal

@@ -1,25 +1,24 @@
 -- `mark::put_integers` meets its contract. The loop's invariant: the integers passed after the first are written after it. The measure is the
 -- integers left. Assumes nothing.
 use mathlib.Core.Path.{◌≡◌, refl, ap}
-use Prim.Native.Nat.{suc, ◌+◌, ◌-◌, ◌≤◌}
+use mathlib.Core.List.{List}
+use Prim.Native.Nat.{ℕ, suc, ◌+◌, ◌≤◌}
 use native.Mathlib.Numerals.{add-one}
 use native.Mathlib.Omega.{arith}
 use lib.IntN.{ℤ}
-use lib.ListN.{length}
-use borrow.Author.Rules.{rules}
+use lib.ListN.{length, take}
 use Rattle.integers.proofs.Parts.{held_value}
 use Rattle.words.specs.Change.{word_at}
 use Rattle.numerals.specs.Decimal.{signed_decimal}
-use Rattle.numerals.specs.Writing.{Spliced}
 use Rattle.numerals.proofs.Splices.{spliced_none, spliced_more}
+use Rattle.reports.specs.Marks.{integers_text}
 use Rattle.reports.proofs.MarkTexts.{later_text, later_none, later_more, later_more_length, later_longer, integers_none, integers-text, integers_length}
-use Rattle.reports.proofs.mark.put_integers.Lts as lts
-use Rattle.reports.proofs.mark.put_integers.Tie as tie
-use Rattle.reports.proofs.mark.put_integers.Reads as reads
 use Rattle.reports.proofs.mark.put_integers.Goals as goal
 
-abbrev At-loop-i : Type 0
-At-loop-i = lts.At-loop tie.the-claims reads.Pre reads.Post goal.the-invariant-loop-i goal.the-decreases-loop-i
+-- the integers take the bytes of the first, and of the later ones
+parts : (n : ℕ) (t : List ℤ) {z : ℤ} → 1 ≤ n → 1 ≤ length t → z ≡ word_at t 0
+    → length (integers_text (take n t)) ≡ length (signed_decimal z) + length (later_text n t)
+parts n t h l e = omega (arith, integers_length n t h l, ap (λ (v : ℤ). length (signed_decimal v)) e)
 
 pub returns-then-n-eq0 : goal.returns-then-n-eq0
 returns-then-n-eq0 c =
@@ -45,28 +44,15 @@ loop-i-init c =
     let a = c.args in
     (omega arith, omega arith, refl, rw (later_none a.values.now) (spliced_none c.put_signed-next.new.out c.put_signed-next.result))
 
--- in the loop, there is room for the later integers after the first
-room : (l : At-loop-i)
-    → let a = l.args in
-    l.put_signed-next.result + length (later_text a.n a.values.now) ≤ length l.loop-i.out
-room l =
-    let a = l.args in
-    let t = a.values.now in
-    omega (
-      arith,
-      l.put_signed-next.auto.out,
-      l.put_signed-next.ensures.cursor,
-      integers_length a.n t (omega arith) (omega arith),
-      ap (λ (v : ℤ). length (signed_decimal v)) (held_value {z = word_at t 0} l.put_signed-arg-2-1.given),
-    )
-
 pub put_byte-next-requires : goal.put_byte-next-requires
 put_byte-next-requires c =
     let a = c.args in
     let t = a.values.now in
     omega (
       arith,
-      room c.before.before,
+      c.put_signed-next.auto.out,
+      c.put_signed-next.ensures.cursor,
+      parts a.n t (omega arith) (omega arith) (held_value {z = word_at t 0} c.put_signed-arg-2-1.given),
       later_more_length c.loop-i.i t (omega arith) (omega arith),
       later_longer (suc c.loop-i.i) a.n t (omega arith) (omega arith) (omega arith),
     )
@@ -81,7 +67,9 @@ put_signed-next-requires-in-loop-i c =
     omega (
       arith,
       c.put_byte-next.auto.out,
-      room c.before.before.before.before.before.before.before,
+      c.put_signed-next.auto.out,
+      c.put_signed-next.ensures.cursor,
+      parts a.n t (omega arith) (omega arith) (held_value {z = word_at t 0} c.put_signed-arg-2-1.given),
       later_more_length c.loop-i.i t (omega arith) (omega arith),
       later_longer (suc c.loop-i.i) a.n t (omega arith) (omega arith) (omega arith),
       ap (λ (v : ℤ). length (signed_decimal v)) (held_value {z = word_at t c.loop-i.i} c.put_signed-arg-in-loop-i-2-1.given),
@@ -98,7 +86,8 @@ loop-i-preserved c =
     let a = c.args in
     let t = a.values.now in
     let word = rw (held_value {z = word_at t c.loop-i.i} c.put_signed-arg-in-loop-i-2-1.given) at c.put_signed-next-in-loop-i.ensures in
-    let start = room c.before.before.before.before.before.before.before.before.before.before.before in (
+    let start : c.put_signed-next.result + length (later_text a.n t) ≤ length c.loop-i.out =
+    omega (arith, c.put_signed-next.auto.out, c.put_signed-next.ensures.cursor, parts a.n t (omega arith) (omega arith) (held_value {z = word_at t 0} c.put_signed-arg-2-1.given)) in (
       omega arith,
       omega arith,
       omega (arith, c.put_byte-next.auto.out, c.put_signed-next-in-loop-i.auto.out),

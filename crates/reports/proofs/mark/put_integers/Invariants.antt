@@ -1,18 +1,10 @@
 -- `mark::put_integers` meets its contract. The loop's invariant: the integers passed after the first are written after it. The measure is the
 -- integers left. Assumes nothing.
-use mathlib.Core.Path.{◌≡◌, refl, ap}
-use Prim.Native.Nat.{suc, ◌+◌, ◌-◌, ◌≤◌}
-use native.Mathlib.Numerals.{add-one}
-use native.Mathlib.Omega.{arith}
-use lib.IntN.{ℤ}
+use mathlib.Core.Path.{◌≡◌}
+use Prim.Native.Nat.{◌-◌, ◌≤◌}
 use lib.ListN.{length}
-use borrow.Author.Rules.{rules}
-use Rattle.integers.proofs.Parts.{held_value}
-use Rattle.words.specs.Change.{word_at}
-use Rattle.numerals.specs.Decimal.{signed_decimal}
 use Rattle.numerals.specs.Writing.{Spliced}
-use Rattle.numerals.proofs.Splices.{spliced_none, spliced_more}
-use Rattle.reports.proofs.MarkTexts.{later_text, later_none, later_more, later_more_length, later_longer, integers_none, integers-text, integers_length}
+use Rattle.reports.proofs.MarkTexts.{later_text}
 use Rattle.reports.proofs.mark.put_integers.Given as goal
 
 abbrev pub invariant-loop-i : goal.invariant-loop-i

@@ -2,7 +2,6 @@
 use mathlib.Core.Path.{◌≡◌, ap}
 use native.Mathlib.Omega.{arith}
 use lib.ListN.{length}
-use borrow.Author.Rules.{rules}
 use Rattle.scripts.specs.declared.reply.Subject.{Subject}
 use Rattle.reports.specs.Marks.{paper_key, word_text, paper_name}
 use Rattle.reports.proofs.mark.put_paper.Goals as goal
@@ -11,29 +10,11 @@ use Rattle.reports.proofs.mark.put_paper.Goals as goal
 same_line : {p q : Subject} → p ≡ q → length (word_text paper_key (paper_name p)) ≡ length (word_text paper_key (paper_name q))
 same_line e = ap (λ (p : Subject). length (word_text paper_key (paper_name p))) e
 
-{- slice_aggregate_put_word : tie.Need-slice-aggregate-put-word
-slice_aggregate_put_word c = search rules -}
-
-{- slice_aggregate_put_word_2 : tie.Need-slice-aggregate-put-word-2
-slice_aggregate_put_word_2 c = search rules -}
-
 pub put_word-requires : goal.put_word-requires
 put_word-requires c = omega (arith, same_line c.in-Sheet.is)
 
-{- slice_aggregate_put_word_3 : tie.Need-slice-aggregate-put-word-3
-slice_aggregate_put_word_3 c = search rules -}
-
-{- slice_aggregate_put_word_4 : tie.Need-slice-aggregate-put-word-4
-slice_aggregate_put_word_4 c = search rules -}
-
 pub put_word-requires-in-Script : goal.put_word-requires-in-Script
 put_word-requires-in-Script c = omega (arith, same_line c.in-Script.is)
-
-{- slice_aggregate_put_word_5 : tie.Need-slice-aggregate-put-word-5
-slice_aggregate_put_word_5 c = search rules -}
-
-{- slice_aggregate_put_word_6 : tie.Need-slice-aggregate-put-word-6
-slice_aggregate_put_word_6 c = search rules -}
 
 pub put_word-requires-in-Both : goal.put_word-requires-in-Both
 put_word-requires-in-Both c = omega (arith, same_line c.in-Both.is)

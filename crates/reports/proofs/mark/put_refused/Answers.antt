@@ -1,6 +1,5 @@
 -- `mark::put_refused` meets its contract: the three lines one after the other. Assumes nothing.
 use native.Mathlib.Omega.{arith}
-use borrow.Author.Rules.{rules}
 use Rattle.numerals.proofs.Splices.{spliced_more}
 use Rattle.reports.proofs.MarkTexts.{refused_text, refused_length}
 use Rattle.reports.proofs.mark.put_refused.Goals as goal

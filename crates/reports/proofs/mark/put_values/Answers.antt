@@ -1,14 +1,9 @@
 -- `mark::put_values` meets its contract: the key, the integers and the line's end. Assumes nothing.
 use native.Mathlib.Omega.{arith}
 use lib.ListN.{take}
-use borrow.Author.Rules.{rules}
 use Rattle.numerals.proofs.Splices.{spliced_more}
 use Rattle.reports.proofs.MarkTexts.{values-text, values_length}
 use Rattle.reports.proofs.mark.put_values.Goals as goal
-
-{-
-slice_aggregate_put_text : tie.Need-slice-aggregate-put-text
-slice_aggregate_put_text c = search rules -}
 
 pub put_text-first-requires : goal.put_text-first-requires
 put_text-first-requires c =

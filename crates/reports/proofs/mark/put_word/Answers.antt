@@ -1,6 +1,5 @@
 -- `mark::put_word` meets its contract: the key, the word and the line's end. Assumes nothing.
 use native.Mathlib.Omega.{arith}
-use borrow.Author.Rules.{rules}
 use Rattle.numerals.proofs.Splices.{spliced_more}
 use Rattle.reports.proofs.MarkTexts.{word-text, word_length}
 use Rattle.reports.proofs.mark.put_word.Goals as goal

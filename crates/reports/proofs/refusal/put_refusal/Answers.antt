@@ -1,6 +1,5 @@
 -- `refusal::put_refusal` meets its contract: the two lines one after the other. Assumes nothing.
 use native.Mathlib.Omega.{arith}
-use borrow.Author.Rules.{rules}
 use Rattle.numerals.proofs.Splices.{spliced_more}
 use Rattle.reports.specs.Refusals.{refusal_text}
 use Rattle.reports.proofs.RefusalLengths.{refusal_parts}

@@ -1,11 +1,6 @@
 -- `refusal::put_where` meets its contract. Assumes nothing.
 use native.Mathlib.Omega.{arith}
-use borrow.Author.Rules.{rules}
 use Rattle.reports.proofs.refusal.put_where.Goals as goal
-
-{-
-slice_aggregate_put_count : tie.Need-slice-aggregate-put-count
-slice_aggregate_put_count c = search rules -}
 
 pub put_count-requires : goal.put_count-requires
 put_count-requires c = rw c.line.ensures (omega arith)

@@ -1,12 +1,11 @@
 -- `filled::mark_filled` meets its contract: the names of the script's rules decide, and then the verdict is the tables'. Assumes nothing.
-use mathlib.Core.Path.{◌≡◌, refl, sym, ◌∙◌, subst}
+use mathlib.Core.Path.{◌≡◌, refl, sym, ◌∙◌}
 use mathlib.Core.List.{List, [], ◌∷◌}
 use Prim.Native.Nat.{ℕ, zero, suc, ◌≤◌}
 use native.Mathlib.Omega.{arith}
 use lib.IntN.{ℤ}
 use lib.ListN.{length, take}
 use lib.Seq.{length-take-le}
-use Rattle.places.specs.Numbering.{block_start}
 use Rattle.tables.proofs.Tests.{clash}
 use Rattle.tables.proofs.Sizes.{size_known}
 use Rattle.scripts.proofs.Pairs.{filled_accepted}

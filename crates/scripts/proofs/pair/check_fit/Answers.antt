@@ -1,5 +1,4 @@
 -- `pair::check_fit` meets its contract. Assumes nothing.
-use borrow.Author.Rules.{rules}
 use Rattle.scripts.proofs.Rooms.{room_refused, headers_same, headers_other_count, headers_other_set}
 use Rattle.scripts.proofs.pair.check_fit.Goals as goal
 

@@ -1,6 +1,5 @@
 -- `room::own_lengths` meets its contract. Assumes nothing.
 use mathlib.Core.Path.{refl}
-use borrow.Author.Rules.{rules}
 use Rattle.places.specs.Numbering.{block_start}
 use Rattle.scripts.proofs.room.own_lengths.Goals as goal
 

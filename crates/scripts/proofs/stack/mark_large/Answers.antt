@@ -1,6 +1,5 @@
 -- `stack::mark_large` meets its contract: what it lends is room for every sheet. Assumes nothing.
 use native.Mathlib.Omega.{arith}
-use borrow.Author.Rules.{rules}
 use Rattle.places.specs.Numbering.{block_start}
 use Rattle.rules.specs.Limits.{max_quantities}
 use Rattle.scripts.proofs.OwnRoom.{sheet_most, own_room}

@@ -1,23 +1,10 @@
 -- `stack::mark_middle` meets its contract: a table of the middle room has words enough for its most quantities. Assumes nothing.
 use native.Mathlib.Omega.{arith}
-use borrow.Author.Rules.{rules}
 use Rattle.places.specs.Numbering.{block_start}
 use Rattle.scripts.specs.Inner.{middle_count}
 use Rattle.scripts.proofs.OwnRoom.{own_room}
-use Rattle.scripts.proofs.stack.mark_middle.Lts as lts
-use Rattle.scripts.proofs.stack.mark_middle.Tie as tie
-use Rattle.scripts.proofs.stack.mark_middle.Reads as reads
 use Rattle.scripts.proofs.stack.mark_middle.Goals as goal
-
-abbrev Start : Type 0
-Start = lts.Start tie.the-claims reads.Pre reads.Post
-
-abbrev After-mark_once-arg-1 : Type 0
-After-mark_once-arg-1 = lts.After-mark_once-arg tie.the-claims reads.Pre reads.Post
-
-abbrev start_of : After-mark_once-arg-1 → Start
-start_of c = c.before.before.before.before.before.before
 
 pub mark_once-requires : goal.mark_once-requires
 unfolding block_start
-mark_once-requires c = own_room _ middle_count (start_of c.before).requires (omega arith) (omega arith) (omega arith)
+mark_once-requires c = own_room _ middle_count c.requires (omega arith) (omega arith) (omega arith)

@@ -1,5 +1,4 @@
 -- `texts::mark_texts` meets its contract: each answer of the check, and then what marking texts that passed promises. Assumes nothing.
-use borrow.Author.Rules.{rules}
 use Rattle.scripts.proofs.Promised.{pair_told, refused_marked}
 use Rattle.scripts.proofs.texts.mark_texts.Goals as goal
 

@@ -1,6 +1,5 @@
 -- `header::header_width` meets its contract: the widths of its parts. Assumes nothing.
 use native.Mathlib.Omega.{arith}
-use borrow.Author.Rules.{rules}
 use Rattle.numerals.proofs.Decimals.{decimal_width}
 use Rattle.writing.proofs.Lengths.{hidden_length}
 use Rattle.writing.proofs.Texts.{head_length}

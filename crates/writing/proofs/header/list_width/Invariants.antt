@@ -1,14 +1,10 @@
 -- `header::list_width` meets its contract. The loop's invariant: the total is the width of the list of the quantities passed. The measure is
 -- the quantities left. Assumes nothing.
-use mathlib.Core.Path.{◌≡◌, ap}
+use mathlib.Core.Path.{◌≡◌}
 use Prim.Native.Nat.{◌-◌, ◌≤◌}
-use native.Mathlib.Numerals.{add-one}
-use native.Mathlib.Omega.{arith}
 use lib.ListN.{length}
 use Rattle.lines.specs.Spelling.{list_text}
 use Rattle.writing.specs.Writing.{hidden_list}
-use Rattle.writing.proofs.ListTexts.{list_none, list_more_length, member_short}
-use Rattle.writing.proofs.Lengths.{hidden_length}
 use Rattle.writing.proofs.header.list_width.Given as goal
 
 abbrev pub invariant-loop-j : goal.invariant-loop-j

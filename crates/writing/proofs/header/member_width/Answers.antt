@@ -3,8 +3,6 @@ use mathlib.Core.Path.{sym, ◌∙◌, ap}
 use Prim.Native.Nat.{◌+◌}
 use native.Mathlib.Omega.{arith}
 use lib.ListN.{length}
-use borrow.Author.Rules.{rules}
-use borrow.Author.Tests.{not-true, not-false}
 use Rattle.numerals.proofs.Decimals.{decimal_width}
 use Rattle.writing.proofs.ListTexts.{member_absent, member_first, member_next}
 use Rattle.writing.proofs.header.member_width.Goals as goal

@@ -1,22 +1,14 @@
 -- `header::put_header` meets its contract: the three lines one after the other. Assumes nothing.
 use native.Mathlib.Omega.{arith}
-use borrow.Author.Rules.{rules}
 use Rattle.lines.specs.Spelling.{quantities_key, rules_key}
 use Rattle.numerals.proofs.Splices.{spliced_more}
 use Rattle.writing.proofs.Texts.{count_length, head-text, head_length}
 use Rattle.writing.proofs.header.put_header.Goals as goal
 
-{-
-slice_aggregate_put_count : tie.Need-slice-aggregate-put-count
-slice_aggregate_put_count c = search rules -}
-
 pub put_count-second-requires : goal.put_count-second-requires
 put_count-second-requires c =
     let a = c.args in
     omega (arith, count_length quantities_key a.n, head_length a.n a.set a.count)
-
-{- slice_aggregate_put_text : tie.Need-slice-aggregate-put-text
-slice_aggregate_put_text c = search rules -}
 
 pub put_text-list-requires : goal.put_text-list-requires
 put_text-list-requires c =
@@ -39,9 +31,6 @@ put_byte-third-requires c =
       count_length quantities_key a.n,
       head_length a.n a.set a.count,
     )
-
-{- slice_aggregate_put_count_2 : tie.Need-slice-aggregate-put-count-2
-slice_aggregate_put_count_2 c = search rules -}
 
 pub put_count-requires : goal.put_count-requires
 put_count-requires c =

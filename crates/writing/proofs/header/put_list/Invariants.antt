@@ -1,15 +1,11 @@
 -- `header::put_list` meets its contract. The loop's invariant: the list of the quantities passed is written. The measure is the quantities left.
 -- Assumes nothing.
-use mathlib.Core.Path.{◌≡◌, refl}
-use Prim.Native.Nat.{suc, ◌-◌, ◌≤◌}
-use native.Mathlib.Numerals.{add-one}
-use native.Mathlib.Omega.{arith}
+use mathlib.Core.Path.{◌≡◌}
+use Prim.Native.Nat.{◌-◌, ◌≤◌}
 use lib.ListN.{length}
 use Rattle.numerals.specs.Writing.{Spliced}
-use Rattle.numerals.proofs.Splices.{spliced_none, spliced_more}
 use Rattle.lines.specs.Spelling.{list_text}
 use Rattle.writing.specs.Writing.{hidden_list}
-use Rattle.writing.proofs.ListTexts.{list_none, list_more, list_more_length, list_longer}
 use Rattle.writing.proofs.header.put_list.Given as goal
 
 abbrev pub invariant-loop-j : goal.invariant-loop-j

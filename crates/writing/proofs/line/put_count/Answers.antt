@@ -1,6 +1,5 @@
 -- `line::put_count` meets its contract: the key, the numeral and the line's end. Assumes nothing.
 use native.Mathlib.Omega.{arith}
-use borrow.Author.Rules.{rules}
 use Rattle.numerals.proofs.Splices.{spliced_more}
 use Rattle.writing.proofs.Texts.{count-text, count_length}
 use Rattle.writing.proofs.line.put_count.Goals as goal

@@ -1,13 +1,8 @@
 -- `line::put_rule` meets its contract: the key, the value and the line's end. Assumes nothing.
 use native.Mathlib.Omega.{arith}
-use borrow.Author.Rules.{rules}
 use Rattle.numerals.proofs.Splices.{spliced_more}
 use Rattle.writing.proofs.Lines.{rule-line, line_length}
 use Rattle.writing.proofs.line.put_rule.Goals as goal
-
-{-
-slice_aggregate_put_text : tie.Need-slice-aggregate-put-text
-slice_aggregate_put_text c = search rules -}
 
 pub put_text-value-requires : goal.put_text-value-requires
 put_text-value-requires c = omega (arith, line_length c.args.rule)

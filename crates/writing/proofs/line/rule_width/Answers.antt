@@ -1,6 +1,5 @@
 -- `line::rule_width` meets its contract: the key, the value and the line's end. Assumes nothing.
 use native.Mathlib.Omega.{arith}
-use borrow.Author.Rules.{rules}
 use Rattle.writing.proofs.Lines.{line_length}
 use Rattle.writing.proofs.line.rule_width.Goals as goal
 

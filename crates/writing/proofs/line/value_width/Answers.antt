@@ -2,7 +2,6 @@
 use mathlib.Core.Path.{ap}
 use native.Mathlib.Omega.{arith}
 use lib.ListN.{length}
-use borrow.Author.Rules.{rules}
 use Rattle.integers.proofs.Parts.{held_value}
 use Rattle.writing.proofs.Lines.{value_one_length, value_two_length, value_bare}
 use Rattle.writing.proofs.line.value_width.Goals as goal

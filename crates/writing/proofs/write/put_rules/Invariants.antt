@@ -1,18 +1,10 @@
 -- `write::put_rules` meets its contract. The loop's invariant: the lines of the places passed are written. The measure is the places left.
 -- Assumes nothing.
-use mathlib.Core.Path.{◌≡◌, refl, ap}
-use Prim.Native.Nat.{suc, ◌-◌, ◌≤◌}
-use native.Mathlib.Numerals.{add-one}
-use native.Mathlib.Omega.{arith}
-use lib.IntN.{ℤ}
+use mathlib.Core.Path.{◌≡◌}
+use Prim.Native.Nat.{◌-◌, ◌≤◌}
 use lib.ListN.{length, take}
-use borrow.Author.Rules.{rules}
-use Rattle.integers.proofs.Parts.{held_value}
-use Rattle.words.specs.Change.{word_at}
 use Rattle.numerals.specs.Writing.{Spliced}
-use Rattle.numerals.proofs.Splices.{spliced_none, spliced_more}
-use Rattle.writing.specs.Inner.{place_text, rules_text}
-use Rattle.writing.proofs.Texts.{text_none, text_more, text_more_length, text_longer}
+use Rattle.writing.specs.Inner.{rules_text}
 use Rattle.writing.proofs.write.put_rules.Given as goal
 
 abbrev pub invariant-loop-k : goal.invariant-loop-k

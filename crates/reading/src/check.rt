@@ -90,6 +90,7 @@ pub fn check_rules(
 }
 
 // Checks a text's size and the three lines of its header, whatever follows them; the cursor in the answer is that of the first rule line.
+#[tactic(auto, using(crate::proofs::CheckedHeaders::size_header))]
 pub fn check_header(s: &[u8]) -> Checked
     ensures { result ≡ header_of s.now (check_header s.now) }
 {

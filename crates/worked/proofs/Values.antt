@@ -10,8 +10,7 @@ use lib.ListN.{length, get_or-eq_default}
 use Rattle.integers.specs.Bound.{opposite_bound, in_word, saturated}
 use Rattle.integers.proofs.Parts.{linear, positive_part, negative_part, parts_add, parts_neg, parts_opposite, saturated_word}
 use Rattle.words.specs.Change.{word_at}
-use Rattle.rules.specs.declared.rule.Rule.{Rule}
-use Rattle.rules.specs.declared.rule.Rule.TheVariants.{One, Two, Nothing}
+use Rattle.rules.specs.declared.rule.Rule.TheVariants.{Two}
 use Rattle.rules.specs.Literal.{quantity_of}
 use Rattle.rules.specs.Meaning.{Assignment, literal_value, term_value}
 use Rattle.rules.proofs.Literals.{sign_cases, value_plus, value_minus}

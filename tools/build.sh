@@ -142,8 +142,8 @@ make_library() {
         put "$ACORNSLED_LENT/libacornsled.a" "$build/lib/libacornsled.a"
         return
     fi
-    prove lib acornsled
-    put "$root/crates/acornsled/out/libacornsled.a" "$build/lib/libacornsled.a"
+    prove lib acornsled_c
+    put "$root/crates/acornsled_c/out/libacornsled_c.a" "$build/lib/libacornsled.a"
 }
 
 make_command() {

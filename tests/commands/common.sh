@@ -5,7 +5,8 @@
 # what ./test sets for its steps and a user has not
 unset ACORNSLED_LOCKED CDPATH
 work=$(mktemp -d)
-trap 'rm -rf "$work"' EXIT
+# what a case has killed may still be writing
+trap 'rm -rf "$work" 2> /dev/null || { sleep 2; rm -rf "$work"; }' EXIT
 trap 'exit 1' INT TERM HUP
 # for the user who may only read
 chmod 755 "$work"

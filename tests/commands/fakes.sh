@@ -37,8 +37,8 @@ if [ -e out/damaged ]; then
     exit 1
 fi
 mkdir -p out
-for crate in first second acornsled; do echo "rt: chose --jobs 2 for $crate"; done
-cat ../first/src/lib.rt > out/libacornsled.a
+for crate in first second acornsled_c; do echo "rt: chose --jobs 2 for $crate"; done
+cat ../first/src/lib.rt > out/libacornsled_c.a
 END
 cat > "$fake/bin/cargo" << 'END'
 #!/bin/sh
@@ -63,10 +63,10 @@ fakes=$fake/bin:$fake/plain
 
 # The small repository, in a folder; nothing of it is built.
 repository() { # FOLDER
-    mkdir -p "$1/crates/first/src" "$1/crates/second/src" "$1/crates/acornsled" "$1/rust/acornsled" "$1/rust/command" \
+    mkdir -p "$1/crates/first/src" "$1/crates/second/src" "$1/crates/acornsled_c" "$1/rust/acornsled" "$1/rust/command" \
         "$1/include" "$1/tests/commands"
     cp -R "$root/key" "$root/mark" "$root/test" "$root/.ci" "$root/tools" "$1"
-    printf 'first:\nsecond: first\nacornsled staticlib: first second\n' > "$1/crates.txt"
+    printf 'first:\nsecond: first\nacornsled_c staticlib: first second\n' > "$1/crates.txt"
     echo one > "$1/crates/first/src/lib.rt"
     echo two > "$1/crates/second/src/lib.rt"
     echo name > "$1/rust/Cargo.toml"

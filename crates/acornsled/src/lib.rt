@@ -33,8 +33,7 @@ fn tell(reading: Reading, quantities: &mut usize, hidden: &mut u32, value: &mut 
 }
 
 // Reads a text: where it answers 0, the table's first 2n² words hold its rules, and n and the hidden set are written to `quantities` and `hidden`.
-#[unsafe(no_mangle)]
-pub extern "C" fn acornsled_read(
+pub fn acornsled_read(
     text: &[u8],
     table: &mut [i64],
     quantities: &mut usize,
@@ -47,8 +46,7 @@ pub extern "C" fn acornsled_read(
 }
 
 // Reads the text of a bank sheet, as above: its rules are in place order, lower quantity first, each place once and no term doubled, or 9 is answered.
-#[unsafe(no_mangle)]
-pub extern "C" fn acornsled_bank_read(
+pub fn acornsled_bank_read(
     text: &[u8],
     table: &mut [i64],
     quantities: &mut usize,
@@ -61,8 +59,7 @@ pub extern "C" fn acornsled_bank_read(
 }
 
 // Writes a table and a hidden set as a text: where it answers 0, `value` is the text's length.
-#[unsafe(no_mangle)]
-pub extern "C" fn acornsled_write(
+pub fn acornsled_write(
     n: usize,
     hidden: u32,
     table: &[i64],
@@ -77,8 +74,7 @@ pub extern "C" fn acornsled_write(
 }
 
 // The key call: where it answers 0, the table's first 2n² words have become the key. The workspace needs as many.
-#[unsafe(no_mangle)]
-pub extern "C" fn acornsled_key(
+pub fn acornsled_key(
     n: usize,
     hidden: u32,
     table: &mut [i64],
@@ -93,8 +89,7 @@ pub extern "C" fn acornsled_key(
 }
 
 // The tight key call: where it answers 0, the table's first 2n² words have become the tightest key. The workspace needs as many.
-#[unsafe(no_mangle)]
-pub extern "C" fn acornsled_tight_key(
+pub fn acornsled_tight_key(
     n: usize,
     hidden: u32,
     table: &mut [i64],
@@ -110,8 +105,7 @@ pub extern "C" fn acornsled_tight_key(
 
 // Follows the step that hides `quantity`, those of the set `before` hidden before it: where it answers 0, the table's first 2n² words have become the table with the step's first `blocks`
 // blocks done, and, with n + 1 for them, with the quantity's places cleared too. The workspace needs 2n² words.
-#[unsafe(no_mangle)]
-pub extern "C" fn acornsled_step(
+pub fn acornsled_step(
     n: usize,
     before: u32,
     quantity: usize,
@@ -128,8 +122,7 @@ pub extern "C" fn acornsled_step(
 }
 
 // The assignment call: where it answers 0, the first `n` words of `values` have become integers that satisfy the table.
-#[unsafe(no_mangle)]
-pub extern "C" fn acornsled_assignment(
+pub fn acornsled_assignment(
     n: usize,
     table: &[i64],
     workspace: &mut [i64],
@@ -145,8 +138,7 @@ pub extern "C" fn acornsled_assignment(
 
 // Asks a list of questions of a sheet's table, three words each: first and second signed quantity, 0 for no second, and bound; words past the last whole question are not looked at. Where it
 // answers 0, bit i of `answers` is 1 exactly when every assignment of the sheet meets question i + 1, and the other bits are 0; else `answers` stays as it was. The workspace needs 2n² words.
-#[unsafe(no_mangle)]
-pub extern "C" fn acornsled_ask(
+pub fn acornsled_ask(
     n: usize,
     table: &[i64],
     questions: &[i64],
@@ -171,8 +163,7 @@ pub extern "C" fn acornsled_ask(
 
 // Marks the text of a script against the text of a sheet: 100 for equal, 101 for loose, 102 for tight, or the refusal's number. The assignment that shows a
 // verdict is dropped.
-#[unsafe(no_mangle)]
-pub extern "C" fn acornsled_mark(sheet: &[u8], script: &[u8]) -> u32
+pub fn acornsled_mark(sheet: &[u8], script: &[u8]) -> u32
     ensures { MarkAnswer sheet.now script.now result }
 {
     let mut values = [0; Sheet::MAX_QUANTITIES];
@@ -183,8 +174,7 @@ pub extern "C" fn acornsled_mark(sheet: &[u8], script: &[u8]) -> u32
 // The same with the reasons. A refusal is told with its paper and its line or length, which are 0 with a verdict; a verdict with the sheet's n; loose and tight
 // with the rule, three words that are 0 where there is none, and with the integers that show the verdict, in the first n words of `values`. Else n, rule and
 // values stay as they were.
-#[unsafe(no_mangle)]
-pub extern "C" fn acornsled_mark_texts(
+pub fn acornsled_mark_texts(
     sheet: &[u8],
     script: &[u8],
     values: &mut [i64],
@@ -212,8 +202,7 @@ pub extern "C" fn acornsled_mark_texts(
 
 // Marks the table of a script against the table of a sheet: 100, 101, 102, or the refusal's number. The workspace needs 4n² words and `values` n. Loose and tight
 // are told with the rule and the integers that show the verdict, as above; else the rule and `values` stay as they were.
-#[unsafe(no_mangle)]
-pub extern "C" fn acornsled_mark_tables(
+pub fn acornsled_mark_tables(
     n: usize,
     hidden: u32,
     sheet: &[i64],

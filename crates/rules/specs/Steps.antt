@@ -9,7 +9,7 @@ use Rattle.rules.specs.Limits.{no_rule}
 use Rattle.rules.specs.Literal.{negated, literal_of}
 use Rattle.rules.specs.Meaning.{bound_of}
 
--- the rule that says nothing, `0 ≤ the no_rule word`: what stands where there is no rule to hand back
+-- the rule that says nothing, `0 ≤ the no-rule word`: what stands where there is no rule to hand back
 abbrev pub trivial_rule : Rule
 trivial_rule = Nothing no_rule
 

@@ -14,8 +14,8 @@ use Rattle.integers.proofs.Within.{sum_word}
 use Rattle.rules.specs.declared.rule.Rule.{Rule}
 use Rattle.rules.specs.Meaning.{bound_of}
 use Rattle.marks.specs.Doubled.{doubled_rule}
-use Rattle.marks.proofs.rule.doubled.Statement.{statement}
-use Rattle.marks.proofs.rule.doubled.Tie as tie
+use Rattle.marks.proofs.rule.doubled.Goals as goal
+
 
 -- a word as it is read back from its bits
 abbrev held : ℤ → ℤ
@@ -33,55 +33,27 @@ held_sum : (r s : Rule) → r ≡ s → Within (pos (2 ^ 61)) (bound_of r) → m
     → held (held (bound_of s) +ℤ held (bound_of s)) ≡ bound_of s +ℤ bound_of s
 held_sum r s e w m = ap (λ (z : ℤ). held (z +ℤ z)) (held_value {z = bound_of s} m) ∙ word_value {z = bound_of s +ℤ bound_of s} (sum_fits r s e w)
 
-enum_known_rule : tie.Need-enum-known-rule
-enum_known_rule c = search rules
+pub overflow_add-result : goal.overflow_add-result
+overflow_add-result c = held_fits _ _ c.in-One.is c.requires c.in-One.known_told-1-own.given.1.0.1
 
-add_t9 : tie.Need-overflow-add-t9
-add_t9 c = let s = c.before.before.before in held_fits _ _ c.before.rule.given.1 s.requires c.known-told.given.1.0.1
-
-enum_known_rule_2 : tie.Need-enum-known-rule-2
-enum_known_rule_2 c = search rules
-
-returns : tie.Need-returns
+pub returns-then-first-second : goal.returns-then-first-second
 unfolding doubled_rule
-returns c = let m = c.before in rw (held_value m.known-told2.given.1.1.0.1, m.before.rule2.given.1, eq-eqb _ _ c.if1.true)
+returns-then-first-second c = rw (held_value c.in-Two.known_told-in-Two-1-own.given.1.1.0.1, c.in-Two.is, eq-eqb _ _ c.if-first-second.true)
 
-add_t11 : tie.Need-overflow-add-t11
-add_t11 c = let m = c.before in let s = m.before.before.before in
-    held_fits _ _ m.before.rule2.given.1 s.requires m.known-told2.given.1.1.0.1
+pub overflow_add-result-in-Two : goal.overflow_add-result-in-Two
+overflow_add-result-in-Two c = held_fits _ _ c.in-Two.is c.requires c.in-Two.known_told-in-Two-1-own.given.1.1.0.1
 
-enum_known_rule_3 : tie.Need-enum-known-rule-3
-enum_known_rule_3 c = search rules
+pub overflow_add-result-in-Nothing : goal.overflow_add-result-in-Nothing
+overflow_add-result-in-Nothing c = held_fits _ _ c.in-Nothing.is c.requires c.in-Nothing.known_told-in-Nothing-1-own.given.0.1
 
-add_t12 : tie.Need-overflow-add-t12
-add_t12 c = let s = c.before.before.before in held_fits _ _ c.before.rule3.given.1 s.requires c.known-told3.given.0.1
-
-returns_2 : tie.Need-returns-2
+pub returns-in-One : goal.returns-in-One
 unfolding doubled_rule
-returns_2 c = let s = c.before.before.before in
-    rw (held_sum _ _ c.before.rule.given.1 s.requires c.known-told.given.1.0.1, c.before.rule.given.1)
+returns-in-One c = rw (held_sum _ _ c.in-One.is c.requires c.in-One.known_told-1-own.given.1.0.1, c.in-One.is)
 
-returns_3 : tie.Need-returns-3
+pub returns-else-first-second : goal.returns-else-first-second
 unfolding doubled_rule
-returns_3 c = let m = c.before in let s = m.before.before.before in
-    rw (held_sum _ _ m.before.rule2.given.1 s.requires m.known-told2.given.1.1.0.1, m.before.rule2.given.1, ne_eqb _ _ c.if1.false)
+returns-else-first-second c = rw (held_sum _ _ c.in-Two.is c.requires c.in-Two.known_told-in-Two-1-own.given.1.1.0.1, c.in-Two.is, ne_eqb _ _ c.if-first-second.false)
 
-returns_4 : tie.Need-returns-4
+pub returns-in-Nothing : goal.returns-in-Nothing
 unfolding doubled_rule
-returns_4 c = let s = c.before.before.before in
-    rw (held_sum _ _ c.before.rule3.given.1 s.requires c.known-told3.given.0.1, c.before.rule3.given.1)
-
-pub doubled_spec : {M : Type 1} → statement M
-doubled_spec =
-    tie.close
-    (tie.spec
-    enum_known_rule
-    add_t9
-    enum_known_rule_2
-    returns
-    add_t11
-    enum_known_rule_3
-    add_t12
-    returns_2
-    returns_3
-    returns_4)
+returns-in-Nothing c = rw (held_sum _ _ c.in-Nothing.is c.requires c.in-Nothing.known_told-in-Nothing-1-own.given.0.1, c.in-Nothing.is)

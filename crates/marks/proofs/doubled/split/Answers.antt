@@ -1,0 +1,100 @@
+-- `doubled::split` meets its contract. The loop's invariant: the words passed are taken apart, and the other words and bytes stay. The measure is what is left. Assumes nothing.
+use mathlib.Core.Path.{◌≡◌, sym, ◌∙◌, ap}
+use mathlib.Core.Bool.{true}
+use mathlib.Core.Logic.{⊎_elim}
+use mathlib.Core.List.{List}
+use Prim.Native.Nat.{ℕ, ◌-◌, ◌≤◌}
+use native.Mathlib.Omega.{arith}
+use lib.IntN.{ℤ, pos}
+use borrow.Author.Rules.{rules}
+use Rattle.integers.specs.Bound.{half, odd, bit}
+use Rattle.integers.proofs.Parts.{held_value}
+use Rattle.integers.proofs.Halving.{halves_half, halves_odd, held_fits}
+use Rattle.words.specs.Change.{word_at}
+use Rattle.tables.specs.Tables.{has_rule}
+use Rattle.marks.specs.Doubled.{split_word, TableSplit}
+use Rattle.marks.proofs.Pointwise.{DoneTo, done_none, done_more, done_kept, done_rest}
+use Rattle.marks.proofs.Doubling.{unruled_word}
+use Rattle.marks.proofs.Splitting.{split_half, split_odd, split_even, split_unruled}
+use Rattle.marks.proofs.doubled.split.Lts as lts
+use Rattle.marks.proofs.doubled.split.Tie as tie
+use Rattle.marks.proofs.doubled.split.Reads as reads
+use Rattle.marks.proofs.doubled.split.Invariants.{bound_at, mark_at}
+use Rattle.marks.proofs.doubled.split.Goals as goal
+
+abbrev After-w-1 : Type 0
+After-w-1 = lts.After-w tie.the-claims reads.Pre reads.Post goal.the-invariant-loop-i goal.the-decreases-loop-i
+
+abbrev Then-w-lt-NO_RULE : Type 0
+Then-w-lt-NO_RULE = lts.Then1 tie.the-claims reads.Pre reads.Post goal.the-invariant-loop-i goal.the-decreases-loop-i
+
+parted : (m : ℕ) (before : List ℤ) (marks : List ℕ) (after : List ℤ) (marks' : List ℕ) → DoneTo (pos 0) m (bound_at before) before after → DoneTo 0 m (mark_at before) marks marks'
+    → TableSplit m before marks after marks'
+parted m before marks after marks' h g = record {
+  size = h.size;
+  words = h.each;
+  rest = done_rest (pos 0) m (bound_at before) before after h;
+  marks_size = g.size;
+  bytes = g.each;
+  marks_rest = done_rest 0 m (mark_at before) marks marks' g;
+}
+
+-- the word that is read is as at the start
+present : (c : After-w-1) → word_at c.loop-i.table c.loop-i.i ≡ word_at c.args.table.now c.loop-i.i
+present c = c.loop-i.invariant.1.rest c.loop-i.i (omega arith)
+
+ruled : (c : Then-w-lt-NO_RULE) → has_rule (word_at c.args.table.now c.loop-i.i) ≡ true
+ruled c = rw (held_value c.w-1.given, present c.before) at c.if-w-lt-NO_RULE.true
+
+pub loop-i-init : goal.loop-i-init
+loop-i-init c = (omega arith, done_none _ _ _, done_none _ _ _)
+
+pub slice_copy_out-w : goal.slice_copy_out-w
+slice_copy_out-w c = omega (arith, c.loop-i.invariant.1.size, c.requires)
+
+pub bounds-table-i : goal.bounds-table-i
+bounds-table-i c = omega (arith, c.loop-i.invariant.1.size, c.requires)
+
+pub bounds-marks-i : goal.bounds-marks-i
+bounds-marks-i c = omega (arith, c.loop-i.invariant.2.size, c.requires)
+
+pub overflow_add-i : goal.overflow_add-i
+overflow_add-i c = omega arith
+
+pub loop-i-smaller : goal.loop-i-smaller
+loop-i-smaller c = omega arith
+
+pub loop-i-preserved : goal.loop-i-preserved
+loop-i-preserved c =
+    let t = c.args.table.now in
+    let i = c.loop-i.i in
+    let word = done_more (pos 0) i (bound_at t) t c.loop-i.table in
+    let byte = done_more 0 i (mark_at t) c.args.marks.now c.loop-i.marks in
+    ⊎_elim
+    (λ x. let a : Then-w-lt-NO_RULE = record { before = c.before; if1 = x.0 } in (
+      omega arith,
+      rw x.4 (word _ c.loop-i.invariant.1 (omega (arith, c.requires)) (halves_half (held_fits c.w-1.given) x.1.ensures ∙ ap half (present c.before) ∙ split_half (word_at t i) (ruled a))),
+      byte _ c.loop-i.invariant.2 (omega (arith, c.requires)) (x.5 ∙ split_odd (word_at t i) (ruled a) (ap odd (sym (present c.before)) ∙ sym (halves_odd (held_fits c.w-1.given) x.1.ensures) ∙ x.3.taken)),
+    ))
+    (⊎_elim
+    (λ x. let a : Then-w-lt-NO_RULE = record { before = c.before; if1 = x.0 } in (
+      omega arith,
+      rw x.4 (word _ c.loop-i.invariant.1 (omega (arith, c.requires)) (halves_half (held_fits c.w-1.given) x.1.ensures ∙ ap half (present c.before) ∙ split_half (word_at t i) (ruled a))),
+      byte _ c.loop-i.invariant.2 (omega (arith, c.requires)) (x.5 ∙ split_even (word_at t i) (ruled a) (ap odd (sym (present c.before)) ∙ sym (halves_odd (held_fits c.w-1.given) x.1.ensures) ∙ x.3.left)),
+    ))
+    (λ x.
+    let e = split_unruled (word_at t i) (sym (present c.before) ∙ unruled_word _ c.w-1.given (rw (held_value c.w-1.given) at x.0.left)) in
+    (omega arith, rw x.1 (done_kept (pos 0) i (bound_at t) t c.loop-i.table c.loop-i.invariant.1 e.0), byte _ c.loop-i.invariant.2 (omega (arith, c.requires)) (x.2 ∙ e.1))))
+    c.if-w-lt-NO_RULE.branch
+
+pub shape_of-table : goal.shape_of-table
+shape_of-table c = c.loop-i.invariant.1.size
+
+pub shape_of-marks : goal.shape_of-marks
+shape_of-marks c = c.loop-i.invariant.2.size
+
+pub returns : goal.returns
+returns c =
+    let l = c.loop-i in
+    let e : l.i ≡ c.args.m = omega arith in
+    parted _ _ _ _ _ (rw e at l.invariant.1) (rw e at l.invariant.2)

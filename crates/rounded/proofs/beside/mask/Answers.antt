@@ -1,0 +1,84 @@
+-- `beside::mask` meets its contract. The loop's invariant: at the places passed stands what goes beside their rules, and the others stay. The measure is what is left. Assumes nothing.
+use mathlib.Core.Path.{◌≡◌, refl, ◌∙◌}
+use mathlib.Core.Bool.{true}
+use mathlib.Core.Logic.{⊎_elim}
+use mathlib.Core.List.{List}
+use Prim.Native.Nat.{ℕ, ◌-◌, ◌≤◌, ◌^◌}
+use native.Mathlib.Omega.{arith}
+use lib.IntN.{ℤ, pos}
+use borrow.Author.Rules.{rules}
+use Rattle.integers.specs.Bound.{Within}
+use Rattle.integers.proofs.Parts.{held_value}
+use Rattle.words.specs.Change.{word_at}
+use Rattle.tables.specs.Tables.{has_rule}
+use Rattle.tables.proofs.Tests.{clash}
+use Rattle.marks.specs.Marks.{marked_of}
+use Rattle.marks.proofs.Pointwise.{DoneTo, done_none, done_more, done_rest}
+use Rattle.marks.proofs.Doubling.{read_fits, read_doubled}
+use Rattle.rounded.specs.Inner.{masked_word, Masked}
+use Rattle.rounded.proofs.Telling.{masked_unmarked, masked_marked, masked_unruled}
+use Rattle.rounded.proofs.beside.mask.Lts as lts
+use Rattle.rounded.proofs.beside.mask.Tie as tie
+use Rattle.rounded.proofs.beside.mask.Reads as reads
+use Rattle.rounded.proofs.beside.mask.Invariants.{masked_at}
+use Rattle.rounded.proofs.beside.mask.Goals as goal
+
+abbrev Then-w-lt-NO_RULE : Type 0
+Then-w-lt-NO_RULE = lts.Then1 reads.Pre reads.Post goal.the-invariant-loop-i goal.the-decreases-loop-i
+
+masked : (m : ℕ) (t : List ℤ) (marks : List ℕ) (before after : List ℤ) → DoneTo (pos 0) m (masked_at t marks) before after → Masked m t marks before after
+masked m t marks before after h = record { each = h.each; lent = record { size = h.size; rest = done_rest (pos 0) m (masked_at t marks) before after h; kept = λ e. clash refl e } }
+
+-- where a word is a rule, its bound doubled is a word
+ruled : (c : Then-w-lt-NO_RULE) → has_rule (word_at c.args.table.now c.loop-i.i) ≡ true
+ruled c = rw (held_value c.w-1.given) at c.if-w-lt-NO_RULE.true
+
+small : (c : Then-w-lt-NO_RULE) → Within (pos (2 ^ 61)) (word_at c.args.table.now c.loop-i.i)
+small c =
+    c.requires.3.each c.loop-i.i c.loop-i-test.true (omega (arith, c.requires.0, c.loop-i-test.true)) (ruled c)
+
+pub loop-i-init : goal.loop-i-init
+loop-i-init c = (omega arith, done_none _ _ _)
+
+pub bounds-table-i : goal.bounds-table-i
+bounds-table-i c = omega (arith, c.requires.0)
+
+pub bounds-marks-i : goal.bounds-marks-i
+bounds-marks-i c = omega (arith, c.requires.1)
+
+pub overflow_add-doubled : goal.overflow_add-doubled
+overflow_add-doubled c = read_fits _ _ c.w-1.given refl (small c.before.before.before)
+
+pub bounds-copy-i : goal.bounds-copy-i
+bounds-copy-i c = omega (arith, c.loop-i.invariant.1.size, c.requires.2)
+
+pub overflow_add-i : goal.overflow_add-i
+overflow_add-i c = omega arith
+
+pub loop-i-smaller : goal.loop-i-smaller
+loop-i-smaller c = omega arith
+
+pub loop-i-preserved : goal.loop-i-preserved
+loop-i-preserved c =
+    let t = c.args.table.now in
+    let marks = c.args.marks.now in
+    let more = done_more (pos 0) c.loop-i.i (masked_at t marks) c.args.copy.now c.loop-i.copy in (
+      omega arith,
+      ⊎_elim
+          (λ x. let a : Then-w-lt-NO_RULE = record { before = c.before; if1 = x.0 } in
+          rw x.3 (more _ c.loop-i.invariant.1 (omega (arith, c.requires.2)) (read_doubled _ _ c.w-1.given refl (small a) ∙ masked_unmarked t marks c.loop-i.i (ruled a) x.2.taken)))
+          (⊎_elim
+          (λ x. let a : Then-w-lt-NO_RULE = record { before = c.before; if1 = x.0 } in
+          rw x.3 (more _ c.loop-i.invariant.1 (omega (arith, c.requires.2)) (masked_marked t marks c.loop-i.i (ruled a) x.2.left)))
+          (λ x. rw x.1 (more _ c.loop-i.invariant.1 (omega (arith, c.requires.2)) (masked_unruled t marks c.loop-i.i (rw (held_value c.w-1.given) at x.0.left)))))
+          c.if-w-lt-NO_RULE.branch,
+    )
+
+pub shape_of-copy : goal.shape_of-copy
+shape_of-copy c = c.loop-i.invariant.1.size
+
+pub returns : goal.returns
+returns c =
+    let l = c.loop-i in
+    let e : l.i ≡ c.args.m = omega arith in
+    masked _ _ _ _ _ (rw e at l.invariant.1)

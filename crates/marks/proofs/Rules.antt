@@ -80,8 +80,8 @@ module _ (r : Rule) (w : Within (pos (2 ^ 61)) (bound_of r)) where
   ruled = lt_lt_z (bound_of (halved_of r)) no_rule (within_rule (bound_of (halved_of r)) (halved_within (2 ^ 61) r w))
 
   -- so it is the word of the rule with its mark
-  doubled_word : bound_of (halved_of (doubled_rule r)) ≡ doubled_word (marked_rule r)
-  doubled_word = doubled_bound r ∙ sym (doubled-rule (marked_rule r) ruled)
+  doubled_rule_word : bound_of (halved_of (doubled_rule r)) ≡ doubled_word (marked_rule r)
+  doubled_rule_word = doubled_bound r ∙ sym (doubled-rule (marked_rule r) ruled)
 
   rule_tame : Tame large (marked_rule r)
   rule_tame e = within_mono (omega arith) (halved_within (2 ^ 61) r w)
@@ -150,7 +150,7 @@ pub doubled_smallest : (k : ℕ) (rs : List Rule) → RulesWithin (pos (2 ^ 61))
 unfolding smallest_at marked_at
 doubled_smallest k [] w = sym (doubled_none unruled refl)
 doubled_smallest k (r ∷ rs) w =
-    rw (doubled_place r, doubled_word r w.0, doubled_smallest k rs w.1) (go (is_at k (find_place (halved_of r))))
+    rw (doubled_place r, doubled_rule_word r w.0, doubled_smallest k rs w.1) (go (is_at k (find_place (halved_of r))))
   where
     go : (b : Bool) → cond b (smaller (doubled_word (marked_rule r)) (doubled_word (marked_at k rs))) (doubled_word (marked_at k rs))
         ≡ doubled_word (cond b (meet (marked_rule r) (marked_at k rs)) (marked_at k rs))

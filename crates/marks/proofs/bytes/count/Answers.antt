@@ -15,6 +15,7 @@ use Rattle.marks.specs.Marks.{byte_at}
 use Rattle.marks.specs.Bytes.{mark_count}
 use Rattle.marks.proofs.Counting.{count_more, count_none, count_zero}
 use Rattle.marks.proofs.bytes.count.Goals as goal
+use Rattle.marks.proofs.bytes.count.Goals.{then-marks-i-eq1, else-marks-i-eq1}
 
 -- a byte is a mark, or none
 more : (found found' i rest rest' all : ℕ) (b : Bool) → b ≡ true → found' ≡ found + 1 → rest ≡ bit b + rest' → (found + rest ≡ all) × (found ≤ i) → (found' + rest' ≡ all) × (found' ≤ i + 1)
@@ -48,10 +49,10 @@ loop-i-smaller c = omega arith
 pub loop-i-preserved : goal.loop-i-preserved
 loop-i-preserved c = let b : ℕ = byte_at c.args.marks.now c.loop-i.i in
     let e = count_more c.args.m c.loop-i.i c.args.marks.now (omega arith) (omega arith) in
-    ⊎_elim
-    (λ w. more _ _ _ _ _ _ (eqb b 1) (eq-eqb b 1 w.0.taken) w.1 e c.loop-i.invariant)
-    (λ w. same _ _ _ _ _ _ (eqb b 1) (ne_eqb b 1 w.0.left) w.1 e c.loop-i.invariant)
-    c.if-marks-i-eq1.branch
+    elim c.if-marks-i-eq1.branch [
+      | then-marks-i-eq1 w ↦ more _ _ _ _ _ _ (eqb b 1) (eq-eqb b 1 w.if-marks-i-eq1.true) w.found-is e c.loop-i.invariant
+      | else-marks-i-eq1 w ↦ same _ _ _ _ _ _ (eqb b 1) (ne_eqb b 1 w.if-marks-i-eq1.false) w.found-is e c.loop-i.invariant
+    ]
 
 pub returns : goal.returns
 returns c = let e : mark_count (c.args.m - c.loop-i.i) (drop c.loop-i.i c.args.marks.now) ≡ 0 =

@@ -6,6 +6,8 @@ use mathlib.Core.List.{List}
 use Prim.Native.Nat.{ℕ, ◌-◌, ◌≤◌}
 use native.Mathlib.Omega.{arith}
 use lib.IntN.{ℤ, pos}
+use mir.Syntax.{w64}
+use mir.Val.{to_z, of_z}
 use borrow.Author.Rules.{rules}
 use Rattle.integers.specs.Bound.{half, odd, bit}
 use Rattle.integers.proofs.Parts.{held_value}
@@ -21,12 +23,10 @@ use Rattle.marks.proofs.doubled.split.Tie as tie
 use Rattle.marks.proofs.doubled.split.Reads as reads
 use Rattle.marks.proofs.doubled.split.Invariants.{bound_at, mark_at}
 use Rattle.marks.proofs.doubled.split.Goals as goal
+use Rattle.marks.proofs.doubled.split.Goals.{then-w-lt-NO_RULE+then-half, then-w-lt-NO_RULE+else-half, else-w-lt-NO_RULE}
 
 abbrev After-w-1 : Type 0
 After-w-1 = lts.After-w tie.the-claims reads.Pre reads.Post goal.the-invariant-loop-i goal.the-decreases-loop-i
-
-abbrev Then-w-lt-NO_RULE : Type 0
-Then-w-lt-NO_RULE = lts.Then1 tie.the-claims reads.Pre reads.Post goal.the-invariant-loop-i goal.the-decreases-loop-i
 
 parted : (m : ℕ) (before : List ℤ) (marks : List ℕ) (after : List ℤ) (marks' : List ℕ) → DoneTo (pos 0) m (bound_at before) before after → DoneTo 0 m (mark_at before) marks marks'
     → TableSplit m before marks after marks'
@@ -39,12 +39,16 @@ parted m before marks after marks' h g = record {
   marks_rest = done_rest 0 m (mark_at before) marks marks' g;
 }
 
+-- a word as it is read back from its bits
+abbrev held : ℤ → ℤ
+held c = to_z w64 (of_z w64 c)
+
 -- the word that is read is as at the start
 present : (c : After-w-1) → word_at c.loop-i.table c.loop-i.i ≡ word_at c.args.table.now c.loop-i.i
 present c = c.loop-i.invariant.1.rest c.loop-i.i (omega arith)
 
-ruled : (c : Then-w-lt-NO_RULE) → has_rule (word_at c.args.table.now c.loop-i.i) ≡ true
-ruled c = rw (held_value c.w-1.given, present c.before) at c.if-w-lt-NO_RULE.true
+ruled : (c : After-w-1) → has_rule (held (word_at c.loop-i.table c.loop-i.i)) ≡ true → has_rule (word_at c.args.table.now c.loop-i.i) ≡ true
+ruled c e = rw (held_value c.w-1.given, present c) at e
 
 pub loop-i-init : goal.loop-i-init
 loop-i-init c = (omega arith, done_none _ _ _, done_none _ _ _)
@@ -68,24 +72,32 @@ pub loop-i-preserved : goal.loop-i-preserved
 loop-i-preserved c =
     let t = c.args.table.now in
     let i = c.loop-i.i in
+    let f = held_fits c.w-1.given in
+    let p = present c.before in
     let word = done_more (pos 0) i (bound_at t) t c.loop-i.table in
     let byte = done_more 0 i (mark_at t) c.args.marks.now c.loop-i.marks in
-    ⊎_elim
-    (λ x. let a : Then-w-lt-NO_RULE = record { before = c.before; if1 = x.0 } in (
-      omega arith,
-      rw x.4 (word _ c.loop-i.invariant.1 (omega (arith, c.requires)) (halves_half (held_fits c.w-1.given) x.1.ensures ∙ ap half (present c.before) ∙ split_half (word_at t i) (ruled a))),
-      byte _ c.loop-i.invariant.2 (omega (arith, c.requires)) (x.5 ∙ split_odd (word_at t i) (ruled a) (ap odd (sym (present c.before)) ∙ sym (halves_odd (held_fits c.w-1.given) x.1.ensures) ∙ x.3.taken)),
-    ))
-    (⊎_elim
-    (λ x. let a : Then-w-lt-NO_RULE = record { before = c.before; if1 = x.0 } in (
-      omega arith,
-      rw x.4 (word _ c.loop-i.invariant.1 (omega (arith, c.requires)) (halves_half (held_fits c.w-1.given) x.1.ensures ∙ ap half (present c.before) ∙ split_half (word_at t i) (ruled a))),
-      byte _ c.loop-i.invariant.2 (omega (arith, c.requires)) (x.5 ∙ split_even (word_at t i) (ruled a) (ap odd (sym (present c.before)) ∙ sym (halves_odd (held_fits c.w-1.given) x.1.ensures) ∙ x.3.left)),
-    ))
-    (λ x.
-    let e = split_unruled (word_at t i) (sym (present c.before) ∙ unruled_word _ c.w-1.given (rw (held_value c.w-1.given) at x.0.left)) in
-    (omega arith, rw x.1 (done_kept (pos 0) i (bound_at t) t c.loop-i.table c.loop-i.invariant.1 e.0), byte _ c.loop-i.invariant.2 (omega (arith, c.requires)) (x.2 ∙ e.1))))
-    c.if-w-lt-NO_RULE.branch
+    elim c.if-w-lt-NO_RULE.branch [
+      | then-w-lt-NO_RULE+then-half w ↦
+        let r = ruled c.before w.if-w-lt-NO_RULE.true in
+        let h = w.halve-half.ensures in (
+          omega arith,
+          rw w.table-is (word _ c.loop-i.invariant.1 (omega (arith, c.requires)) (halves_half f h ∙ ap half p ∙ split_half (word_at t i) r)),
+          byte _ c.loop-i.invariant.2 (omega (arith, c.requires)) (w.mark-is ∙ split_odd (word_at t i) r (ap odd (sym p) ∙ sym (halves_odd f h) ∙ w.if-half.true)),
+        )
+      | then-w-lt-NO_RULE+else-half w ↦
+        let r = ruled c.before w.if-w-lt-NO_RULE.true in
+        let h = w.halve-half.ensures in (
+          omega arith,
+          rw w.table-is (word _ c.loop-i.invariant.1 (omega (arith, c.requires)) (halves_half f h ∙ ap half p ∙ split_half (word_at t i) r)),
+          byte _ c.loop-i.invariant.2 (omega (arith, c.requires)) (w.mark-is ∙ split_even (word_at t i) r (ap odd (sym p) ∙ sym (halves_odd f h) ∙ w.if-half.false)),
+        )
+      | else-w-lt-NO_RULE w ↦
+        let e = split_unruled (word_at t i) (sym p ∙ unruled_word _ c.w-1.given (rw (held_value c.w-1.given) at w.if-w-lt-NO_RULE.false)) in (
+          omega arith,
+          rw w.table-is (done_kept (pos 0) i (bound_at t) t c.loop-i.table c.loop-i.invariant.1 e.0),
+          byte _ c.loop-i.invariant.2 (omega (arith, c.requires)) (w.mark-is ∙ e.1),
+        )
+    ]
 
 pub shape_of-table : goal.shape_of-table
 shape_of-table c = c.loop-i.invariant.1.size

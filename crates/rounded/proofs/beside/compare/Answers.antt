@@ -16,6 +16,7 @@ use Rattle.rounded.proofs.beside.compare.Tie as tie
 use Rattle.rounded.proofs.beside.compare.Reads as reads
 use Rattle.rounded.proofs.beside.compare.Invariants.{told_at}
 use Rattle.rounded.proofs.beside.compare.Goals as goal
+use Rattle.rounded.proofs.beside.compare.Goals.{then-is_marked, else-is_marked}
 
 abbrev After-is_marked : Type 0
 After-is_marked = lts.After-is_marked tie.the-claims reads.Pre reads.Post goal.the-invariant-loop-i goal.the-decreases-loop-i
@@ -56,10 +57,10 @@ loop-i-preserved c =
     let copy = c.args.copy.now in
     let more = done_more 0 c.loop-i.i (told_at t copy) c.args.marks.now c.loop-i.marks in (
       omega arith,
-      ⊎_elim
-          (λ x. rw x.1 (more _ c.loop-i.invariant.1 (omega (arith, c.requires.2)) (ap bit (sym x.0.taken ∙ told c.before))))
-          (λ x. rw x.1 (more _ c.loop-i.invariant.1 (omega (arith, c.requires.2)) (ap bit (sym x.0.left ∙ told c.before))))
-          c.if-is_marked.branch,
+      elim c.if-is_marked.branch [
+        | then-is_marked w ↦ rw w.mark-is (more _ c.loop-i.invariant.1 (omega (arith, c.requires.2)) (ap bit (sym w.if-is_marked.true ∙ told c.before)))
+        | else-is_marked w ↦ rw w.mark-is (more _ c.loop-i.invariant.1 (omega (arith, c.requires.2)) (ap bit (sym w.if-is_marked.false ∙ told c.before)))
+      ],
     )
 
 pub shape_of-marks : goal.shape_of-marks

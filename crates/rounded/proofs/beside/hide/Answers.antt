@@ -9,6 +9,7 @@ use Rattle.rounded.proofs.beside.hide.Lts as lts
 use Rattle.rounded.proofs.beside.hide.Tie as tie
 use Rattle.rounded.proofs.beside.hide.Reads as reads
 use Rattle.rounded.proofs.beside.hide.Goals as goal
+use Rattle.rounded.proofs.beside.hide.Goals.{then-count-n, else-count-n}
 
 abbrev Joined-count-n : Type 0
 Joined-count-n = lts.Joined2 tie.the-claims reads.Pre reads.Post
@@ -32,10 +33,10 @@ eliminate-requires c =
 -- the copy keeps its length
 copied : (c : Joined-count-n) → length c.if-count-n.copy ≡ length c.args.copy.now
 copied c =
-    ⊎_elim
-    (λ x. ap length x.4 ∙ x.2.ensures.lent.size ∙ c.mask.ensures.lent.size)
-    (λ x. ap length x.1 ∙ c.mask.ensures.lent.size)
-    c.if-count-n.branch
+    elim c.if-count-n.branch [
+      | then-count-n w ↦ ap length w.copy-is ∙ w.eliminate.ensures.lent.size ∙ c.mask.ensures.lent.size
+      | else-count-n w ↦ ap length w.copy-is ∙ c.mask.ensures.lent.size
+    ]
 
 pub compare-requires : goal.compare-requires
 compare-requires c =
@@ -46,9 +47,9 @@ shape_of-copy c = copied c.before.before.before.before.before
 
 pub returns : goal.returns
 returns c =
-    ⊎_elim
-    (λ x. marked_some _ _ _ _ _ _ c.requires.0 c.requires.1 c.size-m.ensures _ c.mask.ensures _ _ c.hide_set.ensures c.if-hide_set.false
-    (rw c.count.ensures at x.0.taken) _ _ _ x.2.ensures (rw x.4 at c.compare.ensures))
-    (λ x. marked_none _ _ _ _ _ _ c.requires.0 c.requires.1 c.size-m.ensures _ c.mask.ensures _ _ c.hide_set.ensures c.if-hide_set.false
-    (rw c.count.ensures at x.0.left) _ _ c.compare.ensures)
-    c.if-count-n.branch
+    elim c.if-count-n.branch [
+      | then-count-n w ↦ marked_some _ _ _ _ _ _ c.requires.0 c.requires.1 c.size-m.ensures _ c.mask.ensures _ _ c.hide_set.ensures c.if-hide_set.false
+        (rw c.count.ensures at w.if-count-n.true) _ _ _ w.eliminate.ensures (rw w.copy-is at c.compare.ensures)
+      | else-count-n w ↦ marked_none _ _ _ _ _ _ c.requires.0 c.requires.1 c.size-m.ensures _ c.mask.ensures _ _ c.hide_set.ensures c.if-hide_set.false
+        (rw c.count.ensures at w.if-count-n.false) _ _ c.compare.ensures
+    ]

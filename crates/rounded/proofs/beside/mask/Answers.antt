@@ -6,6 +6,8 @@ use mathlib.Core.List.{List}
 use Prim.Native.Nat.{ℕ, ◌-◌, ◌≤◌, ◌^◌}
 use native.Mathlib.Omega.{arith}
 use lib.IntN.{ℤ, pos}
+use mir.Syntax.{w64}
+use mir.Val.{to_z, of_z}
 use borrow.Author.Rules.{rules}
 use Rattle.integers.specs.Bound.{Within}
 use Rattle.integers.proofs.Parts.{held_value}
@@ -22,20 +24,24 @@ use Rattle.rounded.proofs.beside.mask.Tie as tie
 use Rattle.rounded.proofs.beside.mask.Reads as reads
 use Rattle.rounded.proofs.beside.mask.Invariants.{masked_at}
 use Rattle.rounded.proofs.beside.mask.Goals as goal
+use Rattle.rounded.proofs.beside.mask.Goals.{then-w-lt-NO_RULE+then-marks-i-ne1, then-w-lt-NO_RULE+else-marks-i-ne1, else-w-lt-NO_RULE}
 
-abbrev Then-w-lt-NO_RULE : Type 0
-Then-w-lt-NO_RULE = lts.Then1 reads.Pre reads.Post goal.the-invariant-loop-i goal.the-decreases-loop-i
+abbrev After-w-1 : Type 0
+After-w-1 = lts.After-w reads.Pre reads.Post goal.the-invariant-loop-i goal.the-decreases-loop-i
 
 masked : (m : ℕ) (t : List ℤ) (marks : List ℕ) (before after : List ℤ) → DoneTo (pos 0) m (masked_at t marks) before after → Masked m t marks before after
 masked m t marks before after h = record { each = h.each; lent = record { size = h.size; rest = done_rest (pos 0) m (masked_at t marks) before after h; kept = λ e. clash refl e } }
 
--- where a word is a rule, its bound doubled is a word
-ruled : (c : Then-w-lt-NO_RULE) → has_rule (word_at c.args.table.now c.loop-i.i) ≡ true
-ruled c = rw (held_value c.w-1.given) at c.if-w-lt-NO_RULE.true
+-- a word as it is read back from its bits
+abbrev held : ℤ → ℤ
+held c = to_z w64 (of_z w64 c)
 
-small : (c : Then-w-lt-NO_RULE) → Within (pos (2 ^ 61)) (word_at c.args.table.now c.loop-i.i)
-small c =
-    c.requires.3.each c.loop-i.i c.loop-i-test.true (omega (arith, c.requires.0, c.loop-i-test.true)) (ruled c)
+-- where a word is a rule, its bound doubled is a word
+ruled : (c : After-w-1) → has_rule (held (word_at c.args.table.now c.loop-i.i)) ≡ true → has_rule (word_at c.args.table.now c.loop-i.i) ≡ true
+ruled c e = rw (held_value c.w-1.given) at e
+
+small : (c : After-w-1) → has_rule (held (word_at c.args.table.now c.loop-i.i)) ≡ true → Within (pos (2 ^ 61)) (word_at c.args.table.now c.loop-i.i)
+small c e = c.requires.3.each c.loop-i.i c.loop-i-test.true (omega (arith, c.requires.0, c.loop-i-test.true)) (ruled c e)
 
 pub loop-i-init : goal.loop-i-init
 loop-i-init c = (omega arith, done_none _ _ _)
@@ -47,7 +53,7 @@ pub bounds-marks-i : goal.bounds-marks-i
 bounds-marks-i c = omega (arith, c.requires.1)
 
 pub overflow_add-doubled : goal.overflow_add-doubled
-overflow_add-doubled c = read_fits _ _ c.w-1.given refl (small c.before.before.before)
+overflow_add-doubled c = read_fits _ _ c.w-1.given refl (small c.before.before.before.before c.if-w-lt-NO_RULE.true)
 
 pub bounds-copy-i : goal.bounds-copy-i
 bounds-copy-i c = omega (arith, c.loop-i.invariant.1.size, c.requires.2)
@@ -64,14 +70,15 @@ loop-i-preserved c =
     let marks = c.args.marks.now in
     let more = done_more (pos 0) c.loop-i.i (masked_at t marks) c.args.copy.now c.loop-i.copy in (
       omega arith,
-      ⊎_elim
-          (λ x. let a : Then-w-lt-NO_RULE = record { before = c.before; if1 = x.0 } in
-          rw x.3 (more _ c.loop-i.invariant.1 (omega (arith, c.requires.2)) (read_doubled _ _ c.w-1.given refl (small a) ∙ masked_unmarked t marks c.loop-i.i (ruled a) x.2.taken)))
-          (⊎_elim
-          (λ x. let a : Then-w-lt-NO_RULE = record { before = c.before; if1 = x.0 } in
-          rw x.3 (more _ c.loop-i.invariant.1 (omega (arith, c.requires.2)) (masked_marked t marks c.loop-i.i (ruled a) x.2.left)))
-          (λ x. rw x.1 (more _ c.loop-i.invariant.1 (omega (arith, c.requires.2)) (masked_unruled t marks c.loop-i.i (rw (held_value c.w-1.given) at x.0.left)))))
-          c.if-w-lt-NO_RULE.branch,
+      elim c.if-w-lt-NO_RULE.branch [
+        | then-w-lt-NO_RULE+then-marks-i-ne1 w ↦
+          let e = w.if-w-lt-NO_RULE.true in
+          rw w.doubled-is (more _ c.loop-i.invariant.1 (omega (arith, c.requires.2)) (read_doubled _ _ c.w-1.given refl (small c.before.before e) ∙ masked_unmarked t marks c.loop-i.i (ruled c.before.before e) w.if-marks-i-ne1.true))
+        | then-w-lt-NO_RULE+else-marks-i-ne1 w ↦
+          rw w.doubled-is (more _ c.loop-i.invariant.1 (omega (arith, c.requires.2)) (masked_marked t marks c.loop-i.i (ruled c.before.before w.if-w-lt-NO_RULE.true) w.if-marks-i-ne1.false))
+        | else-w-lt-NO_RULE w ↦
+          rw w.doubled-is (more _ c.loop-i.invariant.1 (omega (arith, c.requires.2)) (masked_unruled t marks c.loop-i.i (rw (held_value c.w-1.given) at w.if-w-lt-NO_RULE.false)))
+      ],
     )
 
 pub shape_of-copy : goal.shape_of-copy

@@ -8,16 +8,16 @@ pub make_key-requires : goal.make_key-requires
 unfolding block_start
 make_key-requires c =
     let h = block_start_mono c.if-n-le-SMALL.true in
-    (c.requires, (h, h))
+    record { all_met = c.requires; n_in_bounds = (h, h) }
 
 pub make_key-requires-then-n-le-MIDDLE : goal.make_key-requires-then-n-le-MIDDLE
 unfolding block_start
 make_key-requires-then-n-le-MIDDLE c =
     let h = block_start_mono c.if-n-le-MIDDLE.true in
-    (c.requires, (h, h))
+    record { all_met = c.requires; n_in_bounds = (h, h) }
 
 pub make_key-requires-2 : goal.make_key-requires-2
 unfolding block_start
 make_key-requires-2 c =
     let h = block_start_mono c.requires.0.0.most in
-    (c.requires, (h, h))
+    record { all_met = c.requires; n_in_bounds = (h, h) }

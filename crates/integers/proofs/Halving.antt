@@ -3,7 +3,7 @@ use mathlib.Core.Path.{◌≡◌}
 use mathlib.Core.Bool.{Bool, true, false}
 use Prim.Native.Nat.{◌<◌, ◌^◌}
 use lib.IntN.{ℤ, pos, ◌+ℤ◌}
-use lib.Signed.{lt_z, mag, mag_shr}
+use lib.Signed.{mag, mag_shr}
 use mir.Syntax.{w64}
 use mir.Val.{SFits, to_z, of_z}
 use mir.ValLaws.{sfits_le}
@@ -34,7 +34,7 @@ pub more_odd : (h : ℤ) → odd ((h +ℤ h) +ℤ pos 1) ≡ true
 unfolding odd positive_part negative_part
 more_odd h = rw (more_half h) (lt_lt_z (h +ℤ h) ((h +ℤ h) +ℤ pos 1) (omega (linear, parts_add (h +ℤ h) (pos 1))))
 
--- what `integers::halved` tells of a word that is read from its bits
+-- what `integers::halve` tells of a word that is read from its bits
 pub half_fits : {c : ℤ} → SFits w64 c → SFits w64 (half c)
 unfolding half
 half_fits {c} f = sfits_le (mag_shr c 2) f

@@ -1,5 +1,5 @@
 -- Document 02's words on marks, on numbers: how marked rules add, are halved and meet.
-use mathlib.Core.Bool.{Bool, true, false}
+use mathlib.Core.Bool.{true, false}
 use mathlib.Core.Path.{◌≡◌, refl}
 use lib.IntN.{ℤ, pos, negsuc}
 use Rattle.integers.specs.Bound.{half, odd, smaller}

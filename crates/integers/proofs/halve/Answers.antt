@@ -1,16 +1,14 @@
 -- `integers::halve` meets its contract: a shift by one rounds down, its result is a word, and twice that is the word or one less. Assumes nothing.
 use mathlib.Core.Path.{◌≡◌, refl, sym}
 use mathlib.Core.Bool.{Bool, true, false}
-use Prim.Native.Nat.{ℕ}
 use lib.IntN.{ℤ, pos, ◌+ℤ◌}
 use lib.Signed.{shr_z}
 use mir.Syntax.{w64}
 use mir.Val.{SFits, to_z, of_z}
 use Rattle.integers.specs.Bound.{half, odd, bit, Halves}
-use Rattle.integers.proofs.Parts.{linear, positive_part, negative_part, parts_add, parts_half, word_to, word_of, word_value}
+use Rattle.integers.proofs.Parts.{linear, parts_add, parts_half, word_to, word_of, word_value}
 use Rattle.integers.proofs.Halving.{odd_whole, even_whole, half_fits}
 use Rattle.integers.proofs.halve.Goals as goal
-
 
 shifted : (x : ℤ) → SFits w64 x → to_z w64 (of_z w64 (shr_z (to_z w64 (of_z w64 x)) 2)) ≡ half x
 unfolding half

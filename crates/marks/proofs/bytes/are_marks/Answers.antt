@@ -1,5 +1,5 @@
 -- `bytes::are_marks` meets its contract. The loop's invariant: the answer is that of the bytes that are left. The measure is their number. Assumes nothing.
-use mathlib.Core.Path.{◌≡◌, sym, ◌∙◌, ap}
+use mathlib.Core.Path.{sym, ◌∙◌, ap}
 use Prim.Native.Nat.{ℕ, ◌-◌}
 use native.Mathlib.Nat.{sub-zero}
 use native.Mathlib.Omega.{arith}

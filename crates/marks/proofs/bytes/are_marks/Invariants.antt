@@ -1,15 +1,9 @@
 -- `bytes::are_marks` meets its contract. The loop's invariant: the answer is that of the bytes that are left. The measure is their number. Assumes nothing.
-use mathlib.Core.Path.{◌≡◌, sym, ◌∙◌, ap}
-use Prim.Native.Nat.{ℕ, ◌-◌}
-use native.Mathlib.Nat.{sub-zero}
-use native.Mathlib.Omega.{arith}
-use lib.ListN.{drop, drop_of_length-le}
-use borrow.Author.Tests.{le-leb, lt-leb}
-use Rattle.marks.specs.Marks.{byte_at}
+use mathlib.Core.Path.{◌≡◌}
+use Prim.Native.Nat.{◌-◌}
+use lib.ListN.{drop}
 use Rattle.marks.specs.Bytes.{marks_in}
-use Rattle.marks.proofs.Testing.{marks_more, marks_none, marks_zero, marks_tested}
 use Rattle.marks.proofs.bytes.are_marks.Given as goal
-
 
 abbrev pub invariant-loop-i : goal.invariant-loop-i
 invariant-loop-i l = marks_in (l.m - l.i) (drop l.i l.marks) ≡ marks_in l.m l.marks

@@ -1,7 +1,7 @@
 -- `bytes::copy` meets its contract. The loop's invariant: the bytes passed are copied, and the others stay. The measure is what is left. Assumes nothing.
 use mathlib.Core.Path.{◌≡◌, refl}
 use mathlib.Core.List.{List}
-use Prim.Native.Nat.{ℕ, ◌-◌, ◌≤◌}
+use Prim.Native.Nat.{ℕ}
 use native.Mathlib.Omega.{arith}
 use Rattle.marks.specs.Marks.{byte_at}
 use Rattle.marks.specs.Bytes.{BytesCopied}

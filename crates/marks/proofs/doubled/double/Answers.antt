@@ -1,24 +1,20 @@
 -- `doubled::double` meets its contract. The loop's invariant: the words passed are doubled with their marks, and the others stay. The measure is what is left. Assumes nothing.
 use mathlib.Core.Path.{◌≡◌, sym, ◌∙◌}
 use mathlib.Core.Bool.{true}
-use mathlib.Core.Logic.{⊎_elim}
 use mathlib.Core.List.{List}
-use Prim.Native.Nat.{ℕ, ◌-◌, ◌≤◌, ◌^◌}
+use Prim.Native.Nat.{ℕ, ◌^◌}
 use native.Mathlib.Omega.{arith}
 use lib.IntN.{ℤ, pos}
 use mir.Syntax.{w64}
 use mir.Val.{to_z, of_z}
-use borrow.Author.Rules.{rules}
 use Rattle.integers.specs.Bound.{Within}
 use Rattle.integers.proofs.Parts.{held_value}
 use Rattle.words.specs.Change.{word_at}
 use Rattle.tables.specs.Tables.{has_rule}
-use Rattle.marks.specs.Marks.{marked_of}
-use Rattle.marks.specs.Doubled.{doubled_word, TableDoubled}
+use Rattle.marks.specs.Doubled.{TableDoubled}
 use Rattle.marks.proofs.Pointwise.{DoneTo, done_none, done_more, done_kept, done_rest}
 use Rattle.marks.proofs.Doubling.{unruled_word, read_fits, read_doubled, read_more_fits, read_more, place_marked, place_unmarked, place_unruled}
 use Rattle.marks.proofs.doubled.double.Lts as lts
-use Rattle.marks.proofs.doubled.double.Tie as tie
 use Rattle.marks.proofs.doubled.double.Reads as reads
 use Rattle.marks.proofs.doubled.double.Invariants.{doubled_at}
 use Rattle.marks.proofs.doubled.double.Goals as goal
@@ -83,14 +79,14 @@ loop-i-preserved c =
       omega arith,
       elim c.if-w-lt-NO_RULE.branch [
         | then-w-lt-NO_RULE+then-marks-i-eq1 w ↦
-          let e = w.if-w-lt-NO_RULE.true in
-          rw w.table-is (more _ c.loop-i.invariant.1 (omega (arith, c.requires.room)) (read_more _ _ c.w-1.given (present c.before.before) (small c.before.before e) ∙ place_marked t marks c.loop-i.i (ruled c.before.before e) w.if-marks-i-eq1.true))
+            let e = w.if-w-lt-NO_RULE.true in
+            rw w.table-is (more _ c.loop-i.invariant.1 (omega (arith, c.requires.room)) (read_more _ _ c.w-1.given (present c.before.before) (small c.before.before e) ∙ place_marked t marks c.loop-i.i (ruled c.before.before e) w.if-marks-i-eq1.true))
         | then-w-lt-NO_RULE+else-marks-i-eq1 w ↦
-          let e = w.if-w-lt-NO_RULE.true in
-          rw w.table-is (more _ c.loop-i.invariant.1 (omega (arith, c.requires.room)) (read_doubled _ _ c.w-1.given (present c.before.before) (small c.before.before e) ∙ place_unmarked t marks c.loop-i.i (ruled c.before.before e) w.if-marks-i-eq1.false))
+            let e = w.if-w-lt-NO_RULE.true in
+            rw w.table-is (more _ c.loop-i.invariant.1 (omega (arith, c.requires.room)) (read_doubled _ _ c.w-1.given (present c.before.before) (small c.before.before e) ∙ place_unmarked t marks c.loop-i.i (ruled c.before.before e) w.if-marks-i-eq1.false))
         | else-w-lt-NO_RULE w ↦
-          rw w.table-is (done_kept (pos 0) c.loop-i.i (doubled_at t marks) t c.loop-i.table c.loop-i.invariant.1
-              (place_unruled t marks c.loop-i.i (sym (present c.before.before) ∙ unruled_word _ c.w-1.given (rw (held_value c.w-1.given) at w.if-w-lt-NO_RULE.false))))
+            rw w.table-is (done_kept (pos 0) c.loop-i.i (doubled_at t marks) t c.loop-i.table c.loop-i.invariant.1
+            (place_unruled t marks c.loop-i.i (sym (present c.before.before) ∙ unruled_word _ c.w-1.given (rw (held_value c.w-1.given) at w.if-w-lt-NO_RULE.false))))
       ],
     )
 

@@ -1,20 +1,18 @@
 -- `doubled::split` meets its contract. The loop's invariant: the words passed are taken apart, and the other words and bytes stay. The measure is what is left. Assumes nothing.
 use mathlib.Core.Path.{◌≡◌, sym, ◌∙◌, ap}
 use mathlib.Core.Bool.{true}
-use mathlib.Core.Logic.{⊎_elim}
 use mathlib.Core.List.{List}
-use Prim.Native.Nat.{ℕ, ◌-◌, ◌≤◌}
+use Prim.Native.Nat.{ℕ}
 use native.Mathlib.Omega.{arith}
 use lib.IntN.{ℤ, pos}
 use mir.Syntax.{w64}
 use mir.Val.{to_z, of_z}
-use borrow.Author.Rules.{rules}
-use Rattle.integers.specs.Bound.{half, odd, bit}
+use Rattle.integers.specs.Bound.{half, odd}
 use Rattle.integers.proofs.Parts.{held_value}
 use Rattle.integers.proofs.Halving.{halves_half, halves_odd, held_fits}
 use Rattle.words.specs.Change.{word_at}
 use Rattle.tables.specs.Tables.{has_rule}
-use Rattle.marks.specs.Doubled.{split_word, TableSplit}
+use Rattle.marks.specs.Doubled.{TableSplit}
 use Rattle.marks.proofs.Pointwise.{DoneTo, done_none, done_more, done_kept, done_rest}
 use Rattle.marks.proofs.Doubling.{unruled_word}
 use Rattle.marks.proofs.Splitting.{split_half, split_odd, split_even, split_unruled}
@@ -78,25 +76,25 @@ loop-i-preserved c =
     let byte = done_more 0 i (mark_at t) c.args.marks.now c.loop-i.marks in
     elim c.if-w-lt-NO_RULE.branch [
       | then-w-lt-NO_RULE+then-half w ↦
-        let r = ruled c.before w.if-w-lt-NO_RULE.true in
-        let h = w.halve-half.ensures in (
-          omega arith,
-          rw w.table-is (word _ c.loop-i.invariant.1 (omega (arith, c.requires)) (halves_half f h ∙ ap half p ∙ split_half (word_at t i) r)),
-          byte _ c.loop-i.invariant.2 (omega (arith, c.requires)) (w.mark-is ∙ split_odd (word_at t i) r (ap odd (sym p) ∙ sym (halves_odd f h) ∙ w.if-half.true)),
-        )
+          let r = ruled c.before w.if-w-lt-NO_RULE.true in
+          let h = w.halve-half.ensures in (
+            omega arith,
+            rw w.table-is (word _ c.loop-i.invariant.1 (omega (arith, c.requires)) (halves_half f h ∙ ap half p ∙ split_half (word_at t i) r)),
+            byte _ c.loop-i.invariant.2 (omega (arith, c.requires)) (w.mark-is ∙ split_odd (word_at t i) r (ap odd (sym p) ∙ sym (halves_odd f h) ∙ w.if-half.true)),
+          )
       | then-w-lt-NO_RULE+else-half w ↦
-        let r = ruled c.before w.if-w-lt-NO_RULE.true in
-        let h = w.halve-half.ensures in (
-          omega arith,
-          rw w.table-is (word _ c.loop-i.invariant.1 (omega (arith, c.requires)) (halves_half f h ∙ ap half p ∙ split_half (word_at t i) r)),
-          byte _ c.loop-i.invariant.2 (omega (arith, c.requires)) (w.mark-is ∙ split_even (word_at t i) r (ap odd (sym p) ∙ sym (halves_odd f h) ∙ w.if-half.false)),
-        )
+          let r = ruled c.before w.if-w-lt-NO_RULE.true in
+          let h = w.halve-half.ensures in (
+            omega arith,
+            rw w.table-is (word _ c.loop-i.invariant.1 (omega (arith, c.requires)) (halves_half f h ∙ ap half p ∙ split_half (word_at t i) r)),
+            byte _ c.loop-i.invariant.2 (omega (arith, c.requires)) (w.mark-is ∙ split_even (word_at t i) r (ap odd (sym p) ∙ sym (halves_odd f h) ∙ w.if-half.false)),
+          )
       | else-w-lt-NO_RULE w ↦
-        let e = split_unruled (word_at t i) (sym p ∙ unruled_word _ c.w-1.given (rw (held_value c.w-1.given) at w.if-w-lt-NO_RULE.false)) in (
-          omega arith,
-          rw w.table-is (done_kept (pos 0) i (bound_at t) t c.loop-i.table c.loop-i.invariant.1 e.0),
-          byte _ c.loop-i.invariant.2 (omega (arith, c.requires)) (w.mark-is ∙ e.1),
-        )
+          let e = split_unruled (word_at t i) (sym p ∙ unruled_word _ c.w-1.given (rw (held_value c.w-1.given) at w.if-w-lt-NO_RULE.false)) in (
+            omega arith,
+            rw w.table-is (done_kept (pos 0) i (bound_at t) t c.loop-i.table c.loop-i.invariant.1 e.0),
+            byte _ c.loop-i.invariant.2 (omega (arith, c.requires)) (w.mark-is ∙ e.1),
+          )
     ]
 
 pub shape_of-table : goal.shape_of-table

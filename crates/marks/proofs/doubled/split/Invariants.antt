@@ -1,23 +1,12 @@
 -- `doubled::split` meets its contract. The loop's invariant: the words passed are taken apart, and the other words and bytes stay. The measure is what is left. Assumes nothing.
-use mathlib.Core.Path.{◌≡◌, sym, ◌∙◌, ap}
-use mathlib.Core.Bool.{true}
-use mathlib.Core.Logic.{⊎_elim}
 use mathlib.Core.List.{List}
 use Prim.Native.Nat.{ℕ, ◌-◌, ◌≤◌}
-use native.Mathlib.Omega.{arith}
 use lib.IntN.{ℤ, pos}
-use borrow.Author.Rules.{rules}
-use Rattle.integers.specs.Bound.{half, odd, bit}
-use Rattle.integers.proofs.Parts.{held_value}
-use Rattle.integers.proofs.Halving.{halves_half, halves_odd, held_fits}
+use Rattle.integers.specs.Bound.{bit}
 use Rattle.words.specs.Change.{word_at}
-use Rattle.tables.specs.Tables.{has_rule}
-use Rattle.marks.specs.Doubled.{split_word, TableSplit}
-use Rattle.marks.proofs.Pointwise.{DoneTo, done_none, done_more, done_kept, done_rest}
-use Rattle.marks.proofs.Doubling.{unruled_word}
-use Rattle.marks.proofs.Splitting.{split_half, split_odd, split_even, split_unruled}
+use Rattle.marks.specs.Doubled.{split_word}
+use Rattle.marks.proofs.Pointwise.{DoneTo}
 use Rattle.marks.proofs.doubled.split.Given as goal
-
 
 -- what goes to each place of the table and of the marks
 abbrev pub bound_at : List ℤ → ℕ → ℤ

@@ -1,11 +1,10 @@
 -- `rule::doubled` meets its contract: the cases are the definition's, and a bound that is doubled stays a word. Assumes nothing.
 use mathlib.Core.Path.{◌≡◌, ◌∙◌, ap, subst}
-use Prim.Native.Nat.{◌+◌, ◌^◌, ◌<◌}
+use Prim.Native.Nat.{◌^◌, ◌<◌}
 use native.Mathlib.Omega.{arith}
 use lib.IntN.{ℤ, pos, ◌+ℤ◌}
 use mir.Syntax.{w64}
 use mir.Val.{SFits, to_z, of_z}
-use borrow.Author.Rules.{rules}
 use borrow.Author.Tests.{eq-eqb, ne_eqb}
 use lib.Signed.{mag}
 use Rattle.integers.specs.Bound.{Within}
@@ -15,7 +14,6 @@ use Rattle.rules.specs.declared.rule.Rule.{Rule}
 use Rattle.rules.specs.Meaning.{bound_of}
 use Rattle.marks.specs.Doubled.{doubled_rule}
 use Rattle.marks.proofs.rule.doubled.Goals as goal
-
 
 -- a word as it is read back from its bits
 abbrev held : ℤ → ℤ

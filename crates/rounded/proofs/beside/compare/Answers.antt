@@ -1,11 +1,9 @@
 -- `beside::compare` meets its contract. The loop's invariant: the bytes passed tell what stands beside the rules, and the others stay. The measure is what is left. Assumes nothing.
 use mathlib.Core.Path.{◌≡◌, sym, ◌∙◌, ap}
-use mathlib.Core.Logic.{⊎_elim}
 use mathlib.Core.List.{List}
-use Prim.Native.Nat.{ℕ, ◌-◌, ◌≤◌}
+use Prim.Native.Nat.{ℕ}
 use native.Mathlib.Omega.{arith}
 use lib.IntN.{ℤ}
-use borrow.Author.Rules.{rules}
 use Rattle.integers.specs.Bound.{bit}
 use Rattle.integers.proofs.Parts.{held_value}
 use Rattle.words.specs.Change.{word_at}

@@ -1,18 +1,12 @@
 -- `beside::compare` meets its contract. The loop's invariant: the bytes passed tell what stands beside the rules, and the others stay. The measure is what is left. Assumes nothing.
-use mathlib.Core.Path.{◌≡◌, sym, ◌∙◌, ap}
-use mathlib.Core.Logic.{⊎_elim}
 use mathlib.Core.List.{List}
 use Prim.Native.Nat.{ℕ, ◌-◌, ◌≤◌}
-use native.Mathlib.Omega.{arith}
 use lib.IntN.{ℤ}
-use borrow.Author.Rules.{rules}
 use Rattle.integers.specs.Bound.{bit}
-use Rattle.integers.proofs.Parts.{held_value}
 use Rattle.words.specs.Change.{word_at}
-use Rattle.marks.proofs.Pointwise.{DoneTo, done_none, done_more, done_rest}
-use Rattle.rounded.specs.Inner.{beside_mark, ComparedBeside}
+use Rattle.marks.proofs.Pointwise.{DoneTo}
+use Rattle.rounded.specs.Inner.{beside_mark}
 use Rattle.rounded.proofs.beside.compare.Given as goal
-
 
 -- what goes to each place
 abbrev pub told_at : List ℤ → List ℤ → ℕ → ℕ

@@ -1,8 +1,6 @@
 -- `beside::hide` meets its contract. Assumes nothing.
 use mathlib.Core.Path.{◌≡◌, ◌∙◌, ap}
-use mathlib.Core.Logic.{⊎_elim}
 use lib.ListN.{length}
-use borrow.Author.Rules.{rules}
 use Rattle.rounded.proofs.MarkedFits.{marked_fits}
 use Rattle.rounded.proofs.BesideHidden.{mask_ready, hidden_met, part_ready, compare_ready, marked_some, marked_none}
 use Rattle.rounded.proofs.beside.hide.Lts as lts
@@ -49,7 +47,7 @@ pub returns : goal.returns
 returns c =
     elim c.if-count-n.branch [
       | then-count-n w ↦ marked_some _ _ _ _ _ _ c.requires.0 c.requires.1 c.size-m.ensures _ c.mask.ensures _ _ c.hide_set.ensures c.if-hide_set.false
-        (rw c.count.ensures at w.if-count-n.true) _ _ _ w.eliminate.ensures (rw w.copy-is at c.compare.ensures)
+          (rw c.count.ensures at w.if-count-n.true) _ _ _ w.eliminate.ensures (rw w.copy-is at c.compare.ensures)
       | else-count-n w ↦ marked_none _ _ _ _ _ _ c.requires.0 c.requires.1 c.size-m.ensures _ c.mask.ensures _ _ c.hide_set.ensures c.if-hide_set.false
-        (rw c.count.ensures at w.if-count-n.false) _ _ c.compare.ensures
+          (rw c.count.ensures at w.if-count-n.false) _ _ c.compare.ensures
     ]

@@ -1,26 +1,22 @@
 -- `beside::mask` meets its contract. The loop's invariant: at the places passed stands what goes beside their rules, and the others stay. The measure is what is left. Assumes nothing.
 use mathlib.Core.Path.{◌≡◌, refl, ◌∙◌}
 use mathlib.Core.Bool.{true}
-use mathlib.Core.Logic.{⊎_elim}
 use mathlib.Core.List.{List}
-use Prim.Native.Nat.{ℕ, ◌-◌, ◌≤◌, ◌^◌}
+use Prim.Native.Nat.{ℕ, ◌^◌}
 use native.Mathlib.Omega.{arith}
 use lib.IntN.{ℤ, pos}
 use mir.Syntax.{w64}
 use mir.Val.{to_z, of_z}
-use borrow.Author.Rules.{rules}
 use Rattle.integers.specs.Bound.{Within}
 use Rattle.integers.proofs.Parts.{held_value}
 use Rattle.words.specs.Change.{word_at}
 use Rattle.tables.specs.Tables.{has_rule}
 use Rattle.tables.proofs.Tests.{clash}
-use Rattle.marks.specs.Marks.{marked_of}
 use Rattle.marks.proofs.Pointwise.{DoneTo, done_none, done_more, done_rest}
 use Rattle.marks.proofs.Doubling.{read_fits, read_doubled}
-use Rattle.rounded.specs.Inner.{masked_word, Masked}
+use Rattle.rounded.specs.Inner.{Masked}
 use Rattle.rounded.proofs.Telling.{masked_unmarked, masked_marked, masked_unruled}
 use Rattle.rounded.proofs.beside.mask.Lts as lts
-use Rattle.rounded.proofs.beside.mask.Tie as tie
 use Rattle.rounded.proofs.beside.mask.Reads as reads
 use Rattle.rounded.proofs.beside.mask.Invariants.{masked_at}
 use Rattle.rounded.proofs.beside.mask.Goals as goal
@@ -72,12 +68,12 @@ loop-i-preserved c =
       omega arith,
       elim c.if-w-lt-NO_RULE.branch [
         | then-w-lt-NO_RULE+then-marks-i-ne1 w ↦
-          let e = w.if-w-lt-NO_RULE.true in
-          rw w.doubled-is (more _ c.loop-i.invariant.1 (omega (arith, c.requires.2)) (read_doubled _ _ c.w-1.given refl (small c.before.before e) ∙ masked_unmarked t marks c.loop-i.i (ruled c.before.before e) w.if-marks-i-ne1.true))
+            let e = w.if-w-lt-NO_RULE.true in
+            rw w.doubled-is (more _ c.loop-i.invariant.1 (omega (arith, c.requires.2)) (read_doubled _ _ c.w-1.given refl (small c.before.before e) ∙ masked_unmarked t marks c.loop-i.i (ruled c.before.before e) w.if-marks-i-ne1.true))
         | then-w-lt-NO_RULE+else-marks-i-ne1 w ↦
-          rw w.doubled-is (more _ c.loop-i.invariant.1 (omega (arith, c.requires.2)) (masked_marked t marks c.loop-i.i (ruled c.before.before w.if-w-lt-NO_RULE.true) w.if-marks-i-ne1.false))
+            rw w.doubled-is (more _ c.loop-i.invariant.1 (omega (arith, c.requires.2)) (masked_marked t marks c.loop-i.i (ruled c.before.before w.if-w-lt-NO_RULE.true) w.if-marks-i-ne1.false))
         | else-w-lt-NO_RULE w ↦
-          rw w.doubled-is (more _ c.loop-i.invariant.1 (omega (arith, c.requires.2)) (masked_unruled t marks c.loop-i.i (rw (held_value c.w-1.given) at w.if-w-lt-NO_RULE.false)))
+            rw w.doubled-is (more _ c.loop-i.invariant.1 (omega (arith, c.requires.2)) (masked_unruled t marks c.loop-i.i (rw (held_value c.w-1.given) at w.if-w-lt-NO_RULE.false)))
       ],
     )
 

@@ -1,24 +1,11 @@
 -- `beside::mask` meets its contract. The loop's invariant: at the places passed stands what goes beside their rules, and the others stay. The measure is what is left. Assumes nothing.
-use mathlib.Core.Path.{◌≡◌, refl, ◌∙◌}
-use mathlib.Core.Bool.{true}
-use mathlib.Core.Logic.{⊎_elim}
 use mathlib.Core.List.{List}
-use Prim.Native.Nat.{ℕ, ◌-◌, ◌≤◌, ◌^◌}
-use native.Mathlib.Omega.{arith}
+use Prim.Native.Nat.{ℕ, ◌-◌, ◌≤◌}
 use lib.IntN.{ℤ, pos}
-use borrow.Author.Rules.{rules}
-use Rattle.integers.specs.Bound.{Within}
-use Rattle.integers.proofs.Parts.{held_value}
-use Rattle.words.specs.Change.{word_at}
-use Rattle.tables.specs.Tables.{has_rule}
-use Rattle.tables.proofs.Tests.{clash}
 use Rattle.marks.specs.Marks.{marked_of}
-use Rattle.marks.proofs.Pointwise.{DoneTo, done_none, done_more, done_rest}
-use Rattle.marks.proofs.Doubling.{read_fits, read_doubled}
-use Rattle.rounded.specs.Inner.{masked_word, Masked}
-use Rattle.rounded.proofs.Telling.{masked_unmarked, masked_marked, masked_unruled}
+use Rattle.marks.proofs.Pointwise.{DoneTo}
+use Rattle.rounded.specs.Inner.{masked_word}
 use Rattle.rounded.proofs.beside.mask.Given as goal
-
 
 -- what goes to each place
 abbrev pub masked_at : List ℤ → List ℕ → ℕ → ℤ

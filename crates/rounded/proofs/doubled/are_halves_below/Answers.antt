@@ -1,10 +1,8 @@
 -- `doubled::are_halves_below` meets its contract: the tests are the definition's, and the sum of two halves fits. Assumes nothing.
-use mathlib.Core.Path.{◌≡◌}
 use native.Mathlib.Omega.{arith}
 use lib.IntN.{ℤ, ◌+ℤ◌}
 use mir.Syntax.{w64}
-use mir.Val.{SFits, to_z, of_z}
-use borrow.Author.Rules.{rules}
+use mir.Val.{SFits}
 use Rattle.integers.specs.Bound.{half}
 use Rattle.integers.proofs.Parts.{parts_add, parts_half, word_to, word_of, word_value}
 use Rattle.integers.proofs.Halving.{halves_half}

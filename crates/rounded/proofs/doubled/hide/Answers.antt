@@ -2,7 +2,6 @@
 use mathlib.Core.Path.{◌≡◌, sym, ◌∙◌, ap}
 use native.Mathlib.Omega.{arith}
 use lib.ListN.{length}
-use borrow.Author.Rules.{rules}
 use Rattle.places.specs.Numbering.{block_start}
 use Rattle.tables.proofs.Sizes.{size_known}
 use Rattle.marks.specs.Doubled.{TableDoubled, TableSplit}
@@ -22,7 +21,6 @@ After-double = lts.After-double tie.the-claims reads.Pre reads.Post
 
 abbrev After-split : Type 0
 After-split = lts.After-split tie.the-claims reads.Pre reads.Post
-
 
 -- the size of the table
 sized : (c : After-size-m) → c.size-m.result ≡ block_start c.args.n

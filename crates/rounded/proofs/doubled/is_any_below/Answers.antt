@@ -3,11 +3,10 @@ use mathlib.Core.Path.{◌≡◌, refl, sym, ◌∙◌}
 use Prim.Native.Nat.{◌+◌, ◌-◌, ◌*◌, ◌≤◌, ◌<◌}
 use native.Mathlib.Omega.{arith}
 use lib.ListN.{length}
-use borrow.Author.Rules.{rules}
 use Rattle.integers.proofs.Parts.{held_value}
 use Rattle.words.specs.Change.{word_at}
 use Rattle.rules.specs.Hidden.{hidden_in}
-use Rattle.rounded.specs.Inner.{halves_below, any_halves_below}
+use Rattle.rounded.specs.Inner.{halves_below}
 use Rattle.rounded.proofs.HalvesBelow.{block_most, block_room, none_left, one_passed, one_not_below, one_below}
 use Rattle.rounded.proofs.doubled.is_any_below.Lts as lts
 use Rattle.rounded.proofs.doubled.is_any_below.Tie as tie
@@ -75,11 +74,10 @@ pub loop-j-smaller-else-are_halves_below : goal.loop-j-smaller-else-are_halves_b
 loop-j-smaller-else-are_halves_below c = omega arith
 
 pub loop-j-preserved-else-are_halves_below : goal.loop-j-preserved-else-are_halves_below
-loop-j-preserved-else-are_halves_below c =
-    (
-      omega arith,
-      sym (one_not_below (hidden_in c.args.set) c.loop-j.j c.args.table.now c.loop-j-test.true (sym (tested c.before) ∙ c.if-are_halves_below.false)) ∙ c.loop-j.invariant.1,
-    )
+loop-j-preserved-else-are_halves_below c = (
+  omega arith,
+  sym (one_not_below (hidden_in c.args.set) c.loop-j.j c.args.table.now c.loop-j-test.true (sym (tested c.before) ∙ c.if-are_halves_below.false)) ∙ c.loop-j.invariant.1,
+)
 
 pub loop-j-smaller : goal.loop-j-smaller
 loop-j-smaller c = omega arith

@@ -1,6 +1,4 @@
 -- `hide::hide_set` meets its contract: either way of hiding meets it. Assumes nothing.
-use borrow.Author.Rules.{rules}
-use borrow.Author.Tests.{not-true}
 use Rattle.rounded.proofs.hide.hide_set.Goals as goal
 
 pub hide-requires : goal.hide-requires

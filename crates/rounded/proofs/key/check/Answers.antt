@@ -1,6 +1,4 @@
 -- `key::check` meets its contract: the marks' length before the key call's checks, the marks after them. Assumes nothing.
-use borrow.Author.Rules.{rules}
-use borrow.Author.Tests.{not-true, not-false}
 use Rattle.rounded.proofs.Checking.{checked_short, checked_before, checked_marks, checked_done}
 use Rattle.rounded.proofs.key.check.Goals as goal
 

@@ -1,5 +1,4 @@
 -- `key::key` meets its contract: the checks, then the key and its marks made where some integers satisfy the sheet. Assumes nothing.
-use borrow.Author.Rules.{rules}
 use Rattle.keys.proofs.Promised.{untouched}
 use Rattle.rounded.proofs.Checking.{marked_stands}
 use Rattle.rounded.proofs.Promised.{marked_refused, marked_five, marked_made}

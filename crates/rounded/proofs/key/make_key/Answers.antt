@@ -1,5 +1,4 @@
 -- `key::make_key` meets its contract: table and marks are copied, hidden quantities hidden in the copies, and the key decided. Assumes nothing.
-use borrow.Author.Rules.{rules}
 use Rattle.rounded.proofs.Making.{room_kept, bytes_room, copies_fit, marked_early, back_room, marked_rest, marked_late, marked_done}
 use Rattle.rounded.proofs.key.make_key.Goals as goal
 

@@ -1,7 +1,6 @@
 -- `key::try_key` meets its contract: the room taken is long enough for n. Assumes nothing.
 use Rattle.places.specs.Numbering.{block_start}
 use Rattle.places.proofs.Numbering.{block_start_mono}
-use borrow.Author.Rules.{rules}
 use Rattle.rounded.proofs.key.try_key.Goals as goal
 
 pub make_key-requires : goal.make_key-requires

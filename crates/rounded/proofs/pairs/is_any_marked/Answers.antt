@@ -1,10 +1,9 @@
 -- `pairs::is_any_marked` meets its contract. The loop's invariant: no pair of the quantities passed is marked. The measure is the quantities left. Assumes nothing.
 use mathlib.Core.Path.{◌≡◌, refl}
-use Prim.Native.Nat.{◌+◌, ◌-◌, ◌*◌, ◌≤◌}
+use Prim.Native.Nat.{◌+◌, ◌*◌, ◌≤◌}
 use native.Mathlib.Omega.{arith}
 use lib.ListN.{length}
 use Rattle.tables.proofs.Tests.{clash}
-use Rattle.rounded.specs.Inner.{PairsUnmarked}
 use Rattle.rounded.proofs.HalvesBelow.{block_most, block_room}
 use Rattle.rounded.proofs.PairMarks.{none_passed, block_passed}
 use Rattle.rounded.proofs.pairs.is_any_marked.Lts as lts

@@ -1,14 +1,7 @@
 -- `pairs::is_any_marked` meets its contract. The loop's invariant: no pair of the quantities passed is marked. The measure is the quantities left. Assumes nothing.
-use mathlib.Core.Path.{◌≡◌, refl}
-use Prim.Native.Nat.{◌+◌, ◌-◌, ◌*◌, ◌≤◌}
-use native.Mathlib.Omega.{arith}
-use lib.ListN.{length}
-use Rattle.tables.proofs.Tests.{clash}
+use Prim.Native.Nat.{◌-◌, ◌≤◌}
 use Rattle.rounded.specs.Inner.{PairsUnmarked}
-use Rattle.rounded.proofs.HalvesBelow.{block_most, block_room}
-use Rattle.rounded.proofs.PairMarks.{none_passed, block_passed}
 use Rattle.rounded.proofs.pairs.is_any_marked.Given as goal
-
 
 abbrev pub invariant-loop-b : goal.invariant-loop-b
 invariant-loop-b l = (l.b ≤ l.n) × PairsUnmarked l.b l.marks

@@ -1,15 +1,9 @@
 -- `pairs::is_any_set` meets its contract. The loop's invariant: the bytes passed are 0. The measure is the bytes left. Assumes nothing.
-use mathlib.Core.Path.{◌≡◌, refl}
-use mathlib.Core.Bool.{Bool, true, false}
+use mathlib.Core.Path.{◌≡◌}
 use mathlib.Core.List.{List}
-use Prim.Native.Nat.{ℕ, ◌+◌, ◌-◌, ◌≤◌, ◌<◌}
-use native.Mathlib.Omega.{arith}
-use lib.Dec.{ltb}
-use borrow.Author.Tests.{ltb-true, ltb-false}
+use Prim.Native.Nat.{ℕ, ◌-◌, ◌≤◌, ◌<◌}
 use Rattle.marks.specs.Marks.{byte_at}
-use Rattle.tables.proofs.Tests.{clash}
 use Rattle.rounded.proofs.pairs.is_any_set.Given as goal
-
 
 -- the bytes from one place to another are 0
 abbrev pub Zeros : ℕ → ℕ → List ℕ → Type 0

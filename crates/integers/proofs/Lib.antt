@@ -2,4 +2,5 @@
 pub mod Parts
 pub mod Orders
 pub mod Within
+pub mod Halving
 mod Examples

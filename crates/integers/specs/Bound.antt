@@ -1,5 +1,5 @@
 -- The operations on a bound, over unbounded integers, and the range of a signed 64-bit word.
-use Rattle.std.specs.Prelude.{Bool, cond, ◌^◌, ltb, ℤ, pos, negsuc, neg_ℤ, ◌+ℤ◌, ◌≤ℤ◌}
+use Rattle.std.specs.Prelude.{Bool, true, false, cond, ◌≡◌, ℕ, ◌^◌, ltb, ℤ, pos, negsuc, neg_ℤ, ◌+ℤ◌, ◌≤ℤ◌}
 use Rattle.std.specs.Int.Signed.{mag, lt_z, shr_z}
 use Rattle.integers.specs.declared.Total.{Total}
 use Rattle.integers.specs.declared.Total.TheVariants.{Sum, Overflow}
@@ -7,6 +7,21 @@ use Rattle.integers.specs.declared.Total.TheVariants.{Sum, Overflow}
 -- c halved and rounded toward minus infinity: 7 gives 3, 0 gives 0, -1 gives -1, -3 gives -2. (`shr_z c m` is c divided by m, rounded down.)
 unfoldable pub half : ℤ → ℤ
 half c = shr_z c 2
+
+-- is c odd? -1 is: it is twice its half -1, and 1 more
+unfoldable pub odd : ℤ → Bool
+odd c = lt_z (half c +ℤ half c) c
+
+-- a truth as a number: 1 or 0
+abbrev pub bit : Bool → ℕ
+bit true = 1
+bit false = 0
+
+-- c halved, and whether it was odd: c is twice its half, and 1 more where it was (document 02, [6])
+pub record Halves (c h : ℤ) (o : Bool) : Type 0 where
+  pub result : h ≡ half c
+  pub lost : o ≡ odd c
+  pub whole : c ≡ (h +ℤ h) +ℤ pos (bit o)
 
 -- the bound of the opposite of `t ≤ c`, which is `-t ≤ -c - 1`
 unfoldable pub opposite_bound : ℤ → ℤ

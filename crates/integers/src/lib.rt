@@ -2,7 +2,7 @@
 #![tactic(auto)]
 
 ghost use Rattle.std.specs.Prelude.{◌≡◌, nat_abs, ◌+ℤ◌};
-ghost use Rattle.integers.specs.Bound.{half, opposite_bound, smaller, saturated, total_of};
+ghost use Rattle.integers.specs.Bound.{half, opposite_bound, smaller, saturated, total_of, Halves};
 
 // The ends of the range of a word.
 const LEAST: i64 = -9_223_372_036_854_775_808;
@@ -14,6 +14,24 @@ pub fn halved(c: i64) -> i64
     ensures { result ≡ half c }
 {
     c >> 1
+}
+
+// A number halved: the half, rounded toward minus infinity, and whether the number was odd, so that rounding lost a half.
+#[derive(Clone, Copy)]
+pub struct Half {
+    pub half: i64,
+    pub odd: bool,
+}
+
+// `c` halved, and whether it was odd.
+pub fn halve(c: i64) -> Half
+    ensures { Halves c result.half result.odd }
+{
+    let half = c >> 1;
+    Half {
+        half,
+        odd: half + half < c,
+    }
 }
 
 // The bound of the opposite rule, `-c - 1`, which fits for every word.

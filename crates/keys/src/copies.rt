@@ -21,7 +21,7 @@ fn copy_on(words: &mut [i64], m: usize)
 }
 
 // Clears the places of each quantity of the set.
-fn clear_set(n: usize, set: Set, table: &mut [i64])
+pub fn clear_set(n: usize, set: Set, table: &mut [i64])
     requires { (n ≤ max_quantities) × (block_start n ≤ length table.old) }
     ensures { table.new ≡ set_cleared n set table.old }
 {

@@ -1,6 +1,6 @@
 -- The rule's methods: constructor, opposite, halved, and the sum with another rule.
-use Rattle.std.specs.Prelude.{Bool, true, false, cond, ℕ, zero, suc, eqb, ltb, ℤ, pos, negsuc, ◌+ℤ◌}
-use Rattle.integers.specs.Bound.{half, opposite_bound, in_word, saturated}
+use Rattle.std.specs.Prelude.{Bool, true, false, cond, ◌&&◌, ℕ, zero, suc, eqb, ltb, ℤ, pos, negsuc, ◌+ℤ◌}
+use Rattle.integers.specs.Bound.{half, odd, opposite_bound, in_word, saturated}
 use Rattle.rules.specs.declared.rule.Rule.{Rule}
 use Rattle.rules.specs.declared.rule.Rule.TheVariants.{One, Two, Nothing}
 use Rattle.rules.specs.declared.rule.Partner.{Partner}
@@ -37,6 +37,12 @@ unfoldable pub halved_of : Rule → Rule
 halved_of (One x c) = One x c
 halved_of (Two x y c) = cond (eqb x y) (One x (half c)) (Two x y c)
 halved_of (Nothing c) = Nothing c
+
+-- does halving it lose a half (document 02, [6])? A doubled term with an odd bound does
+unfoldable pub loses_half : Rule → Bool
+loses_half (One x c) = false
+loses_half (Two x y c) = eqb x y && odd c
+loses_half (Nothing c) = false
 
 -- the rule with its lower quantity first, as it stands in a table and as the writer spells it
 unfoldable pub in_order : Rule → Rule

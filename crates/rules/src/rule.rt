@@ -4,7 +4,7 @@ ghost use Rattle.rules.specs.declared.rule.Rule.TheVariants.{One};
 ghost use Rattle.rules.specs.declared.rule.Partner.TheVariants.{With};
 ghost use Rattle.rules.specs.Literal.{literal_of};
 ghost use Rattle.rules.specs.Meaning.{bound_of};
-ghost use Rattle.rules.specs.Steps.{trivial_rule, partner_of, rest_rule, fitted};
+ghost use Rattle.rules.specs.Steps.{trivial_rule, loses_half, partner_of, rest_rule, fitted};
 ghost use Rattle.rules.specs.Promises.{Made, Opposite, Halved, Added};
 
 use crate::literal;
@@ -125,6 +125,30 @@ impl Rule {
                 bound: _,
             } => self,
             Rule::Nothing { bound: _ } => self,
+        }
+    }
+
+    // Whether halving the rule loses a half: its term is doubled and its bound odd.
+    pub fn loses_half(self) -> bool
+        ensures { result ≡ loses_half self }
+    {
+        match self {
+            Rule::Two {
+                first,
+                second,
+                bound,
+            } => {
+                if first == second {
+                    let half = integers::halve(bound);
+                    return half.odd;
+                }
+                false
+            }
+            Rule::One {
+                literal: _,
+                bound: _,
+            } => false,
+            Rule::Nothing { bound: _ } => false,
         }
     }
 

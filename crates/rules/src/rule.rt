@@ -138,11 +138,11 @@ impl Rule {
                 second,
                 bound,
             } => {
-                if first == second {
-                    let half = integers::halve(bound);
-                    return half.odd;
+                if first != second {
+                    return false;
                 }
-                false
+                let half = integers::halve(bound);
+                half.odd
             }
             Rule::One {
                 literal: _,

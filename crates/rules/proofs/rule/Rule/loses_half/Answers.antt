@@ -6,16 +6,16 @@ use Rattle.rules.proofs.rule.Rule.loses_half.Goals as goal
 
 pub returns-then-first-second : goal.returns-then-first-second
 unfolding loses_half
-returns-then-first-second c = rw (c.halve-half.ensures.lost, held_value c.in-Two.known_told-1-own.given.1.1.0.1, c.in-Two.is, eq-eqb _ _ c.if-first-second.true)
+returns-then-first-second c = rw (c.in-Two.is, ne_eqb _ _ c.if-first-second.true)
 
 pub returns-else-first-second : goal.returns-else-first-second
 unfolding loses_half
-returns-else-first-second c = (rw (c.in-Two.is, ne_eqb _ _ c.if-first-second.false))
+returns-else-first-second c = rw (c.halve-half.ensures.lost, held_value c.in-Two.known_told-1-own.given.1.1.0.1, c.in-Two.is, eq-eqb _ _ c.if-first-second.false)
 
 pub returns-in-One : goal.returns-in-One
 unfolding loses_half
-returns-in-One c = (rw c.in-One.is)
+returns-in-One c = rw c.in-One.is
 
 pub returns-in-Nothing : goal.returns-in-Nothing
 unfolding loses_half
-returns-in-Nothing c = (rw c.in-Nothing.is)
+returns-in-Nothing c = rw c.in-Nothing.is

@@ -1,4 +1,5 @@
 -- The contract of `acornsled_ask`, from that of the call. Assumes nothing.
+use Rattle.std.specs.Prelude.{Ok, Err}
 use mathlib.Core.Path.{◌≡◌, refl, sym, ◌∙◌, ap}
 use mathlib.Core.Logic.Iff
 use mathlib.Core.Logic.{◌↔◌}
@@ -6,38 +7,45 @@ use mathlib.Core.List.{List}
 use Prim.Native.Nat.{ℕ}
 use lib.IntN.{ℤ}
 use Rattle.rules.specs.declared.refusal.Refusal.{Refusal}
-use Rattle.rules.specs.Refusal.{refused_as}
+use Rattle.rules.specs.Refusal.{refusal_number, refused_as, answer_value}
 use Rattle.rules.proofs.Refusals.{same_refusal_value, same_refusal, refusal-number}
 use Rattle.tables.proofs.Refusing.{decided_as}
-use Rattle.questions.specs.declared.reply.Asked.{Asked}
-use Rattle.questions.specs.declared.reply.Asked.TheVariants.{Answered, Refused}
-use Rattle.questions.specs.Replies.{asked_returned, asked_number, asked_value, answers_after}
+use Rattle.questions.specs.declared.reply.Answers.{Answers}
+use Rattle.questions.specs.Replies.{Asked, asked_returned, asked_number, asked_value, answers_after}
 use Rattle.questions.specs.Promises.{QuestionsAsked}
 use Rattle.acornsled.specs.Promises.{TellsRefusal, AskAnswer}
 use Rattle.acornsled.proofs.Promised.{number}
 
 -- a reply by its number and value is a reply as it is returned
 asked_told : (x : Asked) (f : Refusal) → TellsRefusal (asked_number x) (asked_value x) f ↔ (asked_returned x ≡ refused_as f)
-asked_told (Answered c a) f = (λ e. absurd (refusal-number f (sym e.0)), λ e. absurd (refusal-number f (sym (ap number e))))
-asked_told (Refused g) f = (λ e. ap refused_as (same_refusal_value g f e.0 e.1), λ e. let d = same_refusal g f e in (rw d, rw d))
+asked_told (Ok a) f = (λ e. absurd (refusal-number f (sym e.0)), λ e. absurd (refusal-number f (sym (ap number e))))
+asked_told (Err g) f = (λ e. ap refused_as (same_refusal_value g f e.0 e.1), λ e. let d = same_refusal g f e in (rw d, rw d))
 
-module _ (n : ℕ) (t list w : List ℤ) (before : ℕ) (w' : List ℤ) (asked : Asked) (q : QuestionsAsked n t list w asked w') where
+-- its line or length is that of an answer that may be refused
+asked-value : (x : Asked) → answer_value x ≡ asked_value x
+asked-value (Ok a) = refl
+asked-value (Err f) = refl
+
+module _ {n : ℕ} {t list w : List ℤ} {before : ℕ} {w' : List ℤ} {asked : Asked} (q : QuestionsAsked n t list w asked w') where
   -- refused: the answers stay
-  pub ask_refused : (f : Refusal) (r v : ℕ) → asked ≡ Refused f → r ≡ asked_number asked → v ≡ asked_value asked → AskAnswer n t list w before r v w' before
-  ask_refused f r v e d g = record {
-    number = d ∙ ap asked_number q.reply;
-    value = g ∙ ap asked_value q.reply;
-    bits = sym (ap (answers_after before) (sym q.reply ∙ e));
-    decided = rw (d, g) (decided_as q.decided (asked_told asked) Iff.rfl);
-    call = rw (sym q.reply) q;
-    answered = λ z. absurd (refusal-number f (sym (ap asked_number e) ∙ sym d ∙ z));
-    kept = λ z. refl;
-  }
+  pub ask_refused : {f : Refusal} {r v : ℕ} → asked ≡ Err f → r ≡ refusal_number f → v ≡ answer_value asked → AskAnswer n t list w before r v w' before
+  ask_refused {f} {r} {v} e k h =
+      let d : r ≡ asked_number asked = k ∙ sym (ap asked_number e) in
+      let g : v ≡ asked_value asked = h ∙ asked-value asked in
+      record {
+        number = d ∙ ap asked_number q.reply;
+        value = g ∙ ap asked_value q.reply;
+        bits = sym (ap (answers_after before) (sym q.reply ∙ e));
+        decided = rw (d, g) (decided_as q.decided (asked_told asked) Iff.rfl);
+        call = rw (sym q.reply) q;
+        answered = λ z. absurd (refusal-number f (sym (ap asked_number e) ∙ sym d ∙ z));
+        kept = λ z. refl;
+      }
 
-  -- answered
-  pub ask_answered : (c a r v : ℕ) → asked ≡ Answered c a → r ≡ asked_number asked → v ≡ asked_value asked → AskAnswer n t list w before r v w' a
-  ask_answered c a r v e d g =
-      let l = q.answered c a e in
+  -- answered, by a number that is the reply's
+  answered_as : {a : Answers} (r v : ℕ) → asked ≡ Ok a → r ≡ asked_number asked → v ≡ asked_value asked → AskAnswer n t list w before r v w' a.bits
+  answered_as {a} r v e d g =
+      let l = q.answered a e in
       record {
         number = d ∙ ap asked_number q.reply;
         value = g ∙ ap asked_value q.reply;
@@ -47,3 +55,6 @@ module _ (n : ℕ) (t list w : List ℤ) (before : ℕ) (w' : List ℤ) (asked :
         answered = λ z. l;
         kept = λ z. absurd (z (d ∙ ap asked_number e));
       }
+
+  pub ask_answered : {a : Answers} {v : ℕ} → asked ≡ Ok a → v ≡ answer_value asked → AskAnswer n t list w before 0 v w' a.bits
+  ask_answered {v = v} e h = answered_as 0 v e (sym (ap asked_number e)) (h ∙ asked-value asked)

@@ -17,7 +17,7 @@ use Rattle.marking.proofs.Frauds.{same, no_rule_given}
 use Rattle.marking.proofs.Frauds.{equal_on_all as not_equal}
 use Rattle.marking.proofs.Frauds.{loose_on_all as not_loose}
 use Rattle.numerals.specs.Bytes.{bytes}
-use Rattle.scripts.specs.declared.reply.TextMarking.TheVariants.{Marked}
+use Rattle.scripts.specs.Replies.{marked}
 use Rattle.scripts.specs.Replies.{text_number, text_paper, text_value}
 use Rattle.reports.proofs.Cases.{sheet_a, wide, narrow, reckoning}
 use Rattle.reports.proofs.Shown.{sum_rule, wide_loose, narrow_tight}
@@ -47,7 +47,7 @@ pub loose_reasons : (n : ℕ) (rule values : List ℤ) (r p v n' : ℕ) (rule' v
     → (r ≡ 101) × (p ≡ 0) × (v ≡ 0) × (n' ≡ 3) × (rule' ≡ pos 1 ∷ pos 3 ∷ pos 5 ∷ [])
 unfolding rule_of
 loose_reasons n rule values r p v n' rule' values' h m =
-    let e : host_reply (bytes wide.sheet) (bytes wide.script) (length values) ≡ Marked 3 (Loose sum_rule) = rw h wide_loose in (
+    let e : host_reply (bytes wide.sheet) (bytes wide.script) (length values) ≡ marked 3 (Loose sum_rule) = rw h wide_loose in (
       m.number ∙ ap text_number e,
       m.paper ∙ ap text_paper e,
       m.value ∙ ap text_value e,

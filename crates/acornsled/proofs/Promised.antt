@@ -1,4 +1,5 @@
 -- The exported functions' contracts, from those of the calls. Assumes nothing.
+use Rattle.std.specs.Prelude.{Ok, Err}
 use mathlib.Core.Path.{◌≡◌, refl, sym, ap, ◌∙◌}
 use mathlib.Core.Bool.{Bool, true, false}
 use mathlib.Core.Logic.Iff
@@ -10,9 +11,6 @@ use lib.IntN.{ℤ, pos}
 use lib.Dec.{leb}
 use lib.ListN.{length, take}
 use borrow.Author.Tests.{leb-true, leb-false}
-use Rattle.tables.specs.declared.reply.Reply.{Reply}
-use Rattle.tables.specs.declared.reply.Reply.TheVariants.{Done}
-use Rattle.tables.specs.declared.reply.Reply.TheVariants.{Refused as NotDone}
 use Rattle.keys.specs.Promises.{Keyed, Assigned}
 use Rattle.steps.specs.Promises.{StepFollowed}
 use Rattle.tightening.specs.Promises.{TightKeyed}
@@ -20,25 +18,25 @@ use Rattle.rules.specs.declared.refusal.Refusal.{Refusal}
 use Rattle.rules.specs.Hidden.{hidden_in}
 use Rattle.rules.specs.Limits.{max_quantities}
 use Rattle.rules.specs.declared.paper.Paper.TheVariants.{Sheet as OfSheet, Script as OfScript}
-use Rattle.rules.specs.Refusal.{refusal_number, refusal_value, Returned, refused_as}
+use Rattle.rules.specs.declared.sheet.Sheet.{Sheet as Header}
+use Rattle.rules.specs.Refusal.{refusal_number, refusal_value, Returned, refused_as, answer_number, answer_value}
 use Rattle.rules.proofs.Refusals.{same_refusal_value, same_refusal, refusal-number, refusal_below}
 use Rattle.rules.specs.RuleWords.{rule_values, no_rule_words, rule_of_words}
-use Rattle.tables.specs.Replies.{reply_returned, reply_number, reply_value}
+use Rattle.tables.specs.Replies.{Reply, reply_returned, reply_number, reply_value}
 use Rattle.tables.specs.Meaning.{Unsatisfiable, Solutions}
 use Rattle.tables.proofs.Tests.{clash}
 use Rattle.tables.proofs.Refusing.{decided_as}
 use Rattle.marking.specs.declared.verdict.Verdict.{Verdict}
 use Rattle.marking.specs.declared.verdict.Verdict.TheVariants.{Equal, Loose, Tight}
-use Rattle.marking.specs.Verdicts.{verdict_number, carried_words}
+use Rattle.marking.specs.Verdicts.{verdict_number, verdict_returned, carried_words}
 use Rattle.marking.specs.Meaning.{VerdictMeans}
 use Rattle.marking.proofs.Carried.{verdict_from, words_values, loose_words}
 use Rattle.scripts.specs.declared.reply.Subject.{Subject}
 use Rattle.scripts.specs.declared.reply.Subject.TheVariants.{Sheet, Script, Both}
 use Rattle.scripts.specs.declared.room.Lengths.{Lengths}
-use Rattle.scripts.specs.declared.reply.TextMarking.{TextMarking}
-use Rattle.scripts.specs.declared.reply.TextMarking.TheVariants.{Marked}
-use Rattle.scripts.specs.declared.reply.TextMarking.TheVariants.{Refused as NotMarked}
-use Rattle.scripts.specs.Replies.{texts_returned, text_number, text_value, paper_number, text_paper}
+use Rattle.scripts.specs.declared.reply.Marked.{Marked}
+use Rattle.scripts.specs.declared.reply.PaperRefusal.{PaperRefusal}
+use Rattle.scripts.specs.Replies.{TextMarking, refused_for, texts_returned, text_number, text_value, paper_number, text_paper}
 use Rattle.scripts.specs.Marking.{texts_reply, count_in}
 use Rattle.scripts.specs.Meaning.{set_in, table_in, AcceptedPair, RefusedPair, own_lengths}
 use Rattle.scripts.specs.Promises.{PairJudged, TextsJudged, MarkedInOwnRoom}
@@ -46,15 +44,10 @@ use Rattle.scripts.proofs.Sheets.{fine_table}
 use Rattle.scripts.proofs.OwnKeys.{own_in_room}
 use Rattle.scripts.proofs.Judging.{texts_refused}
 use Rattle.scripts.proofs.OwnRoom.{same_reply}
-use Rattle.reading.specs.declared.read.Reading.{Reading}
-use Rattle.reading.specs.declared.read.Reading.TheVariants.{Accepted, Refused}
-use Rattle.reading.specs.Reading.{read_reply, reading_returned, reading_number, reading_value}
+use Rattle.reading.specs.Reading.{Reading, read_reply, reading_returned, reading_number, reading_value}
 use Rattle.reading.specs.Meaning.{Readable, rules_of, RefusedFor, AcceptedAs}
 use Rattle.reading.specs.Promises.{ReadInto}
-use Rattle.writing.specs.declared.write.Writing.{Writing}
-use Rattle.writing.specs.declared.write.Writing.TheVariants.{Text}
-use Rattle.writing.specs.declared.write.Writing.TheVariants.{Refused as NotWritten}
-use Rattle.writing.specs.Writing.{writing_returned, writing_number, writing_value}
+use Rattle.writing.specs.Writing.{Writing, writing_returned, writing_number, writing_value}
 use Rattle.writing.specs.Promises.{TextWritten}
 use Rattle.bank.specs.Banking.{bank_reply}
 use Rattle.bank.specs.Meaning.{BankRefusedFor, BankAcceptedAs}
@@ -68,16 +61,16 @@ abbrev pub number : Returned → ℕ
 number x = x.number
 
 reply_told_as : (x : Reply) (f : Refusal) → TellsRefusal (reply_number x) (reply_value x) f ↔ (reply_returned x ≡ refused_as f)
-reply_told_as Done f = (λ e. absurd (refusal-number f (sym e.0)), λ e. absurd (refusal-number f (sym (ap number e))))
-reply_told_as (NotDone g) f = (λ e. ap refused_as (same_refusal_value g f e.0 e.1), λ e. let d = same_refusal g f e in (rw d, rw d))
+reply_told_as (Ok x) f = (λ e. absurd (refusal-number f (sym e.0)), λ e. absurd (refusal-number f (sym (ap number e))))
+reply_told_as (Err g) f = (λ e. ap refused_as (same_refusal_value g f e.0 e.1), λ e. let d = same_refusal g f e in (rw d, rw d))
 
 reading_told : (x : Reading) (f : Refusal) → TellsRefusal (reading_number x) (reading_value x) f ↔ (reading_returned x ≡ refused_as f)
-reading_told (Accepted n set) f = (λ e. absurd (refusal-number f (sym e.0)), λ e. absurd (refusal-number f (sym (ap number e))))
-reading_told (Refused g) f = (λ e. ap refused_as (same_refusal_value g f e.0 e.1), λ e. let d = same_refusal g f e in (rw d, rw d))
+reading_told (Ok x) f = (λ e. absurd (refusal-number f (sym e.0)), λ e. absurd (refusal-number f (sym (ap number e))))
+reading_told (Err g) f = (λ e. ap refused_as (same_refusal_value g f e.0 e.1), λ e. let d = same_refusal g f e in (rw d, rw d))
 
 writing_told : (x : Writing) (f : Refusal) → TellsRefusal (writing_number x) (writing_value x) f ↔ (writing_returned x ≡ refused_as f)
-writing_told (Text m) f = (λ e. absurd (refusal-number f (sym e.0)), λ e. absurd (refusal-number f (sym (ap number e))))
-writing_told (NotWritten g) f = (λ e. ap refused_as (same_refusal_value g f e.0 e.1), λ e. let d = same_refusal g f e in (rw d, rw d))
+writing_told (Ok x) f = (λ e. absurd (refusal-number f (sym e.0)), λ e. absurd (refusal-number f (sym (ap number e))))
+writing_told (Err g) f = (λ e. ap refused_as (same_refusal_value g f e.0 e.1), λ e. let d = same_refusal g f e in (rw d, rw d))
 
 -- ---- the calls
 
@@ -119,21 +112,36 @@ assignment_answer n t w u w' u' reply r v k e d = record {
 
 -- ---- reading
 
+-- a reply's line or length is that of an answer that may be refused
+reading-value : (x : Reading) → answer_value x ≡ reading_value x
+reading-value (Ok sheet) = refl
+reading-value (Err f) = refl
+
 -- a text that is refused leaves n and the hidden set
-pub reading_refused : (reply : Reading) (n set : ℕ) (f : Refusal) (r v : ℕ) → reply ≡ Refused f → r ≡ reading_number reply → v ≡ reading_value reply
+pub reading_refused : {reply : Reading} {n set r v : ℕ} {f : Refusal} → reply ≡ Err f → r ≡ refusal_number f → v ≡ answer_value reply
     → ReadingTold reply n set r v n set
-reading_refused reply n set f r v q e d = record { number = e; value = d; count = sym (ap (count_read n) q); hidden = sym (ap (set_read set) q) }
+reading_refused {reply} {n} {set} q e d = record {
+  number = e ∙ sym (ap reading_number q);
+  value = d ∙ reading-value reply;
+  count = sym (ap (count_read n) q);
+  hidden = sym (ap (set_read set) q);
+}
 
 -- one that is accepted gives them
-pub reading_accepted : (reply : Reading) (n set n' set' v : ℕ) → reply ≡ Accepted n' set' → v ≡ reading_value reply → ReadingTold reply n set 0 v n' set'
-reading_accepted reply n set n' set' v q d =
-    record { number = sym (ap reading_number q); value = d; count = sym (ap (count_read n) q); hidden = sym (ap (set_read set) q) }
+pub reading_accepted : {reply : Reading} {n set v : ℕ} {sheet : Header} → reply ≡ Ok sheet → v ≡ answer_value reply
+    → ReadingTold reply n set 0 v sheet.quantities sheet.hidden
+reading_accepted {reply} {n} {set} q d = record {
+  number = sym (ap reading_number q);
+  value = d ∙ reading-value reply;
+  count = sym (ap (count_read n) q);
+  hidden = sym (ap (set_read set) q);
+}
 
 -- 0 is the number of an accepted text, with n and the hidden set afterwards
 read_zero : (Why : ℕ → ℕ → Type 0) (n set : ℕ) (reply : Reading) → ((m h : ℕ) → (reading_returned reply ≡ record { number = 0; values = pos m ∷ pos h ∷ [] }) ↔ Why m h)
     → (reading_number reply ≡ 0) ↔ Why (count_read n reply) (set_read set reply)
-read_zero Why n set (Accepted m h) a = (λ e. (a m h).0 refl, λ x. refl)
-read_zero Why n set (Refused f) a = (λ e. absurd (refusal-number f e), λ x. ap number ((a n set).1 x))
+read_zero Why n set (Ok sheet) a = (λ e. (a sheet.quantities sheet.hidden).0 refl, λ x. refl)
+read_zero Why n set (Err f) a = (λ e. absurd (refusal-number f e), λ x. ap number ((a n set).1 x))
 
 -- either reading, by its reasons
 read_answer_by : (reply : Reading) (RefusedWhy : Refusal → Type 0) (AcceptedWhy : ℕ → ℕ → Type 0) (Promised : Type 0) (n set r v n' set' : ℕ)
@@ -164,9 +172,13 @@ bank_answer s t t' n set n' set' reply r v k e =
 
 -- ---- writing
 
+writing-number : (x : Writing) → answer_number x ≡ writing_number x
+writing-number (Ok m) = refl
+writing-number (Err f) = refl
+
 pub write_answer : (n set : ℕ) (t : List ℤ) (out out' : List ℕ) (reply : Writing) (r v : ℕ) → TextWritten n set t out reply out'
-    → r ≡ writing_number reply → v ≡ writing_value reply → WriteAnswer n set t out r v out'
-write_answer n set t out out' reply r v k e d = record {
+    → r ≡ answer_number reply → v ≡ writing_value reply → WriteAnswer n set t out r v out'
+write_answer n set t out out' reply r v k c d = let e : r ≡ writing_number reply = c ∙ writing-number reply in record {
   number = e ∙ ap writing_number k.reply;
   value = d ∙ ap writing_value k.reply;
   decided = rw (e, d) (decided_as k.decided (writing_told reply) Iff.rfl);
@@ -186,15 +198,19 @@ refused_number sheet script r j k h = (
 )
   where
     told : (x : TextMarking) → x ≡ texts_reply sheet script (own_lengths max_quantities) → text_number x ≡ k → RefusedWith sheet script k
-    told (Marked n v) i e = absurd (omega (arith, verdict_from v))
-    told (NotMarked p f) i e =
-        record { paper = p; refusal = f; reason = (texts_refused sheet script (own_lengths max_quantities) p f).0 (sym i); number = sym e }
+    told (Ok m) i e = absurd (omega (arith, verdict_from m.verdict))
+    told (Err x) i e = record {
+      paper = x.paper;
+      refusal = x.refusal;
+      reason = (texts_refused sheet script (own_lengths max_quantities) x.paper x.refusal).0 (sym i);
+      number = sym e;
+    }
 
 -- a number from 100 on is a verdict's, exactly where both texts are accepted
 reply_accepted : {sheet script : List ℕ} {lent : Lengths} {values : List ℤ} (r : TextMarking) → TextsJudged sheet script lent r values
     → (100 ≤ text_number r) ↔ AcceptedPair sheet script lent
-reply_accepted (Marked n v) j = (λ h. j.accepted.0 refl, λ t. verdict_from v)
-reply_accepted (NotMarked w f) j = (λ h. absurd (omega (arith, refusal_below f)), λ t. clash (j.accepted.1 t) refl)
+reply_accepted (Ok m) j = (λ h. j.accepted.0 refl, λ t. verdict_from m.verdict)
+reply_accepted (Err x) j = (λ h. absurd (omega (arith, refusal_below x.refusal)), λ t. clash (j.accepted.1 t) refl)
 
 -- the number of a reply
 pub mark_answer : (sheet script : List ℕ) (values values' : List ℤ) (reply : TextMarking) (r : ℕ) → MarkedInOwnRoom sheet script values reply values'
@@ -239,26 +255,30 @@ told_refused : (sheet script : List ℕ) (lent : Lengths) (r : TextMarking) → 
     → ToldAs r w f ↔ RefusedPair sheet script lent w f
 told_refused sheet script lent r j w f = (λ e. (texts_refused sheet script lent w f).0 (sym j ∙ there r e), λ a. back (j ∙ (texts_refused sheet script lent w f).1 a))
   where
-    there : (x : TextMarking) → ToldAs x w f → x ≡ NotMarked w f
-    there (Marked n v) e = absurd (omega (arith, e.0, verdict_from v, refusal_below f))
-    there (NotMarked u g) e = rw (same_paper u w e.1, same_refusal_value g f e.0 e.2)
+    there : (x : TextMarking) → ToldAs x w f → x ≡ refused_for w f
+    there (Ok m) e = absurd (omega (arith, e.0, verdict_from m.verdict, refusal_below f))
+    there (Err x) e = rw (← same_paper x.paper w e.1, ← same_refusal_value x.refusal f e.0 e.2)
 
-    back : r ≡ NotMarked w f → ToldAs r w f
+    back : r ≡ refused_for w f → ToldAs r w f
     back e = (ap text_number e, ap text_paper e, ap text_value e)
 
 -- a verdict is told with the sheet's n
 told_count : {sheet script : List ℕ} {lent : Lengths} {values : List ℤ} (before : ℕ) (r : TextMarking) → TextsJudged sheet script lent r values
     → (t : AcceptedPair sheet script lent) → count_marked before r ≡ t.of_sheet.count
-told_count before (Marked n v) j t = let e = j.counts t in cc
-told_count before (NotMarked w f) j t = clash (j.accepted.1 t) refl
+told_count before (Ok m) j t = let e = j.counts t in cc
+told_count before (Err x) j t = clash (j.accepted.1 t) refl
 
 -- the words that come with a loose or tight verdict are of the rule that it carries
 told_same : (before : List ℤ) (x : TextMarking) → 100 < text_number x
     → ◌≡◌ {A = Returned} (record { number = text_number x; values = rule_values (rule_of_words (rule_marked before x)) }) (texts_returned x)
-told_same before (Marked n Equal) h = absurd (omega arith)
-told_same before (Marked n (Loose rule)) h = rw (words_values rule)
-told_same before (Marked n (Tight rule)) h = rw (words_values rule)
-told_same before (NotMarked w f) h = absurd (omega (arith, refusal_below f))
+told_same before (Ok m) h = go m.verdict h
+  where
+    go : (v : Verdict) → 100 < verdict_number v
+        → ◌≡◌ {A = Returned} (record { number = verdict_number v; values = rule_values (rule_of_words (carried_words before v)) }) (verdict_returned v)
+    go Equal h = absurd (omega arith)
+    go (Loose rule) h = rw (words_values rule)
+    go (Tight rule) h = rw (words_values rule)
+told_same before (Err x) h = absurd (omega (arith, refusal_below x.refusal))
 
 -- what is told of a verdict means what the verdict does, where of loose and tight the same is told
 pub means_told : {n set : ℕ} {sheet script : Solutions} {t s : List ℤ} {values : List ℤ} (told returned : Returned) → told.number ≡ returned.number
@@ -285,11 +305,15 @@ judged_told t before x values j = record {
 told_none : {sheet script : List ℕ} {lent : Lengths} (t : AcceptedPair sheet script lent) (before : List ℤ) (x : TextMarking) (values : List ℤ)
     → PairJudged t (texts_returned x) values → (text_number x ≡ 101)
     → Unsatisfiable t.of_sheet.count (table_in t.of_sheet) ↔ (rule_marked before x ≡ no_rule_words)
-told_none t before (Marked n Equal) values j e = absurd (omega arith)
-told_none t before (Marked n (Loose rule)) values j e =
-    loose_words (hidden_in (set_in t.of_sheet)) t.of_sheet.count (table_in t.of_sheet) (rules_of t.of_script) rule (j.means.loose rule refl).0
-told_none t before (Marked n (Tight rule)) values j e = absurd (omega arith)
-told_none t before (NotMarked w f) values j e = absurd (omega (arith, refusal_below f))
+told_none t before (Ok m) values j e = go m.verdict j e
+  where
+    go : (v : Verdict) → PairJudged t (verdict_returned v) values → (verdict_number v ≡ 101)
+        → Unsatisfiable t.of_sheet.count (table_in t.of_sheet) ↔ (carried_words before v ≡ no_rule_words)
+    go Equal j e = absurd (omega arith)
+    go (Loose rule) j e =
+        loose_words (hidden_in (set_in t.of_sheet)) t.of_sheet.count (table_in t.of_sheet) (rules_of t.of_script) rule (j.means.loose rule refl).0
+    go (Tight rule) j e = absurd (omega arith)
+told_none t before (Err x) values j e = absurd (omega (arith, refusal_below x.refusal))
 
 -- what a host is told of a reply
 reply_told : (sheet script : List ℕ) (lent : Lengths) (reply : TextMarking) (n : ℕ) (rule values : List ℤ) → TextsJudged sheet script lent reply values
@@ -335,16 +359,17 @@ mark_texts_answer sheet script n n' rule rule' values values' reply r p v m e w 
     }
 
 -- a refusal leaves n and the rule's words
-pub mark_texts_refused : (sheet script : List ℕ) (n : ℕ) (rule values values' : List ℤ) (reply : TextMarking) (w : Subject) (f : Refusal) (r p v : ℕ)
-    → MarkedInOwnRoom sheet script values reply values' → reply ≡ NotMarked w f → r ≡ text_number reply → p ≡ text_paper reply → v ≡ text_value reply
+pub mark_texts_refused : {sheet script : List ℕ} {n : ℕ} {rule values values' : List ℤ} {reply : TextMarking} {x : PaperRefusal} {r p v : ℕ}
+    → MarkedInOwnRoom sheet script values reply values' → reply ≡ Err x → r ≡ refusal_number x.refusal → p ≡ text_paper reply → v ≡ text_value reply
     → MarkTextsAnswer sheet script n rule values r p v n rule values'
-mark_texts_refused sheet script n rule values values' reply w f r p v m q e u d =
-    mark_texts_answer sheet script n n rule rule values values' reply r p v m e u d (sym (ap (count_marked n) q)) (sym (ap (rule_marked rule) q))
+mark_texts_refused {sheet} {script} {n} {rule} {values} {values'} {reply} {x} {r} {p} {v} m q e u d =
+    mark_texts_answer sheet script n n rule rule values values' reply r p v m (e ∙ sym (ap text_number q)) u d (sym (ap (count_marked n) q))
+    (sym (ap (rule_marked rule) q))
 
 -- a verdict gives n, and the words of the rule that it carries
-pub mark_texts_marked : (sheet script : List ℕ) (n n' : ℕ) (rule rule' values values' : List ℤ) (reply : TextMarking) (verdict : Verdict) (r p v : ℕ)
-    → MarkedInOwnRoom sheet script values reply values' → reply ≡ Marked n' verdict → r ≡ verdict_number verdict → p ≡ text_paper reply
-    → v ≡ text_value reply → rule' ≡ carried_words rule verdict → MarkTextsAnswer sheet script n rule values r p v n' rule' values'
-mark_texts_marked sheet script n n' rule rule' values values' reply verdict r p v m q e u d c =
-    mark_texts_answer sheet script n n' rule rule' values values' reply r p v m (e ∙ sym (ap text_number q)) u d (sym (ap (count_marked n) q))
+pub mark_texts_marked : {sheet script : List ℕ} {n : ℕ} {rule rule' values values' : List ℤ} {reply : TextMarking} {x : Marked} {r p v : ℕ}
+    → MarkedInOwnRoom sheet script values reply values' → reply ≡ Ok x → r ≡ verdict_number x.verdict → p ≡ text_paper reply
+    → v ≡ text_value reply → rule' ≡ carried_words rule x.verdict → MarkTextsAnswer sheet script n rule values r p v x.quantities rule' values'
+mark_texts_marked {sheet} {script} {n} {rule} {rule'} {values} {values'} {reply} {x} {r} {p} {v} m q e u d c =
+    mark_texts_answer sheet script n x.quantities rule rule' values values' reply r p v m (e ∙ sym (ap text_number q)) u d (sym (ap (count_marked n) q))
     (c ∙ sym (ap (rule_marked rule) q))

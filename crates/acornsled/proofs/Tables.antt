@@ -1,4 +1,5 @@
 -- The contract of marking two tables for hosts, from that of the call. Assumes nothing.
+use Rattle.std.specs.Prelude.{Ok, Err}
 use mathlib.Core.Path.{◌≡◌, refl, sym, ap, ◌∙◌}
 use mathlib.Core.Bool.{true}
 use mathlib.Core.Logic.{◌↔◌, inl, inr}
@@ -9,7 +10,7 @@ use lib.IntN.{ℤ}
 use lib.ListN.{length}
 use Rattle.rules.specs.declared.refusal.Refusal.{Refusal}
 use Rattle.rules.specs.Hidden.{hidden_in}
-use Rattle.rules.specs.Refusal.{refusal_number, Returned, refused_as}
+use Rattle.rules.specs.Refusal.{refusal_number, Returned, refused_as, answer_value}
 use Rattle.rules.specs.Refusing.{RefusedBy}
 use Rattle.rules.specs.RuleWords.{rule_values, no_rule_words, rule_of_words}
 use Rattle.rules.proofs.Refusals.{same_refusal_value, same_refusal, refusal_below}
@@ -18,9 +19,7 @@ use Rattle.tables.proofs.Tests.{clash}
 use Rattle.tables.proofs.Refusing.{decided_as}
 use Rattle.marking.specs.declared.verdict.Verdict.{Verdict}
 use Rattle.marking.specs.declared.verdict.Verdict.TheVariants.{Equal, Loose, Tight}
-use Rattle.marking.specs.declared.verdict.Marking.{Marking}
-use Rattle.marking.specs.declared.verdict.Marking.TheVariants.{Marked, Refused}
-use Rattle.marking.specs.Verdicts.{verdict_number, carried_words, marking_returned, marking_number, marking_value, is_marked}
+use Rattle.marking.specs.Verdicts.{Marking, verdict_number, carried_words, marking_returned, marking_number, marking_value, is_marked}
 use Rattle.marking.specs.Meaning.{mark_needs}
 use Rattle.marking.specs.Promises.{TablesMarked}
 use Rattle.marking.proofs.Carried.{verdict_from, verdict_refusal, words_values, loose_words}
@@ -31,21 +30,21 @@ use Rattle.acornsled.proofs.Promised.{number, means_told}
 
 -- a refusal is told by them exactly where it is returned
 marking_told : (x : Marking) (f : Refusal) → TellsRefusal (marking_number x) (marking_value x) f ↔ (marking_returned x ≡ refused_as f)
-marking_told (Marked v) f = (λ e. absurd (verdict_refusal v f e.0), λ e. absurd (verdict_refusal v f (ap number e)))
-marking_told (Refused g) f = (λ e. ap refused_as (same_refusal_value g f e.0 e.1), λ e. let d = same_refusal g f e in (rw d, rw d))
+marking_told (Ok v) f = (λ e. absurd (verdict_refusal v f e.0), λ e. absurd (verdict_refusal v f (ap number e)))
+marking_told (Err g) f = (λ e. ap refused_as (same_refusal_value g f e.0 e.1), λ e. let d = same_refusal g f e in (rw d, rw d))
 
 -- a number from 100 on is a verdict's
 marking_from : (x : Marking) → (100 ≤ marking_number x) ↔ (is_marked x ≡ true)
-marking_from (Marked v) = (λ h. refl, λ e. verdict_from v)
-marking_from (Refused f) = (λ h. absurd (omega (arith, refusal_below f)), λ e. clash e refl)
+marking_from (Ok v) = (λ h. refl, λ e. verdict_from v)
+marking_from (Err f) = (λ h. absurd (omega (arith, refusal_below f)), λ e. clash e refl)
 
 -- the words that come with a loose or tight verdict are of the rule that it carries
 given_same : (before : List ℤ) (x : Marking) → 100 < marking_number x
     → ◌≡◌ {A = Returned} (record { number = marking_number x; values = rule_values (rule_of_words (rule_given before x)) }) (marking_returned x)
-given_same before (Marked Equal) h = absurd (omega arith)
-given_same before (Marked (Loose rule)) h = rw (words_values rule)
-given_same before (Marked (Tight rule)) h = rw (words_values rule)
-given_same before (Refused f) h = absurd (omega (arith, refusal_below f))
+given_same before (Ok Equal) h = absurd (omega arith)
+given_same before (Ok (Loose rule)) h = rw (words_values rule)
+given_same before (Ok (Tight rule)) h = rw (words_values rule)
+given_same before (Err f) h = absurd (omega (arith, refusal_below f))
 
 -- no need of the call is refused with 5
 needs_never : (n set w v : ℕ) (sheet script : List ℤ) (f : Refusal) → RefusedBy (mark_needs n set sheet script w v) f → (refusal_number f ≡ 5) → ⊥
@@ -62,15 +61,15 @@ module _ {n set : ℕ} {sheet script w u w' u' : List ℤ} where
   -- its words are all 0
   given_none : (before : List ℤ) (x : Marking) → TablesMarked n set sheet script w u x w' u' → (marking_number x ≡ 101)
       → Unsatisfiable n sheet ↔ (rule_given before x ≡ no_rule_words)
-  given_none before (Marked Equal) m e = absurd (omega arith)
-  given_none before (Marked (Loose rule)) m e = loose_words (hidden_in set) n sheet (Satisfies n script) rule ((m.means refl).loose rule refl).0
-  given_none before (Marked (Tight rule)) m e = absurd (omega arith)
-  given_none before (Refused f) m e = absurd (omega (arith, refusal_below f))
+  given_none before (Ok Equal) m e = absurd (omega arith)
+  given_none before (Ok (Loose rule)) m e = loose_words (hidden_in set) n sheet (Satisfies n script) rule ((m.means refl).loose rule refl).0
+  given_none before (Ok (Tight rule)) m e = absurd (omega arith)
+  given_none before (Err f) m e = absurd (omega (arith, refusal_below f))
 
   -- and 5 is no number of a reply
   marked_never : (x : Marking) → TablesMarked n set sheet script w u x w' u' → (marking_number x ≡ 5) → ⊥
-  marked_never (Marked v) m e = omega (arith, verdict_from v)
-  marked_never (Refused f) m e = needs_never n set (length w) (length u) sheet script f ((m.decided.refused f).0 refl) e
+  marked_never (Ok v) m e = omega (arith, verdict_from v)
+  marked_never (Err f) m e = needs_never n set (length w) (length u) sheet script f ((m.decided.refused f).0 refl) e
 
 -- ---- the call
 
@@ -89,14 +88,20 @@ tables_answer n set sheet script w u rule w' u' rule' reply r v m e d c = record
   never = rw e (marked_never reply m);
 }
 
--- a refusal leaves the rule's words
-pub tables_refused : (n set : ℕ) (sheet script w u rule w' u' : List ℤ) (reply : Marking) (f : Refusal) (r v : ℕ) → TablesMarked n set sheet script w u reply w' u'
-    → reply ≡ Refused f → r ≡ marking_number reply → v ≡ marking_value reply → MarkTablesAnswer n set sheet script w u rule r v w' u' rule
-tables_refused n set sheet script w u rule w' u' reply f r v m q e d = tables_answer n set sheet script w u rule w' u' rule reply r v m e d (sym (ap (rule_given rule) q))
+-- a reply's line or length is that of an answer that may be refused
+marking-value : (x : Marking) → answer_value x ≡ marking_value x
+marking-value (Ok v) = refl
+marking-value (Err f) = refl
 
--- a verdict gives those of the rule that it carries
-pub tables_marked : (n set : ℕ) (sheet script w u rule w' u' rule' : List ℤ) (reply : Marking) (verdict : Verdict) (r v : ℕ)
-    → TablesMarked n set sheet script w u reply w' u' → reply ≡ Marked verdict → r ≡ verdict_number verdict → v ≡ marking_value reply
-    → rule' ≡ carried_words rule verdict → MarkTablesAnswer n set sheet script w u rule r v w' u' rule'
-tables_marked n set sheet script w u rule w' u' rule' reply verdict r v m q e d c =
-    tables_answer n set sheet script w u rule w' u' rule' reply r v m (e ∙ sym (ap marking_number q)) d (c ∙ sym (ap (rule_given rule) q))
+module _ {n set : ℕ} {sheet script w u rule w' u' : List ℤ} {reply : Marking} (m : TablesMarked n set sheet script w u reply w' u') where
+  -- a refusal leaves the rule's words
+  pub tables_refused : {f : Refusal} {r v : ℕ} → reply ≡ Err f → r ≡ refusal_number f → v ≡ answer_value reply
+      → MarkTablesAnswer n set sheet script w u rule r v w' u' rule
+  tables_refused {f} {r} {v} q e d =
+      tables_answer n set sheet script w u rule w' u' rule reply r v m (e ∙ sym (ap marking_number q)) (d ∙ marking-value reply) (sym (ap (rule_given rule) q))
+
+  -- a verdict gives those of the rule that it carries
+  pub tables_marked : {rule' : List ℤ} {verdict : Verdict} {r v : ℕ} → reply ≡ Ok verdict → r ≡ verdict_number verdict → v ≡ answer_value reply
+      → rule' ≡ carried_words rule verdict → MarkTablesAnswer n set sheet script w u rule r v w' u' rule'
+  tables_marked {rule'} {verdict} {r} {v} q e d c =
+      tables_answer n set sheet script w u rule w' u' rule' reply r v m (e ∙ sym (ap marking_number q)) (d ∙ marking-value reply) (c ∙ sym (ap (rule_given rule) q))

@@ -1,5 +1,5 @@
 -- What the exported functions promise: the number and value of a call's reply, and what the call promises of every lent word.
-use Rattle.std.specs.Prelude.{◌≡◌, ◌↔◌, List, ℕ, ◌<◌, ◌≤◌, ℤ, length, take}
+use Rattle.std.specs.Prelude.{◌≡◌, ◌↔◌, List, ℕ, ◌<◌, ◌≤◌, ℤ, length, take, Ok, Err}
 use Rattle.words.specs.Lent.{Lent}
 use Rattle.places.specs.Numbering.{block_start}
 use Rattle.rules.specs.declared.paper.Paper.TheVariants.{Sheet, Script}
@@ -8,8 +8,7 @@ use Rattle.rules.specs.Limits.{max_quantities}
 use Rattle.rules.specs.Refusal.{refusal_number, refusal_value}
 use Rattle.rules.specs.Refusing.{DecidedBy}
 use Rattle.rules.specs.RuleWords.{rule_values, no_rule_words, rule_of_words}
-use Rattle.tables.specs.declared.reply.Reply.{Reply}
-use Rattle.tables.specs.Replies.{reply_number, reply_value}
+use Rattle.tables.specs.Replies.{Reply, reply_number, reply_value}
 use Rattle.tables.specs.Meaning.{Satisfies, Unsatisfiable, BoundsWithin}
 use Rattle.keys.specs.Keys.{key_reply, assignment_reply}
 use Rattle.keys.specs.Meaning.{key_needs, assignment_needs}
@@ -22,16 +21,11 @@ use Rattle.questions.specs.Meaning.{ask_needs}
 use Rattle.questions.specs.Replies.{asked_number, asked_value, answers_after}
 use Rattle.questions.specs.Asking.{ask_reply}
 use Rattle.questions.specs.Promises.{ListAnswers, QuestionsAsked}
-use Rattle.marking.specs.declared.verdict.Marking.{Marking}
-use Rattle.marking.specs.declared.verdict.Marking.TheVariants.{Marked as Given}
-use Rattle.marking.specs.declared.verdict.Marking.TheVariants.{Refused as NotGiven}
-use Rattle.marking.specs.Verdicts.{carried_words, marking_number, marking_value}
+use Rattle.marking.specs.Verdicts.{Marking, carried_words, marking_number, marking_value}
 use Rattle.marking.specs.Meaning.{VerdictMeans, mark_needs, workspace_size, OwnKey}
 use Rattle.marking.specs.Marking.{mark_reply}
 use Rattle.marking.specs.Promises.{TablesMarked}
-use Rattle.reading.specs.declared.read.Reading.{Reading}
-use Rattle.reading.specs.declared.read.Reading.TheVariants.{Accepted, Refused}
-use Rattle.reading.specs.Reading.{read_reply, reading_number, reading_value}
+use Rattle.reading.specs.Reading.{Reading, read_reply, reading_number, reading_value}
 use Rattle.reading.specs.Promises.{ReadInto}
 use Rattle.reading.specs.Texts.{Contents}
 use Rattle.reading.specs.Meaning.{Reads, Readable, RefusedFor, AcceptedAs}
@@ -42,10 +36,7 @@ use Rattle.bank.specs.Meaning.{BankRefusedFor, BankAcceptedAs}
 use Rattle.bank.specs.Promises.{SheetTable, BankBack, BankRead}
 use Rattle.scripts.specs.declared.reply.Subject.{Subject}
 use Rattle.scripts.specs.declared.room.Lengths.{Lengths}
-use Rattle.scripts.specs.declared.reply.TextMarking.{TextMarking}
-use Rattle.scripts.specs.declared.reply.TextMarking.TheVariants.{Marked}
-use Rattle.scripts.specs.declared.reply.TextMarking.TheVariants.{Refused as NotMarked}
-use Rattle.scripts.specs.Replies.{texts_returned, text_number, text_value, text_paper, paper_number, is_text_shown}
+use Rattle.scripts.specs.Replies.{TextMarking, texts_returned, text_number, text_value, text_paper, paper_number, is_text_shown}
 use Rattle.scripts.specs.Meaning.{table_in, AcceptedPair, RefusedPair, OwnKeyText, own_lengths}
 use Rattle.scripts.specs.Marking.{texts_reply, count_in}
 use Rattle.scripts.specs.Promises.{PairJudged, TextsJudged}
@@ -56,12 +47,12 @@ TellsRefusal r v f = (r ≡ refusal_number f) × (v ≡ refusal_value f)
 
 -- n or the hidden set after reading: that of the text where it is accepted, else as it was
 abbrev pub count_read : ℕ → Reading → ℕ
-count_read before (Accepted n set) = n
-count_read before (Refused r) = before
+count_read before (Ok sheet) = sheet.quantities
+count_read before (Err f) = before
 
 abbrev pub set_read : ℕ → Reading → ℕ
-set_read before (Accepted n set) = set
-set_read before (Refused r) = before
+set_read before (Ok sheet) = sheet.hidden
+set_read before (Err f) = before
 
 -- what a host is told of a reading: its number r and value v, and n and the hidden set after it
 pub record ReadingTold (reply : Reading) (n set r v n' set' : ℕ) : Type 0 where
@@ -171,13 +162,13 @@ pub record MarkAnswer (sheet script : List ℕ) (r : ℕ) : Type 0 where
 
 -- n after marking: with a verdict the sheet's, else as it was
 abbrev pub count_marked : ℕ → TextMarking → ℕ
-count_marked before (Marked n v) = n
-count_marked before (NotMarked p f) = before
+count_marked before (Ok m) = m.quantities
+count_marked before (Err r) = before
 
 -- the rule's words after marking: with a verdict what it makes of them, else as they were
 abbrev pub rule_marked : List ℤ → TextMarking → List ℤ
-rule_marked before (Marked n v) = carried_words before v
-rule_marked before (NotMarked p f) = before
+rule_marked before (Ok m) = carried_words before m.verdict
+rule_marked before (Err r) = before
 
 -- what a host is told, with so much lent: the number r, the paper p, the line or length v, n, the rule's words and the assignment
 pub record Told (sheet script : List ℕ) (lent : Lengths) (r p v n : ℕ) (rule values : List ℤ) : Type 0 where
@@ -217,8 +208,8 @@ pub record MarkTextsAnswer (sheet script : List ℕ) (n : ℕ) (rule values : Li
 
 -- the rule's words after marking: with a verdict what it makes of them, else as they were
 abbrev pub rule_given : List ℤ → Marking → List ℤ
-rule_given before (Given v) = carried_words before v
-rule_given before (NotGiven f) = before
+rule_given before (Ok v) = carried_words before v
+rule_given before (Err f) = before
 
 -- marking two tables: the workspace, the assignment and the rule's words before the call, then the number r and the value v, and the same three after it
 pub record MarkTablesAnswer (n set : ℕ) (sheet script workspace values rule : List ℤ) (r v : ℕ) (workspace' values' rule' : List ℤ) : Type 0 where

@@ -2,34 +2,44 @@
 // is returned beside it, a line or a length, 0 where there is nothing. The exam host's call answers a verdict's number, or the refusal's, alone. C sees a
 // slice as a pointer and its length in elements, words or bytes. The host passes true lengths and no null pointer, and what a call may change, slice or single
 // word, overlaps nothing else that it is given.
+// Kept: numbers for replies, papers and rules, and what is told beside them through `&mut`, for the C interface: `acornsled_c` has the same signatures.
 #![tactic(auto)]
 
+ghost use Rattle.std.specs.Prelude.{◌≡◌};
+ghost use Rattle.tables.specs.Replies.{reply_number, reply_value};
 ghost use Rattle.acornsled.specs.Promises.{ReadingTold, ReadAnswer, BankAnswer, WriteAnswer, KeyAnswer, TightKeyAnswer, StepAnswer, AssignmentAnswer, AskAnswer, MarkAnswer, MarkTextsAnswer, MarkTablesAnswer};
 
 use marking::rule_words;
-use marking::verdict::Marking;
 use questions::ask;
-use questions::reply::Asked;
 use reading::read::Reading;
+use rules::refusal;
 use rules::sheet::Sheet;
-use scripts::own;
-use scripts::reply::TextMarking;
+use scripts::{own, reply};
+use tables::reply::Reply;
+use writing::write;
 
 // Tells a host what a reading gave: answers its number, writes the value beside it, and n and the hidden set where the text is accepted.
 fn tell(reading: Reading, quantities: &mut usize, hidden: &mut u32, value: &mut usize) -> u32
     ensures { ReadingTold reading quantities.old hidden.old result value.new quantities.new hidden.new }
 {
-    *value = reading.value();
-    let Reading::Accepted {
-        quantities: n,
-        hidden: set,
-    } = reading
-    else {
-        return reading.number();
-    };
-    *quantities = n;
-    *hidden = set;
-    0
+    *value = refusal::value_of(&reading);
+    match reading {
+        Ok(sheet) => {
+            *quantities = sheet.quantities;
+            *hidden = sheet.hidden;
+            0
+        }
+        Err(refusal) => refusal.number(),
+    }
+}
+
+// Tells a host of a reply: answers its number, and writes the value beside it.
+fn told(reply: Reply, value: &mut usize) -> u32
+    ensures number { result ≡ reply_number reply }
+    ensures value { value.new ≡ reply_value reply }
+{
+    *value = refusal::value_of(&reply);
+    refusal::number_of(&reply)
 }
 
 // Reads a text: where it answers 0, the table's first 2n² words hold its rules, and n and the hidden set are written to `quantities` and `hidden`.
@@ -69,8 +79,8 @@ pub fn acornsled_write(
     ensures { WriteAnswer n hidden table.now out.old result value.new out.new }
 {
     let written = writing::write::write(n, hidden, table, out);
-    *value = written.value();
-    written.number()
+    *value = write::value(&written);
+    refusal::number_of(&written)
 }
 
 // The key call: where it answers 0, the table's first 2n² words have become the key. The workspace needs as many.
@@ -83,9 +93,7 @@ pub fn acornsled_key(
 ) -> u32
     ensures { KeyAnswer n hidden table.old workspace.old result value.new table.new workspace.new }
 {
-    let reply = keys::key::key(n, hidden, table, workspace);
-    *value = reply.value();
-    reply.number()
+    told(keys::key::key(n, hidden, table, workspace), value)
 }
 
 // The tight key call: where it answers 0, the table's first 2n² words have become the tightest key. The workspace needs as many.
@@ -98,9 +106,10 @@ pub fn acornsled_tight_key(
 ) -> u32
     ensures { TightKeyAnswer n hidden table.old workspace.old result value.new table.new workspace.new }
 {
-    let reply = tightening::key::tight_key(n, hidden, table, workspace);
-    *value = reply.value();
-    reply.number()
+    told(
+        tightening::key::tight_key(n, hidden, table, workspace),
+        value,
+    )
 }
 
 // Follows the step that hides `quantity`, those of the set `before` hidden before it: where it answers 0, the table's first 2n² words have become the table with the step's first `blocks`
@@ -116,9 +125,10 @@ pub fn acornsled_step(
 ) -> u32
     ensures { StepAnswer n before quantity blocks table.old workspace.old result value.new table.new workspace.new }
 {
-    let reply = steps::step::step(n, before, quantity, blocks, table, workspace);
-    *value = reply.value();
-    reply.number()
+    told(
+        steps::step::step(n, before, quantity, blocks, table, workspace),
+        value,
+    )
 }
 
 // The assignment call: where it answers 0, the first `n` words of `values` have become integers that satisfy the table.
@@ -131,9 +141,10 @@ pub fn acornsled_assignment(
 ) -> u32
     ensures { AssignmentAnswer n table.now workspace.old values.old result value.new workspace.new values.new }
 {
-    let reply = keys::assignment::assignment(n, table, workspace, values);
-    *value = reply.value();
-    reply.number()
+    told(
+        keys::assignment::assignment(n, table, workspace, values),
+        value,
+    )
 }
 
 // Asks a list of questions of a sheet's table, three words each: first and second signed quantity, 0 for no second, and bound; words past the last whole question are not looked at. Where it
@@ -149,16 +160,14 @@ pub fn acornsled_ask(
     ensures { AskAnswer n table.now questions.now workspace.old answers.old result value.new workspace.new answers.new }
 {
     let asked = ask::ask(n, table, questions, workspace);
-    *value = asked.value();
-    let Asked::Answered {
-        count: _,
-        answers: bits,
-    } = asked
-    else {
-        return asked.number();
-    };
-    *answers = bits;
-    asked.number()
+    *value = refusal::value_of(&asked);
+    match asked {
+        Ok(given) => {
+            *answers = given.bits;
+            0
+        }
+        Err(refusal) => refusal.number(),
+    }
 }
 
 // Marks the text of a script against the text of a sheet: 100 for equal, 101 for loose, 102 for tight, or the refusal's number. The assignment that shows a
@@ -167,8 +176,7 @@ pub fn acornsled_mark(sheet: &[u8], script: &[u8]) -> u32
     ensures { MarkAnswer sheet.now script.now result }
 {
     let mut values = [0; Sheet::MAX_QUANTITIES];
-    let marking = own::mark_in_own_room(sheet, script, &mut values);
-    marking.number()
+    reply::number(&own::mark_in_own_room(sheet, script, &mut values))
 }
 
 // The same with the reasons. A refusal is told with its paper and its line or length, which are 0 with a verdict; a verdict with the sheet's n; loose and tight
@@ -186,18 +194,16 @@ pub fn acornsled_mark_texts(
     ensures { MarkTextsAnswer sheet.now script.now quantities.old rule.old values.old result paper.new value.new quantities.new rule.new values.new }
 {
     let marking = own::mark_in_own_room(sheet, script, values);
-    *paper = marking.paper();
-    *value = marking.value();
-    let TextMarking::Marked {
-        quantities: count,
-        verdict,
-    } = marking
-    else {
-        return marking.number();
-    };
-    *quantities = count;
-    rule_words::put_carried(verdict, rule);
-    verdict.number()
+    *paper = reply::paper(&marking);
+    *value = reply::value(&marking);
+    match marking {
+        Ok(marked) => {
+            *quantities = marked.quantities;
+            rule_words::put_carried(marked.verdict, rule);
+            marked.verdict.number()
+        }
+        Err(refused) => refused.refusal.number(),
+    }
 }
 
 // Marks the table of a script against the table of a sheet: 100, 101, 102, or the refusal's number. The workspace needs 4n² words and `values` n. Loose and tight
@@ -214,11 +220,13 @@ pub fn acornsled_mark_tables(
 ) -> u32
     ensures { MarkTablesAnswer n hidden sheet.now script.now workspace.old values.old rule.old result value.new workspace.new values.new rule.new }
 {
-    let marked = marking::mark::mark(n, hidden, sheet, script, workspace, values);
-    *value = marked.value();
-    let Marking::Marked(found) = marked else {
-        return marked.number();
-    };
-    rule_words::put_carried(found, rule);
-    found.number()
+    let marking = marking::mark::mark(n, hidden, sheet, script, workspace, values);
+    *value = refusal::value_of(&marking);
+    match marking {
+        Ok(verdict) => {
+            rule_words::put_carried(verdict, rule);
+            verdict.number()
+        }
+        Err(refusal) => refusal.number(),
+    }
 }

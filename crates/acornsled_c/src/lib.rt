@@ -1,4 +1,5 @@
 // The library's calls for hosts in C and Rust, as C's linker finds them: each calls the call of its name in `acornsled`, states its clauses again, and adds nothing.
+// Kept: numbers for replies, papers and rules, and what is told beside them through `&mut`, for the C interface.
 #![tactic(auto)]
 
 ghost use Rattle.acornsled.specs.Promises.{ReadingTold, ReadAnswer, BankAnswer, WriteAnswer, KeyAnswer, TightKeyAnswer, StepAnswer, AssignmentAnswer, AskAnswer, MarkAnswer, MarkTextsAnswer, MarkTablesAnswer};

@@ -2,6 +2,7 @@
 use mathlib.Core.Path.{◌≡◌, refl, ◌∙◌, ap, ap₂}
 use mathlib.Core.Bool.{Bool, true, false}
 use mathlib.Core.List.{List, [], ◌∷◌, ◌++◌}
+use Rattle.std.specs.Prelude.{Option, Some}
 use Prim.Native.Nat.{ℕ, zero, suc, ◌+◌, ◌<◌}
 use native.Mathlib.Omega.{arith}
 use lib.Dec.{eqb}
@@ -10,8 +11,6 @@ use lib.ListN.{length, replicate, length-append}
 use lib.Seq.{append_snoc, take_at}
 use borrow.Author.Tests.{eqb-true, eqb-false}
 use Rattle.numerals.specs.Decimal.{cap}
-use Rattle.places.specs.declared.Place.{Place}
-use Rattle.places.specs.declared.Place.TheVariants.{At}
 use Rattle.places.specs.Numbering.{block_start}
 use Rattle.rules.specs.Limits.{no_rule}
 use Rattle.rules.specs.Meaning.{bound_of}
@@ -39,7 +38,7 @@ longer : (p : List ℤ) (w : ℤ) {i : ℕ} → length p ≡ i → length (p ++ 
 longer p w l = rw (length-append p (w ∷ [])) (omega arith)
 
 -- a rule is found at one place
-at_same : {x : Place} {j k : ℕ} → x ≡ At j → x ≡ At k → j ≡ k
+at_same : {x : Option ℕ} {j k : ℕ} → x ≡ Some j → x ≡ Some k → j ≡ k
 at_same e f = cc
 
 -- a word more in front that holds no rule

@@ -3,13 +3,13 @@
 use mathlib.Core.Path.{◌≡◌, refl, sym, ap, ap₂}
 use mathlib.Core.Bool.{Bool, true, false, not, ◌&&◌, beq}
 use mathlib.Core.Logic.{◌⊎◌, inl, inr}
+use Rattle.std.specs.Prelude.{Some, None}
 use Prim.Native.Nat.{ℕ, ◌+◌, ◌-◌, ◌*◌, ◌/◌, ◌%◌, ◌<◌, ◌≤◌}
 use native.Mathlib.Omega.{arith}
 use lib.Dec.{leb, eqb}
 use lib.IntN.{ℤ, nat_abs}
 use borrow.Author.Tests.{leb-true, lt-ltb, le-ltb, eqb-true, eqb-false, eq-eqb, ne_eqb}
 use Rattle.numerals.specs.Decimal.{cap}
-use Rattle.places.specs.declared.Place.TheVariants.{At, Nowhere}
 use Rattle.places.specs.Numbering.{block_start, place_of_one, place_of_pair}
 use Rattle.places.proofs.Numbering.{one_below, pair_below, one_is_one, one_higher, pair_is_one, pair_higher, pair_lower}
 use Rattle.rules.specs.declared.rule.Rule.TheVariants.{One, Two}
@@ -94,10 +94,10 @@ two_written n x y c t u = rw (t.some, u.some)
 
 -- the rule w is the rule of place k, and written as that is
 pub record Canonical (n : ℕ) (w : Written) (k : ℕ) : Type 0 where
-  pub found : find_place (written_rule w) ≡ At k
+  pub found : find_place (written_rule w) ≡ Some k
   pub inside : k < block_start n
   pub same : halved_of (written_rule w) ≡ written_rule w
-  pub canonical : canonical_place (written_rule w) ≡ At k
+  pub canonical : canonical_place (written_rule w) ≡ Some k
   pub held : rule_at k (bound_of (written_rule w)) ≡ written_rule w
   pub back : written_of (rule_at k (bound_of (written_rule w))) ≡ w
   pub bound : has_rule (bound_of (written_rule w)) ≡ true
@@ -151,7 +151,7 @@ canonical_rule n limit (two x y c) below f l =
 
 -- it has no canonical place where the first of its two quantities is not the lower one
 later_nowhere : (n limit : ℕ) (x y : Term) (c : ℤ) → Fine n limit (rule (two x y c)) → y.quantity ≤ x.quantity
-    → canonical_place (written_rule (two x y c)) ≡ Nowhere
+    → canonical_place (written_rule (two x y c)) ≡ None
 unfolding canonical_place
 later_nowhere n limit x y c f l =
     let p = fine_two n limit x y c f in
@@ -160,12 +160,12 @@ later_nowhere n limit x y c f l =
     rw (two_written n x y c p.0 p.1, le-ltb (quantity_of (literal x)) (quantity_of (literal y)) (omega arith))
 
 -- nor where it has a doubled term
-pub doubled_nowhere : (n limit : ℕ) (w : Written) → Fine n limit (rule w) → Doubled w → canonical_place (written_rule w) ≡ Nowhere
+pub doubled_nowhere : (n limit : ℕ) (w : Written) → Fine n limit (rule w) → Doubled w → canonical_place (written_rule w) ≡ None
 doubled_nowhere n limit (one x c) f d = absurd d
 doubled_nowhere n limit (two x y c) f d = later_nowhere n limit x y c f (let e = ap (λ (z : Term). z.quantity) d in omega arith)
 
 -- nor where its higher quantity stands first
-pub higher_nowhere : (n limit : ℕ) (w : Written) → Fine n limit (rule w) → HigherFirst w → canonical_place (written_rule w) ≡ Nowhere
+pub higher_nowhere : (n limit : ℕ) (w : Written) → Fine n limit (rule w) → HigherFirst w → canonical_place (written_rule w) ≡ None
 higher_nowhere n limit (one x c) f h = absurd h
 higher_nowhere n limit (two x y c) f h = later_nowhere n limit x y c f (omega arith)
 
@@ -191,7 +191,7 @@ not_lower_cases x y c u l = go (eqb x.quantity y.quantity) refl
 
 -- and no canonical place
 pub not_lower : (n limit : ℕ) (w : Written) → Fine n limit (rule w) → (LowerFirst w → ⊥)
-    → (canonical_place (written_rule w) ≡ Nowhere) × (Doubled w ⊎ HigherFirst w)
+    → (canonical_place (written_rule w) ≡ None) × (Doubled w ⊎ HigherFirst w)
 not_lower n limit (one x c) f not_so = absurd (not_so tt)
 not_lower n limit (two x y c) f not_so =
     let l : y.quantity ≤ x.quantity = omega arith in

@@ -4,6 +4,7 @@ use mathlib.Core.Path.{◌≡◌, refl, sym, ◌∙◌, ap, subst}
 use mathlib.Core.Bool.{Bool, true, false}
 use mathlib.Core.List.{List, [], ◌∷◌, ◌++◌, append-nil, append_assoc}
 use mathlib.Core.Logic.{◌⊎◌, inl, inr}
+use Rattle.std.specs.Prelude.{Option, Some, None}
 use Prim.Native.Nat.{ℕ, zero, suc, ◌+◌, ◌<◌, ◌≤◌}
 use native.Mathlib.Nat.{zero-add}
 use native.Mathlib.Omega.{arith}
@@ -11,8 +12,6 @@ use lib.Dec.{leb}
 use lib.ListN.{length}
 use borrow.Author.Tests.{leb-true, leb-false}
 use Rattle.numerals.specs.Decimal.{cap}
-use Rattle.places.specs.declared.Place.{Place}
-use Rattle.places.specs.declared.Place.TheVariants.{At, Nowhere}
 use Rattle.rules.specs.declared.refusal.Refusal.{Refusal}
 use Rattle.rules.specs.declared.refusal.Refusal.TheVariants.{Malformed, NotCanonical}
 use Rattle.rules.specs.Refusal.{refusal_line}
@@ -28,7 +27,7 @@ use Rattle.reading.specs.Ordered.{canonical_place, ordered_from}
 use Rattle.reading.proofs.OrderedLines.{ordered_ends, ordered_goes, ordered_stops}
 use Rattle.bank.specs.Order.{LowerFirst, InBankOrder, OutOfOrder}
 use Rattle.bank.proofs.CanonicalRules.{Canonical, canonical_rule}
-use Rattle.bank.proofs.Ordering.{one_past, least_after, least_last, ordered_more, nowhere_out, at_lower, early_out, out_refused}
+use Rattle.bank.proofs.Ordering.{least_after, least_last, ordered_more, nowhere_out, at_lower, early_out, out_refused}
 use Rattle.bank.proofs.Agreeing.{RuleHere, rule_here, rule-line, any_ends, any_goes, any_line, rule_refused}
 
 -- one rule more is fine
@@ -178,19 +177,19 @@ module _ (n limit : ℕ) (below : limit < cap) where
       Here : Judged (List Written) → Type 0
       Here j = Told n limit rs (suc k) line u j
 
-      placed : Later → (w : Written) (v : List ℕ) → rule_judged n limit line u ≡ accepted w v → (x : Place) → canonical_place (written_rule w) ≡ x
+      placed : Later → (w : Written) (v : List ℕ) → rule_judged n limit line u ≡ accepted w v → (x : Option ℕ) → canonical_place (written_rule w) ≡ x
           → Here (ordered_from n limit (least_after rs) (suc k) line u)
-      placed ih w v e Nowhere d =
+      placed ih w v e None d =
           let h = rule_here n limit line u w v e in
           let out = nowhere_out n limit below rs w h.fine d in
           subst Here (sym (ordered_stops n limit (least_after rs) k line u w v e (λ next. out_refused n limit below rs w line next h.fine out)))
           (stopped rs k line u w v e ordered out)
-      placed ih w v e (At p) d = tested (leb (least_after rs) p) refl
+      placed ih w v e (Some p) d = tested (leb (least_after rs) p) refl
         where
           h : RuleHere n limit u w v
           h = rule_here n limit line u w v e
 
-          found : find_place (written_rule w) ≡ At p
+          found : find_place (written_rule w) ≡ Some p
           found = (at_lower n limit below w p h.fine d).1
 
           tested : (b : Bool) → leb (least_after rs) p ≡ b → Here (ordered_from n limit (least_after rs) (suc k) line u)
@@ -215,11 +214,11 @@ module _ (n limit : ℕ) (below : limit < cap) where
   -- ---- and back
 
   -- the next rule of a list in order has its lower quantity first, and its place is not before the least one
-  ordered_here : (rs : List Written) (w : Written) (ws : List Written) (p : ℕ) → InBankOrder (rs ++ w ∷ ws) → find_place (written_rule w) ≡ At p → least_after rs ≤ p
-  unfolding least_after one_past
+  ordered_here : (rs : List Written) (w : Written) (ws : List Written) (p : ℕ) → InBankOrder (rs ++ w ∷ ws) → find_place (written_rule w) ≡ Some p → least_after rs ≤ p
+  unfolding least_after
   ordered_here [] w ws p o e = omega arith
   ordered_here (v ∷ []) w ws p o e =
-      let a : At p ≡ At o.1.later = sym e ∙ o.1.second in
+      let a : Some p ≡ Some o.1.later = sym e ∙ o.1.second in
       let same : p ≡ o.1.later = cc in
       rw o.1.first (omega (arith, o.1.after))
   ordered_here (v ∷ u ∷ rs) w ws p o e = ordered_here (u ∷ rs) w ws p o.2 e

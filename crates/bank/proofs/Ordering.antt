@@ -4,13 +4,12 @@ use mathlib.Core.Path.{◌≡◌, refl, sym, ◌∙◌, ap}
 use mathlib.Core.Bool.{Bool, true, false}
 use mathlib.Core.List.{List, [], ◌∷◌, ◌++◌}
 use mathlib.Core.Logic.{◌⊎◌, inl, inr}
+use Rattle.std.specs.Prelude.{Some, None}
 use Prim.Native.Nat.{ℕ, suc, ◌<◌, ◌≤◌}
 use native.Mathlib.Omega.{arith}
 use lib.Dec.{ltb}
 use borrow.Author.Tests.{ltb-true, ltb-false}
 use Rattle.numerals.specs.Decimal.{cap}
-use Rattle.places.specs.declared.Place.{Place}
-use Rattle.places.specs.declared.Place.TheVariants.{At, Nowhere}
 use Rattle.rules.specs.declared.refusal.Refusal.TheVariants.{NotCanonical}
 use Rattle.tables.specs.Places.{find_place}
 use Rattle.lines.specs.Spelling.{Written, one, two, rule, written_rule}
@@ -18,26 +17,22 @@ use Rattle.lines.specs.Lines.{Judged, refused}
 use Rattle.reading.specs.Texts.{rule_lines}
 use Rattle.reading.specs.Meaning.{Fine, AllFine}
 use Rattle.reading.specs.Ordered.{canonical_place, from_place}
+use Rattle.reading.specs.Inner.{least_of}
 use Rattle.reading.proofs.OrderedLines.{nowhere_refused, early_refused}
 use Rattle.bank.specs.Order.{LowerFirst, Doubled, HigherFirst, PlaceNotAfter, InBankOrder, OutOfOrder, doubled, higher_first, not_after}
 use Rattle.bank.proofs.CanonicalRules.{canonical_rule, doubled_nowhere, higher_nowhere, not_lower}
 
 -- ---- the least place
 
--- one after a place
-unfoldable pub one_past : Place → ℕ
-one_past (At k) = suc k
-one_past Nowhere = 0
-
 -- one after that of the last rule, and 0 where there is none
 unfoldable pub least_after : List Written → ℕ
 least_after [] = 0
-least_after (v ∷ []) = one_past (find_place (written_rule v))
+least_after (v ∷ []) = least_of (find_place (written_rule v))
 least_after (v ∷ w ∷ ws) = least_after (w ∷ ws)
 
 -- of rules with one more behind them
-pub least_last : (rs : List Written) (v : Written) (k : ℕ) → find_place (written_rule v) ≡ At k → least_after (rs ++ v ∷ []) ≡ suc k
-unfolding least_after one_past
+pub least_last : (rs : List Written) (v : Written) (k : ℕ) → find_place (written_rule v) ≡ Some k → least_after (rs ++ v ∷ []) ≡ suc k
+unfolding least_after
 least_last [] v k e = rw e
 least_last (u ∷ []) v k e = rw e
 least_last (u ∷ w ∷ rs) v k e = least_last (w ∷ rs) v k e
@@ -47,8 +42,8 @@ least_last (u ∷ w ∷ rs) v k e = least_last (w ∷ rs) v k e
 module _ (n limit : ℕ) (below : limit < cap) where
   -- with a rule behind them that has its lower quantity first, and a place from the least one on, they stay in order
   pub ordered_more : (rs : List Written) (w : Written) (k : ℕ) → AllFine n limit (rule_lines rs) → InBankOrder rs → LowerFirst w
-      → find_place (written_rule w) ≡ At k → least_after rs ≤ k → InBankOrder (rs ++ w ∷ [])
-  unfolding least_after one_past
+      → find_place (written_rule w) ≡ Some k → least_after rs ≤ k → InBankOrder (rs ++ w ∷ [])
+  unfolding least_after
   ordered_more [] w k fine ordered low found h = (low, tt, tt)
   ordered_more (v ∷ []) w k fine ordered low found h =
       let c = canonical_rule n limit v below fine.0 ordered.0 in
@@ -69,7 +64,7 @@ module _ (n limit : ℕ) (below : limit < cap) where
       go false e = let h = ltb-false x.quantity y.quantity e in inr (λ l. omega arith)
 
   -- one that has no canonical place
-  pub nowhere_out : (rs : List Written) (w : Written) → Fine n limit (rule w) → canonical_place (written_rule w) ≡ Nowhere → OutOfOrder rs w
+  pub nowhere_out : (rs : List Written) (w : Written) → Fine n limit (rule w) → canonical_place (written_rule w) ≡ None → OutOfOrder rs w
   nowhere_out rs w f e = go (lower_or_not w)
     where
       either : Doubled w ⊎ HigherFirst w → OutOfOrder rs w
@@ -79,27 +74,27 @@ module _ (n limit : ℕ) (below : limit < cap) where
       go : LowerFirst w ⊎ (LowerFirst w → ⊥) → OutOfOrder rs w
       go (inl l) =
           let c = canonical_rule n limit w below f l in
-          let d : At c.0 ≡ Nowhere = sym c.1.canonical ∙ e in
-          let z : ◌≡◌ {A = ℕ} 0 1 = cc in let y : ⊥ = omega arith in absurd y
+          let d : Some c.0 ≡ None = sym c.1.canonical ∙ e in
+          let z : ⊥ = cc in absurd z
       go (inr h) = either (not_lower n limit w f h).1
 
   -- one that has is found there, with its lower quantity first
-  pub at_lower : (w : Written) (k : ℕ) → Fine n limit (rule w) → canonical_place (written_rule w) ≡ At k → LowerFirst w × (find_place (written_rule w) ≡ At k)
+  pub at_lower : (w : Written) (k : ℕ) → Fine n limit (rule w) → canonical_place (written_rule w) ≡ Some k → LowerFirst w × (find_place (written_rule w) ≡ Some k)
   at_lower w k f e = go (lower_or_not w)
     where
-      go : LowerFirst w ⊎ (LowerFirst w → ⊥) → LowerFirst w × (find_place (written_rule w) ≡ At k)
+      go : LowerFirst w ⊎ (LowerFirst w → ⊥) → LowerFirst w × (find_place (written_rule w) ≡ Some k)
       go (inl l) =
           let c = canonical_rule n limit w below f l in
-          let d : At c.0 ≡ At k = sym c.1.canonical ∙ e in
+          let d : Some c.0 ≡ Some k = sym c.1.canonical ∙ e in
           (l, c.1.found ∙ d)
       go (inr h) =
-          let d : Nowhere ≡ At k = sym (not_lower n limit w f h).0 ∙ e in
-          let z : ◌≡◌ {A = ℕ} 0 1 = cc in let y : ⊥ = omega arith in absurd y
+          let d : None ≡ Some k = sym (not_lower n limit w f h).0 ∙ e in
+          let z : ⊥ = cc in absurd z
 
   -- one whose place is before the least one: the last of the rules before has a place that is not before it
-  pub early_out : (rs : List Written) (w : Written) (k : ℕ) → AllFine n limit (rule_lines rs) → InBankOrder rs → find_place (written_rule w) ≡ At k
+  pub early_out : (rs : List Written) (w : Written) (k : ℕ) → AllFine n limit (rule_lines rs) → InBankOrder rs → find_place (written_rule w) ≡ Some k
       → k < least_after rs → OutOfOrder rs w
-  unfolding least_after one_past
+  unfolding least_after
   early_out rs w k fine ordered found h = let p = last rs fine ordered h in not_after p.0 p.1 p.2 p.3
     where
       last : (rs : List Written) → AllFine n limit (rule_lines rs) → InBankOrder rs → k < least_after rs
@@ -126,7 +121,7 @@ module _ (n limit : ℕ) (below : limit < cap) where
       go : LowerFirst w ⊎ (LowerFirst w → ⊥) → from_place (least_after rs) line (canonical_place (written_rule w)) next ≡ refused (NotCanonical line)
       go (inl l) =
           let c = canonical_rule n limit w below f l in
-          let d : At c.0 ≡ At p.later = sym c.1.found ∙ p.second in
+          let d : Some c.0 ≡ Some p.later = sym c.1.found ∙ p.second in
           let same : c.0 ≡ p.later = cc in
           early_refused (least_after rs) line _ c.0 next c.1.canonical (omega (arith, least, p.not_after))
       go (inr h) = nowhere_refused (least_after rs) line _ next (not_lower n limit w f h).0

@@ -4,6 +4,7 @@ use mathlib.Core.Path.{◌≡◌, refl, sym, ◌∙◌, ap, subst, subst₂}
 use mathlib.Core.Bool.{cond}
 use mathlib.Core.List.{List, []}
 use mathlib.Core.Logic.{◌↔◌, ◌⊎◌, inl, inr}
+use Rattle.std.specs.Prelude.{Ok, Err}
 use Prim.Native.Nat.{ℕ, ◌≤◌}
 use native.Mathlib.Omega.{arith}
 use lib.IntN.{ℤ}
@@ -15,14 +16,10 @@ use Rattle.rules.specs.declared.paper.Paper.TheVariants.{Sheet}
 use Rattle.rules.specs.declared.refusal.Refusal.{Refusal}
 use Rattle.rules.specs.Limits.{max_bound, no_rule}
 use Rattle.lines.specs.Lines.{Judged, accepted, refused}
-use Rattle.reading.specs.declared.check.Checked.{Checked}
-use Rattle.reading.specs.declared.check.Checked.TheVariants.{Passed}
-use Rattle.reading.specs.declared.check.Checked.TheVariants.{Refused as Failed}
-use Rattle.reading.specs.declared.read.Reading.{Reading}
-use Rattle.reading.specs.declared.read.Reading.TheVariants.{Accepted, Refused}
+use Rattle.reading.specs.declared.check.Passed.{Passed}
 use Rattle.reading.specs.Texts.{Contents}
 use Rattle.reading.specs.Meaning.{Reads}
-use Rattle.reading.specs.Reading.{check_text, checked_of, reply_to, read_reply, filled, is_accepted, read_table, reply_after, table_after, text_accepted, reading_returned, reading_number}
+use Rattle.reading.specs.Reading.{Checked, Reading, sheet_of, check_text, checked_of, reply_to, read_reply, filled, is_accepted, read_table, reply_after, table_after, text_accepted, reading_returned, reading_number}
 use Rattle.reading.specs.Promises.{Vouched, CheckedRead, TableRead}
 use Rattle.reading.proofs.Answered.{PassedWith, ShortWith, AcceptedWith, failed_judged, passed_judged, refused_judged, accepted_judged}
 use Rattle.reading.proofs.Numbers.{returned_failed, returned_passed, returned_refused, returned_accepted}
@@ -49,16 +46,16 @@ module _ (s : List ℕ) where
   accepted_reads : (c : Contents) (u : List ℕ) → bank_text s ≡ accepted c u → BankReads s c
   accepted_reads c u e = ((bank_text_means s (accepted c u)).0 e).0
 
-  passes_why : (n set m body : ℕ) → PassedWith (bank_text s) n set m body → BankPasses s n set m body
-  passes_why n set m body w =
+  passes_why : (p : Passed) → PassedWith (bank_text s) p → BankPasses s p.quantities p.hidden p.rules p.body
+  passes_why c w =
       let p = accepted_reads w.contents w.rest w.is in
       record {
         passes = record { contents = w.contents; reads = p.reads; counts = w.counts; hides = w.hides; rules = w.rules; begins = w.begins };
         ordered = p.ordered;
       }
 
-  passes_back : (n set m body : ℕ) → BankPasses s n set m body → PassedWith (bank_text s) n set m body
-  passes_back n set m body p =
+  passes_back : (p : Passed) → BankPasses s p.quantities p.hidden p.rules p.body → PassedWith (bank_text s) p
+  passes_back c p =
       let q = p.passes in
       record {
         contents = q.contents;
@@ -76,14 +73,17 @@ module _ (s : List ℕ) where
     reply = e;
     refused = λ f. let w = returned_failed r f in let v = failed_judged (bank_text s) f in let m = bank_text_means s (refused f) in
         (λ q. m.0 (v.0 (sym e ∙ w.0 q)), λ h. w.1 (e ∙ v.1 (m.1 h)));
-    passed = λ n set m body. let w = returned_passed r n set m body in let v = passed_judged (bank_text s) n set m body in
-        (λ q. passes_why n set m body (v.0 (sym e ∙ w.0 q)), λ p. w.1 (e ∙ v.1 (passes_back n set m body p)));
+    passed = λ n set m body.
+        let c : Passed = record { quantities = n; hidden = set; rules = m; body = body } in
+        let w = returned_passed r c in
+        let v = passed_judged (bank_text s) c in
+        (λ q. passes_why c (v.0 (sym e ∙ w.0 q)), λ p. w.1 (e ∙ v.1 (passes_back c p)));
   }
 
   -- such a check may be relied on
   pub bank_vouched : (r : Checked) → r ≡ checked_of (bank_text s) → Vouched s r
-  bank_vouched (Passed n set m body) e = (passes_why n set m body ((passed_judged (bank_text s) n set m body).0 (sym e))).passes
-  bank_vouched (Failed f) e = tt
+  bank_vouched (Ok p) e = (passes_why p ((passed_judged (bank_text s) p).0 (sym e))).passes
+  bank_vouched (Err f) e = tt
 
 -- ---- a text read
 
@@ -112,11 +112,11 @@ module _ (s : List ℕ) (t : List ℤ) where
       go (refused f) d = refl
 
   -- refused
-  bank_refused : (f : Refusal) → (bank_reply s (length t) ≡ Refused f) ↔ BankRefusedFor s (length t) f
+  bank_refused : (f : Refusal) → (bank_reply s (length t) ≡ Err f) ↔ BankRefusedFor s (length t) f
   unfolding bank_reply
   bank_refused f = (λ e. why (told.0 e), λ h. told.1 (back h))
     where
-      told : (reply_to (length t) (bank_text s) ≡ Refused f) ↔ ((bank_text s ≡ refused f) ⊎ ShortWith (bank_text s) (length t) f)
+      told : (reply_to (length t) (bank_text s) ≡ Err f) ↔ ((bank_text s ≡ refused f) ⊎ ShortWith (bank_text s) (length t) f)
       told = refused_judged (length t) (bank_text s) f
 
       why : (bank_text s ≡ refused f) ⊎ ShortWith (bank_text s) (length t) f → BankRefusedFor s (length t) f
@@ -128,11 +128,11 @@ module _ (s : List ℕ) (t : List ℤ) where
       back (inr (p, h)) = inr (record { contents = p.contents; rest = []; is = bank_reads s p.contents p.reads; short = h })
 
   -- accepted
-  bank_accepted : (n set : ℕ) → (bank_reply s (length t) ≡ Accepted n set) ↔ BankAcceptedAs s (length t) n set
+  bank_accepted : (n set : ℕ) → (bank_reply s (length t) ≡ Ok (sheet_of n set)) ↔ BankAcceptedAs s (length t) n set
   unfolding bank_reply
   bank_accepted n set = (λ e. why (told.0 e), λ h. told.1 (back h))
     where
-      told : (reply_to (length t) (bank_text s) ≡ Accepted n set) ↔ AcceptedWith (bank_text s) (length t) n set
+      told : (reply_to (length t) (bank_text s) ≡ Ok (sheet_of n set)) ↔ AcceptedWith (bank_text s) (length t) n set
       told = accepted_judged (length t) (bank_text s) n set
 
       why : AcceptedWith (bank_text s) (length t) n set → BankAcceptedAs s (length t) n set
@@ -169,8 +169,8 @@ module _ (s : List ℕ) (t : List ℤ) where
   bank_kept h = go (bank_reply s (length t)) h
     where
       go : (r : Reading) → (reading_number r ≡ 0 → ⊥) → cond (is_accepted r) (filled (bank_text s) t) t ≡ t
-      go (Accepted n set) h = absurd (h refl)
-      go (Refused f) h = refl
+      go (Ok sheet) h = absurd (h refl)
+      go (Err f) h = refl
 
   -- a text that is fine is read
   bank_table_read : (c : Contents) → BankReads s c → block_start c.count ≤ length t → TableRead c t (bank_table s t)

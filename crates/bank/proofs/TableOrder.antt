@@ -2,11 +2,11 @@
 use mathlib.Core.Path.{◌≡◌, refl, ◌∙◌, ap}
 use mathlib.Core.Bool.{Bool, true, false, cond}
 use mathlib.Core.List.{List, [], ◌∷◌}
+use Rattle.std.specs.Prelude.{Some}
 use Prim.Native.Nat.{ℕ, suc, ◌≤◌}
 use native.Mathlib.Omega.{arith}
 use lib.IntN.{ℤ}
 use lib.ListN.{take}
-use Rattle.places.specs.declared.Place.TheVariants.{At}
 use Rattle.places.specs.Numbering.{block_start, is_one, higher_at, lower_at}
 use Rattle.places.proofs.Numbering.{at_lower}
 use Rattle.rules.specs.declared.rule.Rule.TheVariants.{One, Two}
@@ -23,7 +23,7 @@ use Rattle.bank.specs.Order.{LowerFirst, NextAfter, InBankOrder}
 -- a rule has a place, which is the least one or after it
 pub record PlaceFrom (least : ℕ) (w : Written) : Type 0 where
   pub place : ℕ
-  pub found : find_place (written_rule w) ≡ At place
+  pub found : find_place (written_rule w) ≡ Some place
   pub from : least ≤ place
 
 -- the first of some rules has
@@ -37,12 +37,12 @@ next_sooner i least [] h f = tt
 next_sooner i least (w ∷ ws) h f = record { place = f.place; found = f.found; from = omega arith }
 
 -- rules from after a rule's place on come next after it
-pub next_after : (v : Written) (k : ℕ) (ws : List Written) → find_place (written_rule v) ≡ At k → NextFrom (suc k) ws → NextAfter v ws
+pub next_after : (v : Written) (k : ℕ) (ws : List Written) → find_place (written_rule v) ≡ Some k → NextFrom (suc k) ws → NextAfter v ws
 next_after v k [] e f = tt
 next_after v k (w ∷ ws) e f = record { earlier = k; later = f.place; first = e; second = f.found; after = f.from }
 
 -- and back
-pub after_next : (v : Written) (k : ℕ) (ws : List Written) → find_place (written_rule v) ≡ At k → NextAfter v ws → NextFrom (suc k) ws
+pub after_next : (v : Written) (k : ℕ) (ws : List Written) → find_place (written_rule v) ≡ Some k → NextAfter v ws → NextFrom (suc k) ws
 after_next v k [] e f = tt
 after_next v k (w ∷ ws) e f =
     let same : f.earlier ≡ k = cc in
@@ -60,7 +60,7 @@ rule_at_lower k c = go (is_one k) refl
     go false e = omega (arith, at_lower k e)
 
 -- and is found there
-pub written_found : (k : ℕ) (c : ℤ) → find_place (written_rule (written_of (rule_at k c))) ≡ At k
+pub written_found : (k : ℕ) (c : ℤ) → find_place (written_rule (written_of (rule_at k c))) ≡ Some k
 written_found k c = ap find_place (written-rule (rule_at k c)) ∙ rule_at_found k c
 
 -- the rules of words from place i on are in bank order, and none is before that place

@@ -4,9 +4,8 @@ use Rattle.rules.specs.declared.paper.Paper.TheVariants.{Sheet}
 use Rattle.rules.specs.declared.refusal.Refusal.TheVariants.{Size}
 use Rattle.rules.specs.Limits.{bound_range, max_text}
 use Rattle.lines.specs.Lines.{Judged, accepted, refused}
-use Rattle.reading.specs.declared.read.Reading.{Reading}
 use Rattle.reading.specs.Texts.{Contents}
-use Rattle.reading.specs.Reading.{onward, after_header, reply_to, filled, is_accepted}
+use Rattle.reading.specs.Reading.{Reading, onward, after_header, reply_to, filled, is_accepted}
 use Rattle.reading.specs.Ordered.{ordered_from}
 
 -- the lines of a bank sheet

@@ -1,6 +1,5 @@
 -- The order of a bank sheet's rules (document 02, [5]: "a bank sheet has its rules in place order, lower quantity first, each place once, no doubled term"), by how rules are written.
-use Rattle.std.specs.Prelude.{◌≡◌, List, [], ◌∷◌, ◌++◌, ℕ, ◌<◌, ◌≤◌}
-use Rattle.places.specs.declared.Place.TheVariants.{At}
+use Rattle.std.specs.Prelude.{◌≡◌, Some, List, [], ◌∷◌, ◌++◌, ℕ, ◌<◌, ◌≤◌}
 use Rattle.tables.specs.Places.{find_place}
 use Rattle.lines.specs.Spelling.{Written, one, two, written_rule}
 
@@ -27,16 +26,16 @@ HigherFirst (two x y c) = y.quantity < x.quantity
 pub record PlaceAfter (v w : Written) : Type 0 where
   pub earlier : ℕ
   pub later : ℕ
-  pub first : find_place (written_rule v) ≡ At earlier
-  pub second : find_place (written_rule w) ≡ At later
+  pub first : find_place (written_rule v) ≡ Some earlier
+  pub second : find_place (written_rule w) ≡ Some later
   pub after : earlier < later
 
 -- both have a place, and that of the second is not after that of the first
 pub record PlaceNotAfter (v w : Written) : Type 0 where
   pub earlier : ℕ
   pub later : ℕ
-  pub first : find_place (written_rule v) ≡ At earlier
-  pub second : find_place (written_rule w) ≡ At later
+  pub first : find_place (written_rule v) ≡ Some earlier
+  pub second : find_place (written_rule w) ≡ Some later
   pub not_after : later ≤ earlier
 
 -- ---- the rules of a bank sheet

@@ -6,10 +6,8 @@ use Rattle.rules.specs.declared.refusal.Refusal.{Refusal}
 use Rattle.rules.specs.Hidden.{set_within}
 use Rattle.rules.specs.Refusal.{refused_as}
 use Rattle.tables.specs.Meaning.{TableSized, NoneAbove, BoundsWithin}
-use Rattle.reading.specs.declared.check.Checked.{Checked}
-use Rattle.reading.specs.declared.read.Reading.{Reading}
 use Rattle.reading.specs.Texts.{Contents}
-use Rattle.reading.specs.Reading.{checked_of, checked_returned, read_reply, read_table, text_accepted, reading_returned, reading_number}
+use Rattle.reading.specs.Reading.{Checked, Reading, checked_of, checked_returned, read_reply, read_table, text_accepted, reading_returned, reading_number}
 use Rattle.reading.specs.Promises.{TableRead}
 use Rattle.writing.specs.Writing.{written_text}
 use Rattle.bank.specs.Banking.{bank_text, bank_reply, bank_table}

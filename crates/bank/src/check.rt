@@ -10,17 +10,8 @@ use rules::paper::Paper;
 pub fn check(s: &[u8]) -> Checked
     ensures { BankChecked s.now result }
 {
-    let header = check::check_header(s);
-    let Checked::Passed {
-        quantities,
-        hidden,
-        rules,
-        body,
-    } = header
-    else {
-        return header;
-    };
-    let limit = paper::bound_limit(Paper::Sheet, quantities, hidden) as u64;
+    let header = check::check_header(s)?;
+    let limit = paper::bound_limit(Paper::Sheet, header.quantities, header.hidden) as u64;
     let mut none = [0; 0];
-    check::check_rules(s, true, quantities, hidden, limit, rules, body, &mut none)
+    check::check_rules(s, true, header, limit, &mut none)
 }

@@ -5,16 +5,15 @@
 use reports::key;
 
 // Prints the name of a case and what *key* prints for its text. A write that fails is passed over: what is missing shows where the output is compared.
-fn show(rt: &impl Print, name: &[u8], text: &[u8]) {
+fn show(rt: &impl Print, name: &str, text: &[u8]) {
     let mut out = [0; key::ROOM];
     let end = key::print_key(text, &mut out);
-    let _ = rt.write_all(name);
-    let _ = rt.write_all(b"\n");
+    let _ = println!(rt; "{name}");
     let _ = rt.write_all(&out[..end]);
 }
 
 // Prints the name of a case and what *key* prints for its own output on the text.
-fn show_again(rt: &impl Print, name: &[u8], text: &[u8]) {
+fn show_again(rt: &impl Print, name: &str, text: &[u8]) {
     let mut out = [0; key::ROOM];
     let end = key::print_key(text, &mut out);
     show(rt, name, &out[..end]);
@@ -22,65 +21,65 @@ fn show_again(rt: &impl Print, name: &[u8], text: &[u8]) {
 
 // Counts and bounds at their limits and past them.
 fn limits(rt: &impl Print) {
-    show(rt, b"n 32", b"quantities=32\nhidden=\nrules=0\n");
-    show(rt, b"n 33", b"quantities=33\nhidden=\nrules=0\n");
-    show(rt, b"n 0", b"quantities=0\nhidden=\nrules=0\n");
+    show(rt, "n 32", b"quantities=32\nhidden=\nrules=0\n");
+    show(rt, "n 33", b"quantities=33\nhidden=\nrules=0\n");
+    show(rt, "n 0", b"quantities=0\nhidden=\nrules=0\n");
     show(
         rt,
-        b"bound 1000000000",
+        "bound 1000000000",
         b"quantities=1\nhidden=\nrules=1\nrule=+1:1000000000\n",
     );
     show(
         rt,
-        b"bound 1000000001",
+        "bound 1000000001",
         b"quantities=1\nhidden=\nrules=1\nrule=+1:1000000001\n",
     );
     show(
         rt,
-        b"bound -1000000000",
+        "bound -1000000000",
         b"quantities=1\nhidden=\nrules=1\nrule=+1:-1000000000\n",
     );
     show(
         rt,
-        b"bound -1000000001",
+        "bound -1000000001",
         b"quantities=1\nhidden=\nrules=1\nrule=+1:-1000000001\n",
     );
     show(
         rt,
-        b"a bound's limit is on the number as written",
+        "a bound's limit is on the number as written",
         b"quantities=1\nhidden=\nrules=1\nrule=+1+1:2000000000\n",
     );
-    show(rt, b"2049 rules", b"quantities=1\nhidden=\nrules=2049\n");
+    show(rt, "2049 rules", b"quantities=1\nhidden=\nrules=2049\n");
 }
 
 // Hidden lists: increasing before in range.
 fn hidden_lists(rt: &impl Print) {
-    show(rt, b"hidden 0", b"quantities=2\nhidden=0\nrules=0\n");
+    show(rt, "hidden 0", b"quantities=2\nhidden=0\nrules=0\n");
     show(
         rt,
-        b"hidden 1 and a comma",
+        "hidden 1 and a comma",
         b"quantities=2\nhidden=1,\nrules=0\n",
     );
-    show(rt, b"hidden 1,1", b"quantities=2\nhidden=1,1\nrules=0\n");
-    show(rt, b"hidden 3 of 2", b"quantities=2\nhidden=3\nrules=0\n");
+    show(rt, "hidden 1,1", b"quantities=2\nhidden=1,1\nrules=0\n");
+    show(rt, "hidden 3 of 2", b"quantities=2\nhidden=3\nrules=0\n");
     show(
         rt,
-        b"hidden 39,40",
+        "hidden 39,40",
         b"quantities=32\nhidden=39,40\nrules=0\n",
     );
     show(
         rt,
-        b"hidden 40,39",
+        "hidden 40,39",
         b"quantities=32\nhidden=40,39\nrules=0\n",
     );
     show(
         rt,
-        b"hidden thirty digits, then 1",
+        "hidden thirty digits, then 1",
         b"quantities=2\nhidden=999999999999999999999999999999,1\nrules=0\n",
     );
     show(
         rt,
-        b"hidden 1, then thirty digits",
+        "hidden 1, then thirty digits",
         b"quantities=2\nhidden=1,999999999999999999999999999999\nrules=0\n",
     );
 }
@@ -89,28 +88,28 @@ fn hidden_lists(rt: &impl Print) {
 fn numerals(rt: &impl Print) {
     show(
         rt,
-        b"a bound of thirty digits",
+        "a bound of thirty digits",
         b"quantities=1\nhidden=\nrules=1\nrule=+1:-123456789012345678901234567890\n",
     );
     show(
         rt,
-        b"a term of thirty digits",
+        "a term of thirty digits",
         b"quantities=1\nhidden=\nrules=1\nrule=-123456789012345678901234567890:5\n",
     );
-    show(rt, b"a leading zero", b"quantities=01\nhidden=\nrules=0\n");
+    show(rt, "a leading zero", b"quantities=01\nhidden=\nrules=0\n");
     show(
         rt,
-        b"a sign on a count",
+        "a sign on a count",
         b"quantities=+1\nhidden=\nrules=0\n",
     );
     show(
         rt,
-        b"a bound -0",
+        "a bound -0",
         b"quantities=1\nhidden=\nrules=1\nrule=+1:-0\n",
     );
     show(
         rt,
-        b"a bound +5",
+        "a bound +5",
         b"quantities=1\nhidden=\nrules=1\nrule=+1:+5\n",
     );
 }
@@ -119,75 +118,75 @@ fn numerals(rt: &impl Print) {
 fn rule_lines(rt: &impl Print) {
     show(
         rt,
-        b"quantity 0",
+        "quantity 0",
         b"quantities=1\nhidden=\nrules=1\nrule=+1-0:5\n",
     );
     show(
         rt,
-        b"quantity 3 of 2",
+        "quantity 3 of 2",
         b"quantities=2\nhidden=\nrules=1\nrule=+1+3:5\n",
     );
     show(
         rt,
-        b"three terms",
+        "three terms",
         b"quantities=3\nhidden=\nrules=1\nrule=+1+2+3:5\n",
     );
     show(
         rt,
-        b"a lone sign",
+        "a lone sign",
         b"quantities=1\nhidden=\nrules=1\nrule=+:5\n",
     );
     show(
         rt,
-        b"no bound",
+        "no bound",
         b"quantities=1\nhidden=\nrules=1\nrule=+1:\n",
     );
     show(
         rt,
-        b"2 before 3",
+        "2 before 3",
         b"quantities=1\nhidden=\nrules=1\nrule=+2:1000000001 \n",
     );
     show(
         rt,
-        b"3 before 4",
+        "3 before 4",
         b"quantities=2\nhidden=\nrules=1\nrule=+1-1:1000000001\n",
     );
     show(
         rt,
-        b"4",
+        "4",
         b"quantities=2\nhidden=\nrules=2\nrule=+1-2:1\nrule=-2+2:1\n",
     );
 }
 
 // Lines that are missing, that do not end, and that are too many.
 fn lines(rt: &impl Print) {
-    show(rt, b"no bytes", b"");
-    show(rt, b"no line 2", b"quantities=1\n");
-    show(rt, b"no line 3", b"quantities=1\nhidden=\n");
-    show(rt, b"a missing rule", b"quantities=1\nhidden=\nrules=1\n");
+    show(rt, "no bytes", b"");
+    show(rt, "no line 2", b"quantities=1\n");
+    show(rt, "no line 3", b"quantities=1\nhidden=\n");
+    show(rt, "a missing rule", b"quantities=1\nhidden=\nrules=1\n");
     show(
         rt,
-        b"a line without its end",
+        "a line without its end",
         b"quantities=1\nhidden=\nrules=0",
     );
     show(
         rt,
-        b"a line without its end, its bound outside the limit",
+        "a line without its end, its bound outside the limit",
         b"quantities=1\nhidden=\nrules=1\nrule=+1:1000000001",
     );
     show(
         rt,
-        b"a carriage return before the line's end",
+        "a carriage return before the line's end",
         b"quantities=1\r\nhidden=\nrules=0\n",
     );
     show(
         rt,
-        b"bytes after the last rule",
+        "bytes after the last rule",
         b"quantities=1\nhidden=\nrules=1\nrule=+1:5\n\n",
     );
     show(
         rt,
-        b"a rule after the last",
+        "a rule after the last",
         b"quantities=1\nhidden=\nrules=1\nrule=+1:5\nrule=-1:5\n",
     );
 }
@@ -196,17 +195,17 @@ fn lines(rt: &impl Print) {
 fn tables(rt: &impl Print) {
     show(
         rt,
-        b"two rules of one place",
+        "two rules of one place",
         b"quantities=2\nhidden=\nrules=4\nrule=+1:3\nrule=+1:5\nrule=-2:5\nrule=-2:3\n",
     );
     show(
         rt,
-        b"terms and rules in another order",
+        "terms and rules in another order",
         b"quantities=3\nhidden=\nrules=4\nrule=+3-1:4\nrule=-2+1:3\nrule=-3:2\nrule=+1:1\n",
     );
     show(
         rt,
-        b"a doubled term",
+        "a doubled term",
         b"quantities=1\nhidden=\nrules=1\nrule=+1+1:7\n",
     );
 }
@@ -214,14 +213,14 @@ fn tables(rt: &impl Print) {
 // Keys, and keys read again as sheets.
 fn keys(rt: &impl Print) {
     let a = b"quantities=3\nhidden=2\nrules=3\nrule=+1+2:5\nrule=+1-2:2\nrule=+3-2:0\n";
-    show(rt, b"sheet A", a);
-    show_again(rt, b"sheet A's key", a);
+    show(rt, "sheet A", a);
+    show_again(rt, "sheet A's key", a);
     let large = b"quantities=3\nhidden=2\nrules=2\nrule=+1-2:1000000000\nrule=+2-3:1000000000\n";
-    show(rt, b"a key's bound past the limit", large);
-    show_again(rt, b"that key", large);
+    show(rt, "a key's bound past the limit", large);
+    show_again(rt, "that key", large);
     show(
         rt,
-        b"5",
+        "5",
         b"quantities=1\nhidden=1\nrules=2\nrule=+1:0\nrule=-1:-1\n",
     );
 }
@@ -229,9 +228,9 @@ fn keys(rt: &impl Print) {
 // Texts of the largest size, and one byte larger.
 fn sizes(rt: &impl Print) {
     let largest = [b'='; 65536];
-    show(rt, b"65536 bytes", &largest);
+    show(rt, "65536 bytes", &largest);
     let larger = [b'='; 65537];
-    show(rt, b"65537 bytes", &larger);
+    show(rt, "65537 bytes", &larger);
 }
 
 fn main(rt: HostRuntime) {

@@ -1,4 +1,4 @@
--- The least of the bounds that a row leaves, as far as a list of live quantities is passed: by none, by one more, by all. Assumes nothing.
+-- The least of the bounds that a row leaves, as far as a list of live quantities is passed: by none, by one more. Assumes nothing.
 use mathlib.Core.Path.{◌≡◌, refl, sym, ◌∙◌, ap}
 use mathlib.Core.Bool.{Bool, true, false}
 use mathlib.Core.List.{List}
@@ -11,21 +11,13 @@ use lib.ListN.{length, get_or}
 use borrow.Author.Tests.{ltb-true, ltb-false}
 use Rattle.elimination.specs.Choosing.{with_upper, bounded_by}
 use Rattle.elimination.specs.Inner.{among, Rising}
-use Rattle.elimination.proofs.Lists.{listed_at, listed_place, rising_above}
+use Rattle.elimination.proofs.Lists.{listed_at, unlisted, rising_above}
 use Rattle.elimination.proofs.Projection.{bounded_none, bounded_more, bounded_over}
 
 -- the first i listed quantities are below s, and the others are not
 pub record Between (live : List ℕ) (i s : ℕ) : Type 0 where
   pub before : (h : ℕ) → h < i → get_or live h 0 < s
   pub after : (h : ℕ) → i ≤ h → h < length live → s ≤ get_or live h 0
-
--- a quantity that stands nowhere in the list is not listed
-unlisted : (live : List ℕ) (a : ℕ) → ((h : ℕ) → h < length live → get_or live h 0 ≡ a → ⊥) → among live a ≡ false
-unlisted live a none = go (among live a) refl
-  where
-    go : (b : Bool) → among live a ≡ b → b ≡ false
-    go true e = let p = listed_place live a e in absurd (none p.place p.inside p.is)
-    go false e = refl
 
 -- the next one is between those passed and the others
 between_next : (live : List ℕ) (i : ℕ) → Rising live → i < length live → Between live i (get_or live i 0)
@@ -51,7 +43,7 @@ module _ (live : List ℕ) (value row : ℕ → ℤ) (alone v : ℤ) where
       over : (s : ℕ) → Between live 0 s → up_to 0 ≡ up_to (2 * s)
       over s b =
           sym (bounded_over (among live) value row alone 0 (2 * s) v
-          (λ x g l. unlisted live (x / 2) (λ h m e. let k = b.after h (omega arith) m in omega arith)))
+          (λ x g l. unlisted live (x / 2) (λ s. omega (arith, b.after s.place (omega arith) s.inside, s.is))))
           ∙ ap up_to (omega arith)
 
   -- by one more
@@ -80,9 +72,5 @@ module _ (live : List ℕ) (value row : ℕ → ℤ) (alone v : ℤ) where
           let p = b.before i (omega arith) in
           let e : 2 * s - suc (suc (2 * a)) + suc (suc (2 * a)) ≡ 2 * s = omega arith in
           sym (bounded_over (among live) value row alone (suc (suc (2 * a))) (2 * s - suc (suc (2 * a))) v
-          (λ x g k. unlisted live (x / 2) (λ h m u. passed s b x h g (omega arith) m (ltb i h) refl u)))
+          (λ x g k. unlisted live (x / 2) (λ t. passed s b x t.place g (omega arith) t.inside (ltb i t.place) refl t.is)))
           ∙ ap up_to e
-
-  -- by all
-  pub best_all : (n : ℕ) (best : ℤ) → ((h : ℕ) → h < length live → get_or live h 0 < n) → BestTo (length live) best → best ≡ up_to (2 * n)
-  best_all n best below f = f.all n (record { before = below; after = λ h k m. let z : ⊥ = omega arith in absurd z })

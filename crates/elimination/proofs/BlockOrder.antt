@@ -9,9 +9,9 @@ use lib.IntN.{ℤ}
 use lib.ListN.{length}
 use lib.Signed.{◌≤ℤ◌}
 use borrow.Author.Tests.{ltb-true, ltb-false, lt-ltb, le-ltb}
+use Rattle.std.specs.Prelude.{Some}
 use Rattle.words.specs.Change.{word_at, change, starting_at}
 use Rattle.words.proofs.Change.{change_length, change_below, change_past, change_none}
-use Rattle.places.specs.declared.Place.TheVariants.{At}
 use Rattle.places.specs.Numbering.{block_start, block_of, is_one, higher_at, lower_at}
 use Rattle.places.proofs.Numbering.{block_start_mono, block_unique, higher_half, at_lower}
 use Rattle.rules.specs.declared.rule.Rule.{Rule}
@@ -197,7 +197,7 @@ module _ (n j : ℕ) (t : List ℤ) (l : block_start n ≤ length t) (h : j < n)
           go true q = ltb-true b n q
           go false q = let from = i.from in let z : ⊥ = omega (arith, block_start_mono {a = n} {b = b} (ltb-false b n q)) in absurd z
 
-      in_block : (u : Rule) → IsSum n j t u → (b k : ℕ) → InBlock b k → find_place u ≡ At k → word_at (paired every (suc b) j t) k ≤ℤ bound_of u
+      in_block : (u : Rule) → IsSum n j t u → (b k : ℕ) → InBlock b k → find_place u ≡ Some k → word_at (paired every (suc b) j t) k ≤ℤ bound_of u
       in_block u s b k i p = rw (reached (suc b) k (block_within b k i (sum_place n j t l h u s k p).0) i.below) (sum_goes_in n j t l h u s k p)
 
   -- the tables between being those of the sums that go to the first blocks

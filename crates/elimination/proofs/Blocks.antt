@@ -1,22 +1,27 @@
 -- The walk of `pairing` over the blocks of a table in the order of their places: places of quantities that are not live are passed over. Assumes nothing.
 use mathlib.Core.Path.{◌≡◌, refl, sym, ◌∙◌, ap}
-use mathlib.Core.Bool.{Bool, true, false, cond, ◌&&◌, ◌||◌, and-false}
-use mathlib.Core.List.{List, [], ◌∷◌}
-use Prim.Native.Nat.{ℕ, zero, suc, ◌+◌, ◌*◌, ◌/◌, ◌%◌, ◌≤◌, ◌<◌}
+use mathlib.Core.Bool.{Bool, true, false, cond, and-false}
+use mathlib.Core.List.{List}
+use Prim.Native.Nat.{ℕ, suc, ◌+◌, ◌*◌, ◌/◌, ◌%◌, ◌≤◌, ◌<◌}
 use native.Mathlib.Numerals.{add-one}
 use native.Mathlib.Omega.{arith}
 use lib.Dec.{ltb, eqb}
 use lib.IntN.{ℤ}
 use lib.ListN.{length, set, get_or, get_or-eq_default}
 use borrow.Author.Tests.{ltb-true, ltb-false, le-ltb, eqb-true, eqb-false}
+use Rattle.std.proofs.lemmas.List.{get_or_default}
 use Rattle.words.specs.Change.{word_at, change, starting_at}
 use Rattle.words.proofs.Change.{change_none, change_nothing, change_skip, change_same, starting_none, starting_more, starting_on}
 use Rattle.places.specs.Numbering.{block_start, place_of_one, place_of_pair, block_of, offset_of, is_one, higher_at, lower_at}
-use Rattle.places.proofs.Numbering.{block_start_suc, block_start_mono, block_order, block_ends, block_below, block_unique, offset_place, higher_half, at_lower, at_below}
+use Rattle.places.proofs.Numbering.{block_start_suc, block_start_mono, block_order, block_ends, block_below, block_unique, offset_place, higher_half}
 use Rattle.tables.specs.Tables.{has_rule}
+use Rattle.tables.proofs.Tests.{both_true}
+use Rattle.elimination.specs.declared.bounds.QuantityBounds.{QuantityBounds}
 use Rattle.elimination.specs.Hiding.{pair_word, lone_word, on_one, on_two, live_at, pairing, paired}
-use Rattle.elimination.specs.Inner.{among, Rising, Gathered, four_paired}
-use Rattle.elimination.proofs.Lists.{StandsAt, listed_place, rising_above}
+use Rattle.elimination.specs.Inner.{among, Rising, Gathered, bounds_at, two_paired, four_paired, neither_held, none_held}
+use Rattle.elimination.proofs.Alike.{pairing_alike}
+use Rattle.elimination.proofs.Addable.{neither_tells}
+use Rattle.elimination.proofs.Lists.{StandsAt, unlisted, rising_above}
 use Rattle.elimination.proofs.PairedWords.{pairing_one, pairing_two, pairing_dead}
 use Rattle.elimination.proofs.Fewer.{one_silent, high_silent}
 
@@ -123,7 +128,7 @@ module _ (live : ℕ → Bool) (plus minus : ℕ → ℤ) (p m : ℤ) where
       i = block_start b + 2
 
   -- the four of a lower quantity
-  pub twos_more : (b a k : ℕ) (t u v w y z : List ℤ) → live a ≡ true → live b ≡ true → a < b → k ≡ block_start b + 2 + 4 * a → k + 3 < length t
+  twos_more : (b a k : ℕ) (t u v w y z : List ℤ) → live a ≡ true → live b ≡ true → a < b → k ≡ block_start b + 2 + 4 * a → k + 3 < length t
       → u ≡ change k (starting_at (block_start b + 2) (pairing live plus minus p m)) t
       → v ≡ set u k (on_two plus minus (2 * a) (2 * b) (word_at u k))
       → w ≡ set v (k + 1) (on_two plus minus (2 * a) (2 * b + 1) (word_at v (k + 1)))
@@ -137,6 +142,32 @@ module _ (live : ℕ → Bool) (plus minus : ℕ → ℤ) (p m : ℤ) where
       let third : k + 2 + 1 ≡ k + 3 = omega arith in
       let all = literal_more b (2 * a + 1) (k + 2) t w y z (rw odd h) g (omega arith) (omega arith) (omega arith) half r (rw third o) in
       all ∙ ap (λ (c : ℕ). change c (starting_at (block_start b + 2) f) t) (omega arith)
+
+  -- given the bounds of both quantities
+  pub twos_put : (b a : ℕ) (t u z : List ℤ) → live a ≡ true → live b ≡ true → a < b → block_start b + 2 + 4 * a + 3 < length t
+      → u ≡ change (block_start b + 2 + 4 * a) (starting_at (block_start b + 2) (pairing live plus minus p m)) t
+      → z ≡ four_paired u (block_start b + 2 + 4 * a) (bounds_at plus minus a) (bounds_at plus minus b)
+      → z ≡ change (block_start b + 2 + 4 * suc a) (starting_at (block_start b + 2) (pairing live plus minus p m)) t
+  unfolding on_two
+  twos_put b a t u z h g l s q e = twos_more b a at t u first second third z h g l refl s q refl refl refl e
+    where
+      at : ℕ
+      at = block_start b + 2 + 4 * a
+
+      x : QuantityBounds
+      x = bounds_at plus minus a
+
+      y : QuantityBounds
+      y = bounds_at plus minus b
+
+      first : List ℤ
+      first = two_paired u at x.literal y.literal
+
+      second : List ℤ
+      second = two_paired first (at + 1) x.literal y.negated
+
+      third : List ℤ
+      third = two_paired second (at + 2) x.negated y.literal
 
   -- the places of a block's literals alone, then its others
   pub block_whole : (b : ℕ) (t u v : List ℤ) → live b ≡ true → block_start (suc b) ≤ length t
@@ -177,7 +208,7 @@ module _ (live : ℕ → Bool) (plus minus : ℕ → ℤ) (p m : ℤ) where
       go true true = one_silent plus minus p m y w a b
       go true false = high_silent plus minus p m (lower_at k) y w a b
 
-  pub block_idle : (b : ℕ) (t : List ℤ) → has_rule (plus (2 * b)) ≡ false → has_rule (minus (2 * b)) ≡ false → has_rule (plus (2 * b + 1)) ≡ false
+  block_idle : (b : ℕ) (t : List ℤ) → has_rule (plus (2 * b)) ≡ false → has_rule (minus (2 * b)) ≡ false → has_rule (plus (2 * b + 1)) ≡ false
       → has_rule (minus (2 * b + 1)) ≡ false → t ≡ change (block_start (suc b)) (starting_at (block_start b) (pairing live plus minus p m)) t
   block_idle b t a c d e = sym (change_nothing (block_start (suc b)) (starting_at (block_start b) f) t (λ k h. go k h (ltb k (block_start b)) refl))
     where
@@ -191,13 +222,19 @@ module _ (live : ℕ → Bool) (plus minus : ℕ → ℤ) (p m : ℤ) where
       go k h true q = refl
       go k h false q = own k (block_unique b k (ltb-false k (block_start b) q) h) (eqb (higher_at k) (2 * b)) refl
 
+  pub block_none : (b : ℕ) (t : List ℤ) → none_held (bounds_at plus minus b) ≡ true → t ≡ change (block_start (suc b)) (starting_at (block_start b) (pairing live plus minus p m)) t
+  block_none b t e =
+      let x = bounds_at plus minus b in
+      let none = both_true (neither_held x.literal) (neither_held x.negated) e in
+      let f = neither_tells x.literal none.0 in
+      let g = neither_tells x.negated none.1 in
+      block_idle b t f.0 f.1 g.0 g.1
+
 -- ---- the walk over a list of live quantities
 
 -- inside a list it does not matter what is read past its end
 pub inside_same : (list : List ℕ) (i a b : ℕ) → i < length list → get_or list i a ≡ get_or list i b
-inside_same [] i a b h = let z : ⊥ = omega arith in absurd z
-inside_same (c ∷ more) zero a b h = refl
-inside_same (c ∷ more) (suc i) a b h = inside_same more i a b (omega arith)
+inside_same = get_or_default
 
 module _ (list : List ℕ) (r : Rising list) where
   -- one that stands no sooner is no lower
@@ -210,7 +247,7 @@ module _ (list : List ℕ) (r : Rising list) where
 
   -- none is listed between those before a place and the one that stands there, or n where the list has ended
   none_until : (n k a : ℕ) → ((h : ℕ) → h < k → get_or list h 0 < a) → a < get_or list k n → among list a ≡ false
-  none_until n k a before l = go (among list a) refl
+  none_until n k a before l = unlisted list a (λ s. nowhere s (ltb s.place k) refl)
     where
       nowhere : (s : StandsAt list a) (c : Bool) → ltb s.place k ≡ c → ⊥
       nowhere s true e = omega (arith, before s.place (ltb-true s.place k e), s.is)
@@ -218,10 +255,6 @@ module _ (list : List ℕ) (r : Rising list) where
           let g = ltb-false s.place k e in
           let inside = s.inside in
           omega (arith, rising_from k s.place g inside, s.is, inside_same list k n 0 (omega arith))
-
-      go : (b : Bool) → among list a ≡ b → b ≡ false
-      go true e = let s = listed_place list a e in absurd (nowhere s (ltb s.place k) refl)
-      go false e = refl
 
   none_first : (n a : ℕ) → a < get_or list 0 n → among list a ≡ false
   none_first n a l = none_until n 0 a (λ h g. let z : ⊥ = omega arith in absurd z) l
@@ -262,30 +295,9 @@ module _ (list : List ℕ) (r : Rising list) where
         blocks_over (among list) plus minus p m (suc (get_or list i 0)) (get_or list (suc i) n) t (next_above n i g h)
         (λ a b c. none_next n i a h (omega arith) c)
 
--- ---- other rows
+-- ---- gathered rows
 
--- what is put in depends on the words of live literals alone
-pairing_same : (live : ℕ → Bool) (n : ℕ) (plus minus plus' minus' : ℕ → ℤ) (p m : ℤ) (k : ℕ) (w : ℤ)
-    → ((x : ℕ) → x < 2 * n → live (x / 2) ≡ true → plus x ≡ plus' x)
-    → ((x : ℕ) → x < 2 * n → live (x / 2) ≡ true → minus x ≡ minus' x)
-    → k < block_start n → pairing live plus minus p m k w ≡ pairing live plus' minus' p m k w
-unfolding pairing live_at on_one on_two
-pairing_same live n plus minus plus' minus' p m k w e d h = go (is_one k) refl (live (higher_at k / 2)) refl (live (lower_at k / 2)) refl
-  where
-    high : higher_at k < 2 * n
-    high = at_below n k h
-
-    go : (b : Bool) → is_one k ≡ b → (c : Bool) → live (higher_at k / 2) ≡ c → (o : Bool) → live (lower_at k / 2) ≡ o
-        → cond (c && (b || o)) (cond b (on_one plus minus p m (higher_at k) w) (on_two plus minus (lower_at k) (higher_at k) w)) w
-        ≡ cond (c && (b || o)) (cond b (on_one plus' minus' p m (higher_at k) w) (on_two plus' minus' (lower_at k) (higher_at k) w)) w
-    go b i false g o l = refl
-    go true i true g o l = rw (e (higher_at k) high g, d (higher_at k) high g)
-    go false i true g false l = refl
-    go false i true g true l =
-        let low : lower_at k < 2 * n = omega (arith, at_lower k i, high) in
-        rw (e (higher_at k) high g, d (higher_at k) high g, e (lower_at k) low l, d (lower_at k) low l)
-
--- so with gathered rows it is what the step puts in
+-- with gathered rows it is what the step puts in
 pub paired_rows : (n j : ℕ) (live : List ℕ) (t plus minus : List ℤ) (p m : ℤ)
     → Gathered n j live t plus minus → p ≡ lone_word t (2 * j) → m ≡ lone_word t (2 * j + 1)
     → change (block_start n) (pairing (among live) (word_at plus) (word_at minus) p m) t ≡ paired (among live) n j t
@@ -295,10 +307,5 @@ paired_rows n j live t plus minus p m g e d = rw (e, d)
     (pairing (among live) (word_at plus) (word_at minus) (lone_word t (2 * j)) (lone_word t (2 * j + 1)))
     (pairing (among live) (pair_word t (2 * j)) (pair_word t (2 * j + 1)) (lone_word t (2 * j)) (lone_word t (2 * j + 1)))
     t
-    (λ k l. pairing_same (among live) n (word_at plus) (word_at minus) (pair_word t (2 * j)) (pair_word t (2 * j + 1)) (lone_word t (2 * j)) (lone_word t (2 * j + 1)) k
+    (λ k l. pairing_alike (among live) n (word_at plus) (word_at minus) (pair_word t (2 * j)) (pair_word t (2 * j + 1)) (lone_word t (2 * j)) (lone_word t (2 * j + 1)) k
     (word_at t k) g.plus_bounds g.minus_bounds l))
-
--- the sums at four places are those of equal bounds
-pub four_same : (t : List ℤ) (at : ℕ) {a b c d e f g h a' b' c' d' e' f' g' h' : ℤ} → a ≡ a' → b ≡ b' → c ≡ c' → d ≡ d' → e ≡ e' → f ≡ f' → g ≡ g' → h ≡ h'
-    → four_paired t at a b c d e f g h ≡ four_paired t at a' b' c' d' e' f' g' h'
-four_same t at p q r s u v w z = rw (p, q, r, s, u, v, w, z)

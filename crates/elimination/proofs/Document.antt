@@ -12,8 +12,8 @@ use lib.ListN.{length}
 use lib.Signed.{◌≤ℤ◌, ◌<ℤ◌}
 use borrow.Author.Tests.{ne_eqb}
 use Rattle.integers.proofs.Parts.{linear}
+use Rattle.std.specs.Prelude.{Some, None}
 use Rattle.words.specs.Change.{word_at}
-use Rattle.places.specs.declared.Place.TheVariants.{At, Nowhere}
 use Rattle.places.specs.Numbering.{block_start, place_of_one, place_of_pair, is_one, higher_at, lower_at}
 use Rattle.places.proofs.Numbering.{at_one, at_lower, at_pair, at_below}
 use Rattle.rules.specs.declared.rule.Rule.{Rule}
@@ -63,22 +63,22 @@ listed_sum n j t l h = rest_listed n j t (IsSum n j t) sum
 -- ---- where a sum goes
 
 -- a place is one number, and what stands nowhere has none
-at_same : (a k : ℕ) → At a ≡ At k → a ≡ k
+at_same : (a k : ℕ) → Some a ≡ Some k → a ≡ k
 at_same a k e = cc
 
-nowhere_at : (k : ℕ) → Nowhere ≡ At k → ⊥
+nowhere_at : (k : ℕ) → None ≡ Some k → ⊥
 nowhere_at k e = let z : ◌≡◌ {A = ℕ} 0 1 = cc in omega arith
 
 -- as a bare rule does
-bare_nowhere : (u : Rule) (k : ℕ) → u ≡ Nothing (bound_of u) → find_place u ≡ At k → ⊥
+bare_nowhere : (u : Rule) (k : ℕ) → u ≡ Nothing (bound_of u) → find_place u ≡ Some k → ⊥
 unfolding find_place
 bare_nowhere u k q p = nowhere_at k (rw q at p)
 
 module _ (n j : ℕ) (t : List ℤ) (l : block_start n ≤ length t) (h : j < n) where
   -- 'Sums go in by minimum': the word at a sum's place is at most its bound
-  pub sum_goes_in : (u : Rule) → IsSum n j t u → (k : ℕ) → find_place u ≡ At k → word_at (paired every n j t) k ≤ℤ bound_of u
+  pub sum_goes_in : (u : Rule) → IsSum n j t u → (k : ℕ) → find_place u ≡ Some k → word_at (paired every n j t) k ≤ℤ bound_of u
   unfolding find_place
-  sum_goes_in = sum_listed n j t (λ (u : Rule). (k : ℕ) → find_place u ≡ At k → word_at (paired every n j t) k ≤ℤ bound_of u) (record {
+  sum_goes_in = sum_listed n j t (λ (u : Rule). (k : ℕ) → find_place u ≡ Some k → word_at (paired every n j t) k ≤ℤ bound_of u) (record {
     nothing = λ f g k e. absurd (nowhere_at k e);
     cancels = λ x b f g k e. absurd (nowhere_at k e);
     of_plus = λ x b f g k e. rw (← at_same (place_of_one x) k e) (lone_plus every n j t l x b refl f g);
@@ -192,7 +192,7 @@ module _ (n j : ℕ) (t : List ℤ) (l : block_start n ≤ length t) (h : j < n)
       ∙ rw (names_bound (suc j) k (word_at (paired every n j t) k) (word_at t k) ∙ e)
 
   -- a sum that has a place goes to one that does not name the quantity,
-  pub sum_place : (u : Rule) → IsSum n j t u → (k : ℕ) → find_place u ≡ At k → (k < block_start n) × (names (suc j) (rule_in t k) ≡ false)
+  pub sum_place : (u : Rule) → IsSum n j t u → (k : ℕ) → find_place u ≡ Some k → (k < block_start n) × (names (suc j) (rule_in t k) ≡ false)
   sum_place u s k p = go (sum_places u s)
     where
       go : HasPlace n u ⊎ (u ≡ Nothing (bound_of u)) → (k < block_start n) × (names (suc j) (rule_in t k) ≡ false)

@@ -13,8 +13,8 @@ use lib.Signed.{lt_z, ◌≤ℤ◌, ◌<ℤ◌}
 use borrow.Author.Tests.{lt-ltb, le-ltb, eqb-true, eqb-false, eq-eqb, ne_eqb}
 use Rattle.integers.specs.Bound.{half}
 use Rattle.integers.proofs.Parts.{linear}
+use Rattle.std.specs.Prelude.{Some}
 use Rattle.words.specs.Change.{word_at}
-use Rattle.places.specs.declared.Place.TheVariants.{At}
 use Rattle.places.specs.Numbering.{block_start, place_of_one, place_of_pair, place_of_two, is_one, higher_at, lower_at}
 use Rattle.places.proofs.Numbering.{one_below, pair_below, one_is_one, one_higher, pair_is_one, pair_higher, pair_lower, at_lower, at_below}
 use Rattle.rules.specs.declared.rule.Rule.{Rule}
@@ -72,11 +72,11 @@ rest_cases P x y s cancels alike lower upper =
 -- ---- where such a rule goes
 
 -- to the place of its one literal, or of its two
-pub found_one : (x : ℕ) (c : ℤ) → find_place (One x c) ≡ At (place_of_one x)
+pub found_one : (x : ℕ) (c : ℤ) → find_place (One x c) ≡ Some (place_of_one x)
 unfolding find_place
 found_one x c = refl
 
-pub found_pair : (x y : ℕ) (c : ℤ) → x / 2 < y / 2 → find_place (Two x y c) ≡ At (place_of_pair x y)
+pub found_pair : (x y : ℕ) (c : ℤ) → x / 2 < y / 2 → find_place (Two x y c) ≡ Some (place_of_pair x y)
 unfolding find_place place_of_two
 found_pair x y c o = found_two x y (λ e. omega arith) ∙ rw (lt-ltb x y (omega arith))
 

@@ -5,8 +5,9 @@ use mathlib.Core.List.{List, [], ◌∷◌}
 use Prim.Native.Nat.{ℕ, zero, suc, ◌<◌}
 use native.Mathlib.Omega.{arith}
 use lib.Dec.{eqb, ltb}
-use lib.ListN.{length, get_or}
+use lib.ListN.{length, get_or, take}
 use borrow.Author.Tests.{eqb-true, eq-eqb, ltb-true, ltb-false}
+use Rattle.std.proofs.lemmas.List.{get_or-take, length-take-le}
 use Rattle.rules.specs.Hidden.{is_listed}
 use Rattle.tables.proofs.Tests.{clash}
 use Rattle.elimination.specs.Inner.{among, Rising, Listed}
@@ -39,6 +40,14 @@ listed_place (b ∷ bs) a e = go (eqb a b) refl (listed_place bs a)
     go true d ih = record { place = 0; inside = omega arith; is = sym (eqb-true a b d) }
     go false d ih = let s = ih (rw d at e) in record { place = suc s.place; inside = omega (arith, s.inside); is = s.is }
 
+-- so one that stands nowhere is not listed
+pub unlisted : (list : List ℕ) (a : ℕ) → (StandsAt list a → ⊥) → among list a ≡ false
+unlisted list a none = go (among list a) refl
+  where
+    go : (b : Bool) → among list a ≡ b → b ≡ false
+    go true e = absurd (none (listed_place list a e))
+    go false e = refl
+
 -- ---- in increasing number
 
 module _ (list : List ℕ) (r : Rising list) where
@@ -50,6 +59,17 @@ module _ (list : List ℕ) (r : Rising list) where
       go : (b : Bool) → ltb i k ≡ b → (i < k → k < length list → get_or list i 0 < get_or list k 0) → get_or list i 0 < get_or list (suc k) 0
       go true e ih = omega (arith, ih (ltb-true i k e) (omega arith), r.rises k l)
       go false e ih = let d : i ≡ k = omega (arith, ltb-false i k e) in rw d (r.rises k l)
+
+  -- as among those before a place, of which each is lower than the one there
+  pub record LowerAt (i k : ℕ) : Type 0 where
+    pub before : k < i
+    pub is : get_or (take i list) k 0 ≡ get_or list k 0
+    pub below : get_or list k 0 < get_or list i 0
+
+  pub lower_at : (i k : ℕ) → i < length list → k < length (take i list) → LowerAt i k
+  lower_at i k h l =
+      let before : k < i = omega (arith, length-take-le i list (omega arith)) in
+      record { before = before; is = get_or-take i list k 0 before; below = rising_above k i before h }
 
   -- and one that is higher stands later
   pub rising_later : (i k : ℕ) → i < length list → k < length list → get_or list i 0 < get_or list k 0 → i < k
@@ -64,38 +84,20 @@ module _ (list : List ℕ) (r : Rising list) where
 
   -- none stands between neighbours,
   pub none_between : (i a : ℕ) → suc i < length list → get_or list i 0 < a → a < get_or list (suc i) 0 → among list a ≡ false
-  none_between i a h f g = go (among list a) refl
-    where
-      go : (b : Bool) → among list a ≡ b → b ≡ false
-      go true e =
-          let s = listed_place list a e in
-          let above = rising_later i s.place (omega arith) s.inside (omega (arith, s.is)) in
-          let below = rising_later s.place (suc i) s.inside h (omega (arith, s.is)) in
-          let z : ⊥ = omega arith in absurd z
-      go false e = refl
+  none_between i a h f g = unlisted list a (λ s.
+      let above = rising_later i s.place (omega arith) s.inside (omega (arith, s.is)) in
+      let below = rising_later s.place (suc i) s.inside h (omega (arith, s.is)) in
+      omega arith)
 
   -- before the first,
   pub none_before : (a : ℕ) → 0 < length list → a < get_or list 0 0 → among list a ≡ false
-  none_before a h g = go (among list a) refl
-    where
-      go : (b : Bool) → among list a ≡ b → b ≡ false
-      go true e =
-          let s = listed_place list a e in
-          let below = rising_later s.place 0 s.inside h (omega (arith, s.is)) in
-          let z : ⊥ = omega arith in absurd z
-      go false e = refl
+  none_before a h g = unlisted list a (λ s. let below = rising_later s.place 0 s.inside h (omega (arith, s.is)) in omega arith)
 
   -- or after the last
   pub none_after : (i a : ℕ) → suc i ≡ length list → get_or list i 0 < a → among list a ≡ false
-  none_after i a h f = go (among list a) refl
-    where
-      go : (b : Bool) → among list a ≡ b → b ≡ false
-      go true e =
-          let s = listed_place list a e in
-          let above = rising_later i s.place (omega arith) s.inside (omega (arith, s.is)) in
-          let inside = s.inside in
-          let z : ⊥ = omega arith in absurd z
-      go false e = refl
+  none_after i a h f = unlisted list a (λ s.
+      let above = rising_later i s.place (omega arith) s.inside (omega (arith, s.is)) in
+      omega (arith, s.inside))
 
 -- those of n quantities are below n
 pub listed_below : (n : ℕ) (list : List ℕ) → Listed n list → (a : ℕ) → among list a ≡ true → a < n

@@ -1,8 +1,7 @@
 -- The order of work of a hiding step (document 02, request 4): one block after another, by place, and then the clearing. What the step puts in is said in
 -- Hiding and in ByRules, apart from any order.
-use Rattle.std.specs.Prelude.{true, false, ◌≡◌, List, ℕ, suc, ◌+◌, ◌*◌, ◌≤◌, ◌<◌, ℤ, length, ◌≤ℤ◌}
+use Rattle.std.specs.Prelude.{true, false, ◌≡◌, List, ℕ, suc, ◌+◌, ◌*◌, ◌≤◌, ◌<◌, ℤ, length, ◌≤ℤ◌, Some}
 use Rattle.words.specs.Change.{word_at}
-use Rattle.places.specs.declared.Place.TheVariants.{At}
 use Rattle.places.specs.Numbering.{block_start}
 use Rattle.rules.specs.declared.rule.Rule.{Rule}
 use Rattle.rules.specs.Meaning.{bound_of, names}
@@ -49,6 +48,6 @@ pub record HiddenByBlocks (n j : ℕ) (start after : List ℤ) : Type 0 where
   pub each : (b : ℕ) → b < n → BlockDone n j b start (tables b) (tables (suc b))
   pub last : after ≡ cleared n (suc j) (tables n)
   -- a sum is in when the work on the block of its place is done,
-  pub sums : (u : Rule) → IsSum n j start u → (b k : ℕ) → InBlock b k → find_place u ≡ At k → word_at (tables (suc b)) k ≤ℤ bound_of u
+  pub sums : (u : Rule) → IsSum n j start u → (b k : ℕ) → InBlock b k → find_place u ≡ Some k → word_at (tables (suc b)) k ≤ℤ bound_of u
   -- and until a block is begun it stands as at the start, as do those after it
   pub waiting : (b k : ℕ) → b ≤ n → block_start b ≤ k → word_at (tables b) k ≡ word_at start k

@@ -1,8 +1,7 @@
 -- Hiding one quantity in document 01's own words, by sums of rules. Hiding.antt says the same place by place; that both agree is promised where a
 -- quantity is hidden.
-use Rattle.std.specs.Prelude.{Bool, true, false, List, ◌↔◌, ◌⊎◌, ◌≡◌, ℕ, suc, ◌+◌, ◌*◌, ◌<◌, ℤ, pos, ◌+ℤ◌, ◌≤ℤ◌, ◌<ℤ◌}
+use Rattle.std.specs.Prelude.{Bool, true, false, List, ◌↔◌, ◌⊎◌, ◌≡◌, ℕ, suc, ◌+◌, ◌*◌, ◌<◌, ℤ, pos, ◌+ℤ◌, ◌≤ℤ◌, ◌<ℤ◌, Some}
 use Rattle.words.specs.Change.{word_at}
-use Rattle.places.specs.declared.Place.TheVariants.{At}
 use Rattle.places.specs.Numbering.{block_start}
 use Rattle.rules.specs.declared.rule.Rule.{Rule}
 use Rattle.rules.specs.declared.rule.Rule.TheVariants.{Nothing}
@@ -34,7 +33,7 @@ pub record IsSum (n j : ℕ) (t : List ℤ) (u : Rule) : Type 0 where
 pub record SumAt (n j : ℕ) (t : List ℤ) (k : ℕ) (w : ℤ) : Type 0 where
   pub sum : Rule
   pub is : IsSum n j t sum
-  pub place : find_place sum ≡ At k
+  pub place : find_place sum ≡ Some k
   pub bound : w ≡ bound_of sum
 
 -- 'a bare 0 ≤ c with c below 0'
@@ -46,7 +45,7 @@ pub record BareSum (n j : ℕ) (t : List ℤ) : Type 0 where
 -- `after` is `before` with quantity j + 1 hidden, and r tells whether there is a contradiction
 pub record HiddenByRules (n j : ℕ) (before : List ℤ) (r : Bool) (after : List ℤ) : Type 0 where
   -- 'sums go in by minimum': a word whose place does not name the quantity is at most every sum that goes there and the word before, and is one of them
-  pub each : (u : Rule) → IsSum n j before u → (k : ℕ) → find_place u ≡ At k → word_at after k ≤ℤ bound_of u
+  pub each : (u : Rule) → IsSum n j before u → (k : ℕ) → find_place u ≡ Some k → word_at after k ≤ℤ bound_of u
   pub lowered : (k : ℕ) → k < block_start n → names (suc j) (rule_in before k) ≡ false → word_at after k ≤ℤ word_at before k
   pub some : (k : ℕ) → k < block_start n → names (suc j) (rule_in before k) ≡ false
       → (word_at after k ≡ word_at before k) ⊎ SumAt n j before k (word_at after k)

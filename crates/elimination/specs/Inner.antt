@@ -1,7 +1,7 @@
 -- What the functions of the step ask, and what its loops gather and put in: for those who read the code. What a caller has to believe is in Promises, but
 -- for what it means to list quantities and to gather rows, for the words of a block (`BlockPaired`), and for `pair_blocks`, by which the tightest table is made too. Sums fit, so sums are asked of words that add. The live quantities are listed in increasing number, each by its
 -- number less one; a row has the bounds of one literal with each literal of theirs, by literal, and what else stands in it does not matter.
-use Rattle.std.specs.Prelude.{Bool, true, false, not, ◌&&◌, ◌||◌, ◌≡◌, List, ℕ, suc, ◌+◌, ◌*◌, ◌/◌, ◌≤◌, ◌<◌, ℤ, length, get_or, set}
+use Rattle.std.specs.Prelude.{Bool, true, false, cond, not, ◌&&◌, ◌||◌, ◌≡◌, List, ℕ, suc, ◌+◌, ◌*◌, ◌/◌, ◌≤◌, ◌<◌, ℤ, ◌+ℤ◌, length, get_or, set, Option, Some, None}
 use Rattle.integers.specs.Bound.{Within}
 use Rattle.words.specs.Change.{word_at, change, starting_at}
 use Rattle.places.specs.Numbering.{block_start}
@@ -9,6 +9,8 @@ use Rattle.rules.specs.Limits.{max_quantities}
 use Rattle.rules.specs.Hidden.{is_listed}
 use Rattle.tables.specs.Tables.{has_rule}
 use Rattle.tables.specs.Meaning.{WordsWithin}
+use Rattle.elimination.specs.declared.bounds.Bounds.{Bounds}
+use Rattle.elimination.specs.declared.bounds.QuantityBounds.{QuantityBounds}
 use Rattle.elimination.specs.Hiding.{with_sum, pair_word, pairing}
 use Rattle.elimination.specs.Magnitude.{add_limit, value_limit, Unnamed}
 
@@ -122,35 +124,49 @@ pub record BlocksReady (n : ℕ) (live : List ℕ) (table plus minus : List ℤ)
 pub record BlocksPaired (n : ℕ) (live : List ℕ) (plus minus : List ℤ) (p m : ℤ) (before after : List ℤ) : Type 0 where
   pub table : after ≡ change (block_start n) (pairing (among live) (word_at plus) (word_at minus) p m) before
 
--- the sums put in at the place of two literals x and y, given the bounds of each with + and - of the paired quantity
-abbrev pub two_paired : List ℤ → ℕ → ℤ → ℤ → ℤ → ℤ → List ℤ
-two_paired t at plus-x minus-x plus-y minus-y = set t at (with_sum plus-x minus-y (with_sum minus-x plus-y (word_at t at)))
+-- the bounds of quantity a + 1 in two rows of bounds, by literal
+abbrev pub bounds_at : (ℕ → ℤ) → (ℕ → ℤ) → ℕ → QuantityBounds
+bounds_at plus minus a = record { literal = record { plus = plus (2 * a); minus = minus (2 * a) }; negated = record { plus = plus (2 * a + 1); minus = minus (2 * a + 1) } }
+
+-- the sums put in at the place of two literals x and y, given the bounds of each
+abbrev pub two_paired : List ℤ → ℕ → Bounds → Bounds → List ℤ
+two_paired t at x y = set t at (with_sum x.plus y.minus (with_sum x.minus y.plus (word_at t at)))
 
 -- at the two places of x with y and x with -y
-abbrev pub row_paired : List ℤ → ℕ → ℤ → ℤ → ℤ → ℤ → ℤ → ℤ → List ℤ
-row_paired t at plus-x minus-x plus-y minus-y plus-not-y minus-not-y = two_paired (two_paired t at plus-x minus-x plus-y minus-y) (at + 1) plus-x minus-x plus-not-y minus-not-y
+abbrev pub row_paired : List ℤ → ℕ → Bounds → QuantityBounds → List ℤ
+row_paired t at x y = two_paired (two_paired t at x y.literal) (at + 1) x y.negated
 
 -- and at the four places of two quantities, those of x with y, x with -y, -x with y and -x with -y
-abbrev pub four_paired : List ℤ → ℕ → ℤ → ℤ → ℤ → ℤ → ℤ → ℤ → ℤ → ℤ → List ℤ
-four_paired t at plus-x minus-x plus-not-x minus-not-x plus-y minus-y plus-not-y minus-not-y =
-    two_paired (two_paired (two_paired (two_paired t at plus-x minus-x plus-y minus-y) (at + 1) plus-x minus-x plus-not-y minus-not-y) (at + 2) plus-not-x minus-not-x plus-y minus-y)
-    (at + 3) plus-not-x minus-not-x plus-not-y minus-not-y
+abbrev pub four_paired : List ℤ → ℕ → QuantityBounds → QuantityBounds → List ℤ
+four_paired t at x y =
+    two_paired (two_paired (two_paired (two_paired t at x.literal y.literal) (at + 1) x.literal y.negated) (at + 2) x.negated y.literal) (at + 3) x.negated y.negated
 
--- each of four bounds can be added
-pub record FourAddable (a b c d : ℤ) : Type 0 where
-  pub first : Addable a
-  pub second : Addable b
-  pub third : Addable c
-  pub fourth : Addable d
+-- both bounds of a literal can be added
+pub record BothAddable (x : Bounds) : Type 0 where
+  pub plus : Addable x.plus
+  pub minus : Addable x.minus
 
--- each of four words is a rule: the test by which the code adds without further tests
-unfoldable pub all_held : ℤ → ℤ → ℤ → ℤ → Bool
-all_held a b c d = has_rule a && (has_rule b && (has_rule c && has_rule d))
+-- each of the four of a quantity can
+pub record FourAddable (x : QuantityBounds) : Type 0 where
+  pub literal : BothAddable x.literal
+  pub negated : BothAddable x.negated
 
--- neither of two words is a rule: the test by which it passes over two places
-unfoldable pub neither_held : ℤ → ℤ → Bool
-neither_held a b = not (has_rule a || has_rule b)
+-- the sum of two bounds, where both are rules
+abbrev pub sum_of : ℤ → ℤ → Option ℤ
+sum_of a b = cond (has_rule a && has_rule b) (Some (a +ℤ b)) None
 
--- none of four words is a rule: the test by which the code passes over a block to which no sum goes
-unfoldable pub none_held : ℤ → ℤ → ℤ → ℤ → Bool
-none_held a b c d = not (has_rule a || (has_rule b || (has_rule c || has_rule d)))
+-- both bounds of a literal are rules,
+abbrev pub both_held : Bounds → Bool
+both_held x = has_rule x.plus && has_rule x.minus
+
+-- as is each of the four of a quantity: the test by which the code adds without further tests
+abbrev pub all_held : QuantityBounds → Bool
+all_held x = both_held x.literal && both_held x.negated
+
+-- neither of a literal's is a rule: the test by which it passes over two places
+abbrev pub neither_held : Bounds → Bool
+neither_held x = not (has_rule x.plus || has_rule x.minus)
+
+-- none of a quantity's is a rule: the test by which the code passes over a block to which no sum goes
+abbrev pub none_held : QuantityBounds → Bool
+none_held x = neither_held x.literal && neither_held x.negated

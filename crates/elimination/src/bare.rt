@@ -1,26 +1,26 @@
 // The bare sums of a step.
-ghost use Rattle.std.specs.Prelude.{◌≡◌, ◌*◌};
+ghost use Rattle.std.specs.Prelude.{◌≡◌, ◌||◌, ◌*◌};
 ghost use Rattle.words.specs.Change.{word_at};
-ghost use Rattle.elimination.specs.Hiding.{any_bare};
-ghost use Rattle.elimination.specs.Inner.{among, Listed, Row};
+ghost use Rattle.elimination.specs.Hiding.{bare_below, any_bare};
+ghost use Rattle.elimination.specs.Inner.{FourAddable, among, Listed, Row};
 
+use crate::bounds::QuantityBounds;
 use crate::word;
 
-// Whether the bare sum of a literal and its negation, for a live quantity of `n`, is a contradiction.
+// Whether the bare sum of a literal of a quantity and its negation is a contradiction.
+fn is_bare_below(x: QuantityBounds) -> bool
+    requires { FourAddable x }
+    ensures { result ≡ (bare_below x.literal.plus x.negated.minus || bare_below x.negated.plus x.literal.minus) }
+{
+    word::is_bare_below(x.literal.plus, x.negated.minus)
+        || word::is_bare_below(x.negated.plus, x.literal.minus)
+}
+
+// Whether one is, of those of the live quantities of `n`.
 pub(crate) fn is_any_bare_below(n: usize, live: &[usize], plus: &[i64], minus: &[i64]) -> bool
     requires { Listed n live.now × Row n live.now plus.now × Row n live.now minus.now }
     ensures { result ≡ any_bare (among live.now) (word_at plus.now) (word_at minus.now) (2 * n) }
 {
-    let mut i = 0;
-    while i < live.len() {
-        let x = 2 * live[i];
-        if word::is_bare_below(plus[x], minus[x + 1]) {
-            return true;
-        }
-        if word::is_bare_below(plus[x + 1], minus[x]) {
-            return true;
-        }
-        i = i + 1;
-    }
-    false
+    live.iter()
+        .any(|&a| is_bare_below(QuantityBounds::of(plus, minus, a)))
 }

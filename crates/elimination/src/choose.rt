@@ -11,14 +11,16 @@ use crate::row;
 use rules::sheet::Sheet;
 
 // `v` lowered to what a bound leaves where the rest of its term has the value `a`.
+#[tactic(auto, unfolding(crate::specs::Choosing::with_upper))]
 fn with_upper(bound: i64, a: i64, v: i64) -> i64
     requires { Addable bound × Choosable a }
     ensures { result ≡ with_upper bound a v }
 {
     if bound < Sheet::NO_RULE {
-        return integers::minimum(v, bound - a);
+        integers::minimum(v, bound - a)
+    } else {
+        v
     }
-    v
 }
 
 // `v` lowered by each bound that a row has for a literal of a live quantity, and by the bound of the row's literal alone.
@@ -27,14 +29,11 @@ fn bounded_by(n: usize, row: &[i64], live: &[usize], values: &[i64], alone: i64,
     ensures { result ≡ bounded_by (among live.now) (literal_value (assignment_of values.now)) (word_at row.now) alone (2 * n) v }
 {
     let mut best = with_upper(alone, 0, v);
-    let mut i = 0;
-    while i < live.len() {
-        let a = live[i];
+    for &a in live {
         let x = 2 * a;
         let value = values[a];
         best = with_upper(row[x], value, best);
-        best = with_upper(row[x + 1], 0 - value, best);
-        i = i + 1;
+        best = with_upper(row[x + 1], -value, best);
     }
     best
 }
@@ -55,6 +54,6 @@ pub fn choose(
     row::gather(n, table, j, live, plus, minus);
     let start = 2 * (j * j);
     let above = bounded_by(n, plus, live, values, table[start], 0);
-    let below = bounded_by(n, minus, live, values, table[start + 1], 0 - above);
-    0 - below
+    let below = bounded_by(n, minus, live, values, table[start + 1], -above);
+    -below
 }

@@ -18,6 +18,7 @@ pub fn hide(
     ensures { QuantityHidden n j table.old result table.new }
 {
     let contradiction = pair::pair(n, table, j, live, plus, minus);
-    tables::table::clear(n, table, j + 1);
+    // the table serves `n` quantities, so nothing is refused
+    let _ = tables::table::clear(n, table, j + 1);
     contradiction
 }

@@ -12,14 +12,13 @@ pub fn read_text<R: Read>(file: &mut R, text: &mut [u8]) -> usize
     ensures { IsPrefixLen result text.new }
 {
     let mut done = 0;
+    // Kept: the loop. The fixed-memory rule: the library's `read_to_end` makes a Vec, and `read_exact` does not tell how many bytes a shorter file has.
     while done < text.len() {
-        let Ok(more) = file.read(&mut text[done..]) else {
-            return 0;
-        };
-        if more == 0 {
-            return done;
+        match file.read(&mut text[done..]) {
+            Ok(0) => return done,
+            Ok(more) => done += more,
+            Err(_) => return 0,
         }
-        done = done + more;
     }
     done
 }

@@ -1,13 +1,14 @@
 -- What is odd: a number is twice its half, and 1 more where it is odd.
-use mathlib.Core.Path.{◌≡◌}
+use mathlib.Core.Path.{◌≡◌, refl}
+use native.Mathlib.Omega.{arith}
+use Rattle.std.proofs.lemmas.Int.{ints, to_z-of_z}
 use mathlib.Core.Bool.{Bool, true, false}
-use Prim.Native.Nat.{◌<◌, ◌^◌}
 use lib.IntN.{ℤ, pos, ◌+ℤ◌}
-use lib.Signed.{mag, mag_shr}
+use lib.Signed.{mag_shr, shr_z}
 use mir.Syntax.{w64}
 use mir.Val.{SFits, to_z, of_z}
 use mir.ValLaws.{sfits_le}
-use Rattle.integers.specs.Bound.{half, odd, Halves}
+use Rattle.integers.specs.Bound.{half, odd, bit, Halves}
 use Rattle.integers.proofs.Parts.{linear, positive_part, negative_part, parts_add, parts_half, lt_lt_z, le_lt_z, word_value}
 
 pub odd_whole : (c : ℤ) → odd c ≡ true → c ≡ (half c +ℤ half c) +ℤ pos 1
@@ -39,12 +40,26 @@ pub half_fits : {c : ℤ} → SFits w64 c → SFits w64 (half c)
 unfolding half
 half_fits {c} f = sfits_le (mag_shr c 2) f
 
+-- the word that a shift by one gives
+pub shifted : (c : ℤ) → SFits w64 c → to_z w64 (of_z w64 (shr_z (to_z w64 (of_z w64 c)) 2)) ≡ half c
+unfolding half
+shifted c f = rw (word_value f) (word_value (half_fits f))
+
 pub halves_half : {c h : ℤ} {o : Bool} → SFits w64 c → Halves (to_z w64 (of_z w64 c)) h o → to_z w64 (of_z w64 h) ≡ half c
 halves_half f e = rw (e.result, word_value f) (word_value (half_fits f))
 
 pub halves_odd : {c h : ℤ} {o : Bool} → SFits w64 c → Halves (to_z w64 (of_z w64 c)) h o → o ≡ odd c
 halves_odd f e = rw (word_value f) at e.lost
 
--- a word as a field or an element gives it
-pub held_fits : {c : ℤ} → mag c < 2 ^ 63 → SFits w64 c
-held_fits m = record { sfits = m }
+pub doubled_fits : (c : ℤ) → SFits w64 c → SFits w64 (half c +ℤ half c)
+unfolding positive_part negative_part
+doubled_fits c f = omega (arith, ints, parts_half c)
+
+whole : (c : ℤ) (o : Bool) → odd c ≡ o → c ≡ (half c +ℤ half c) +ℤ pos (bit o)
+whole c true e = odd_whole c e
+whole c false e = even_whole c e
+
+pub is_halved : (c : ℤ) → Halves c (half c) (odd c)
+is_halved c = record { result = refl; lost = refl; whole = whole c (odd c) refl }
+
+pub ruleset halving = (doubled_fits, to_z-of_z)

@@ -1,170 +1,105 @@
 -- Linear arithmetic over ℤ, read by `omega` as arithmetic over ℕ: an integer is its positive part less its negative part.
 -- `linear` turns orders, equations and tests of integers into facts on parts; `parts_add`, `parts_neg` and the laws of `half` are listed
 -- for the sums, negations and halves in sight. Assumes nothing.
-use mathlib.Core.Path.{◌≡◌, refl, ap, sym, ◌∙◌, subst}
-use mathlib.Core.Bool.{Bool, true, false, not, cond}
+use mathlib.Core.Path.{◌≡◌, refl, sym}
+use mathlib.Core.Bool.{Bool, true, false, cond}
 use mathlib.Core.Logic.{◌↔◌}
-use Prim.Native.Nat.{ℕ, zero, suc, ◌+◌, ◌-◌, ◌^◌, ◌≤◌, ◌<◌}
+use Prim.Native.Nat.{ℕ, ◌+◌, ◌^◌, ◌≤◌, ◌<◌}
 use native.Mathlib.Omega.{arith}
-use lib.Dec.{T, ltb, ltb→lt, lt→ltb, leb→le, le→leb}
+use borrow.Author.Differences.{up, down, neg_is}
+use Rattle.std.proofs.lemmas.Int.{ints, to_z-of_z}
+use Rattle.std.specs.Int.{saturate_signed}
 use lib.IntN.{ℤ, pos, negsuc, neg_ℤ, ◌+ℤ◌}
-use lib.Signed.{lt_z, le_z, mag, mag_shr, ◌≤ℤ◌, ◌<ℤ◌, le_z_yes, lt_z_yes, lt_z_no}
+use lib.Signed.{lt_z, le_z, mag, mag_shr, ◌≤ℤ◌, ◌<ℤ◌}
 use mir.Syntax.{w64}
 use mir.Val.{SFits, to_z, of_z}
-use mir.ValLaws.{to_z-of_z, sfits_le}
-use borrow.Author.Tests.{ltb-true, ltb-false, lt-ltb, le-ltb}
-use Rattle.integers.specs.declared.Total.{Total}
-use Rattle.integers.specs.declared.Total.TheVariants.{Sum, Overflow}
+use mir.ValLaws.{sfits_le}
+use borrow.Author.Tests.{ltb-true, lt-ltb, le-ltb}
+use Rattle.std.specs.Prelude.{Option, Some, None, SomeIff}
 use Rattle.integers.specs.Bound.{half, opposite_bound, smaller, in_word, least_word, greatest_word, saturated, total_of}
 
+-- the two parts, as std's `ints` reads an integer
 unfoldable pub positive_part : ℤ → ℕ
-positive_part (pos n) = n
-positive_part (negsuc n) = 0
+positive_part z = up z
 
 unfoldable pub negative_part : ℤ → ℕ
-negative_part (pos n) = 0
-negative_part (negsuc n) = suc n
+negative_part z = down z
 
 -- ---- operations
 
-parts_sub : (a b : ℕ) → (t : Bool) → ltb a b ≡ t → positive_part (cond t (negsuc (b - suc a)) (pos (a - b))) + b ≡ a + negative_part (cond t (negsuc (b - suc a)) (pos (a - b)))
-unfolding positive_part negative_part
-parts_sub a b true e = omega (arith, ltb-true a b e)
-parts_sub a b false e = omega (arith, ltb-false a b e)
-
 pub parts_add : (a b : ℤ) → positive_part (a +ℤ b) + negative_part a + negative_part b ≡ positive_part a + positive_part b + negative_part (a +ℤ b)
 unfolding positive_part negative_part
-parts_add (pos a) (pos b) = omega arith
-parts_add (pos a) (negsuc b) = omega (arith, parts_sub a (suc b) (ltb a (suc b)) refl)
-parts_add (negsuc a) (pos b) = omega (arith, parts_sub b (suc a) (ltb b (suc a)) refl)
-parts_add (negsuc a) (negsuc b) = omega arith
+parts_add a b = omega (arith, ints)
 
 pub parts_neg : (a : ℤ) → (positive_part (neg_ℤ a) ≡ negative_part a) × (negative_part (neg_ℤ a) ≡ positive_part a)
 unfolding positive_part negative_part
-parts_neg (pos zero) = (refl, refl)
-parts_neg (pos (suc n)) = (refl, refl)
-parts_neg (negsuc n) = (refl, refl)
+parts_neg a = neg_is a
 
 -- ---- orders and equations
 
 pub le_to : {a b : ℤ} → a ≤ℤ b → positive_part a + negative_part b ≤ positive_part b + negative_part a
 unfolding positive_part negative_part
-le_to {a} {b} h = go a b h.le
-  where
-    go : (a b : ℤ) → T (le_z a b) → positive_part a + negative_part b ≤ positive_part b + negative_part a
-    go (pos a) (pos b) t = omega (arith, leb→le a b t)
-    go (pos a) (negsuc b) t = absurd t
-    go (negsuc a) (pos b) t = omega arith
-    go (negsuc a) (negsuc b) t = omega (arith, leb→le b a t)
+le_to h = omega (arith, ints)
 
 pub le_of : {a b : ℤ} → positive_part a + negative_part b ≤ positive_part b + negative_part a → a ≤ℤ b
 unfolding positive_part negative_part
-le_of {a} {b} h = record { le = go a b h }
-  where
-    go : (a b : ℤ) → positive_part a + negative_part b ≤ positive_part b + negative_part a → T (le_z a b)
-    go (pos a) (pos b) t = le→leb a b (omega arith)
-    go (pos a) (negsuc b) t = let z : ⊥ = omega arith in absurd z
-    go (negsuc a) (pos b) t = tt
-    go (negsuc a) (negsuc b) t = le→leb b a (omega arith)
+le_of h = omega (arith, ints)
 
 pub lt_to : {a b : ℤ} → a <ℤ b → positive_part a + negative_part b < positive_part b + negative_part a
 unfolding positive_part negative_part
-lt_to {a} {b} h = go a b h.lt
-  where
-    go : (a b : ℤ) → T (lt_z a b) → positive_part a + negative_part b < positive_part b + negative_part a
-    go (pos a) (pos b) t = omega (arith, ltb→lt a b t)
-    go (pos a) (negsuc b) t = absurd t
-    go (negsuc a) (pos b) t = omega arith
-    go (negsuc a) (negsuc b) t = omega (arith, ltb→lt b a t)
+lt_to h = omega (arith, ints)
 
 pub lt_of : {a b : ℤ} → positive_part a + negative_part b < positive_part b + negative_part a → a <ℤ b
 unfolding positive_part negative_part
-lt_of {a} {b} h = record { lt = go a b h }
-  where
-    go : (a b : ℤ) → positive_part a + negative_part b < positive_part b + negative_part a → T (lt_z a b)
-    go (pos a) (pos b) t = lt→ltb a b (omega arith)
-    go (pos a) (negsuc b) t = let z : ⊥ = omega arith in absurd z
-    go (negsuc a) (pos b) t = tt
-    go (negsuc a) (negsuc b) t = lt→ltb b a (omega arith)
+lt_of h = omega (arith, ints)
 
 pub eq_to : {a b : ℤ} → a ≡ b → positive_part a + negative_part b ≡ positive_part b + negative_part a
-eq_to {a} {b} e = rw e
+eq_to e = rw e
 
 pub eq_of : {a b : ℤ} → positive_part a + negative_part b ≡ positive_part b + negative_part a → a ≡ b
 unfolding positive_part negative_part
-eq_of {a} {b} = go a b
-  where
-    go : (a b : ℤ) → positive_part a + negative_part b ≡ positive_part b + negative_part a → a ≡ b
-    go (pos a) (pos b) e = ap pos (omega arith)
-    go (pos a) (negsuc b) e = let z : ⊥ = omega arith in absurd z
-    go (negsuc a) (pos b) e = let z : ⊥ = omega arith in absurd z
-    go (negsuc a) (negsuc b) e = ap negsuc (omega arith)
-
-true_is : (t : Bool) → T t → t ≡ true
-true_is true h = refl
-true_is false h = absurd h
+eq_of e = omega (arith, ints)
 
 pub lt_z_true : (a b : ℤ) → lt_z a b ≡ true → positive_part a + negative_part b < positive_part b + negative_part a
-lt_z_true a b e = lt_to (lt_z_yes (subst T (sym e) tt))
+unfolding positive_part negative_part
+lt_z_true a b e = omega (arith, ints)
 
 pub lt_z_false : (a b : ℤ) → lt_z a b ≡ false → positive_part b + negative_part a ≤ positive_part a + negative_part b
-lt_z_false a b e = le_to (lt_z_no (subst (λ (t : Bool). T (not t)) (sym e) tt))
+unfolding positive_part negative_part
+lt_z_false a b e = omega (arith, ints)
 
 pub le_z_true : (a b : ℤ) → le_z a b ≡ true → positive_part a + negative_part b ≤ positive_part b + negative_part a
-le_z_true a b e = le_to (le_z_yes (subst T (sym e) tt))
+unfolding positive_part negative_part
+le_z_true a b e = omega (arith, ints)
 
 -- what `omega` reads of integers
 pub ruleset linear = (arith, lt_z_true, lt_z_false, le_z_true, lt_to, lt_of, eq_to, eq_of, le_to, le_of)
 
 -- a test from the order, as `lt-ltb` and its like have it of numbers
 pub lt_lt_z : (a b : ℤ) → a <ℤ b → lt_z a b ≡ true
-lt_lt_z a b h = go (lt_z a b) refl
-  where
-    go : (t : Bool) → lt_z a b ≡ t → t ≡ true
-    go true e = refl
-    go false e = let z : ⊥ = omega (linear, lt_z_false a b e) in absurd z
+lt_lt_z a b h = sym (omega (arith, ints))
 
 pub le_lt_z : (a b : ℤ) → b ≤ℤ a → lt_z a b ≡ false
-le_lt_z a b h = go (lt_z a b) refl
-  where
-    go : (t : Bool) → lt_z a b ≡ t → t ≡ false
-    go true e = let z : ⊥ = omega (linear, lt_z_true a b e) in absurd z
-    go false e = refl
+le_lt_z a b h = sym (omega (arith, ints))
 
 pub le_le_z : (a b : ℤ) → a ≤ℤ b → le_z a b ≡ true
-le_le_z a b h = true_is (le_z a b) h.le
+le_le_z a b h = sym (omega (arith, ints))
 
 pub lt_le_z : (a b : ℤ) → b <ℤ a → le_z a b ≡ false
-lt_le_z a b h = go (le_z a b) refl
-  where
-    go : (t : Bool) → le_z a b ≡ t → t ≡ false
-    go true e = let z : ⊥ = omega (linear, le_z_true a b e) in absurd z
-    go false e = refl
+lt_le_z a b h = sym (omega (arith, ints))
 
 pub le_z_false : (a b : ℤ) → le_z a b ≡ false → b <ℤ a
-le_z_false a b e = go (lt_z b a) refl
-  where
-    go : (t : Bool) → lt_z b a ≡ t → b <ℤ a
-    go true q = lt_z_yes (subst T (sym q) tt)
-    go false q = absurd (subst T (sym (le_le_z a b (omega (linear, lt_z_false b a q))) ∙ e) tt)
+le_z_false a b e = omega (arith, ints)
 
 -- ---- a word of 64 bits: from -2 ^ 63 up to, and without, 2 ^ 63
 
 pub word_to : {z : ℤ} → SFits w64 z → (positive_part z < 2 ^ 63 + negative_part z) × (negative_part z ≤ 2 ^ 63 + positive_part z)
 unfolding positive_part negative_part
-word_to {z} h = go z h.sfits
-  where
-    go : (z : ℤ) → mag z < 2 ^ 63 → (positive_part z < 2 ^ 63 + negative_part z) × (negative_part z ≤ 2 ^ 63 + positive_part z)
-    go (pos n) t = omega arith
-    go (negsuc n) t = omega arith
+word_to h = (omega (arith, ints), omega (arith, ints))
 
 pub word_of : {z : ℤ} → positive_part z < 2 ^ 63 + negative_part z → negative_part z ≤ 2 ^ 63 + positive_part z → SFits w64 z
 unfolding positive_part negative_part
-word_of {z} p q = record { sfits = go z p q }
-  where
-    go : (z : ℤ) → positive_part z < 2 ^ 63 + negative_part z → negative_part z ≤ 2 ^ 63 + positive_part z → mag z < 2 ^ 63
-    go (pos n) p q = omega arith
-    go (negsuc n) p q = omega arith
+word_of p q = omega (arith, ints)
 
 -- a word that is read back from its bits
 pub word_value : {z : ℤ} → SFits w64 z → to_z w64 (of_z w64 z) ≡ z
@@ -178,6 +113,14 @@ held_value h = word_value (record { sfits = h })
 pub word_in_word : {z : ℤ} → SFits w64 z → in_word z ≡ true
 unfolding in_word
 word_in_word {z} h = lt-ltb (mag z) (2 ^ 63) h.sfits
+
+pub not_in_word : (z : ℤ) → (SFits w64 z → ⊥) → in_word z ≡ false
+unfolding in_word
+not_in_word z n = go (in_word z) refl
+  where
+    go : (t : Bool) → in_word z ≡ t → t ≡ false
+    go true e = absurd (n (record { sfits = ltb-true (mag z) (2 ^ 63) e }))
+    go false e = refl
 
 pub in_word_word : (z : ℤ) → in_word z ≡ true → SFits w64 z
 unfolding in_word
@@ -193,26 +136,13 @@ unfolding positive_part negative_part in_word
 above_in_word (pos n) h = le-ltb n (2 ^ 63) (omega arith)
 above_in_word (negsuc n) h = let z : ⊥ = omega arith in absurd z
 
--- where two words have a sum that is a word, it is that of the integers
-pub sum_total : (a b x : ℤ) → total_of a b ≡ Sum x → (in_word (a +ℤ b) ≡ true) × (a +ℤ b ≡ x)
+-- the library's sum is there exactly where it is a word
+pub library_total : (a b : ℤ) (r : Option ℤ) → SomeIff r (SFits w64 (a +ℤ b)) (a +ℤ b) → r ≡ total_of a b
 unfolding total_of
-sum_total a b x = go (in_word (a +ℤ b))
-  where
-    go : (t : Bool) → cond t (Sum (a +ℤ b)) Overflow ≡ Sum x → (t ≡ true) × (a +ℤ b ≡ x)
-    go true e = (refl, (cc))
-    go false e = ((cc), (cc))
+library_total a b None n = rw (not_in_word (a +ℤ b) n)
+library_total a b (Some x) (f, e) = rw (word_in_word f, e)
 
-pub overflow_total : (a b : ℤ) → total_of a b ≡ Overflow → in_word (a +ℤ b) ≡ false
-unfolding total_of
-overflow_total a b = go (in_word (a +ℤ b))
-  where
-    go : (t : Bool) → cond t (Sum (a +ℤ b)) Overflow ≡ Overflow → t ≡ false
-    go true e = cc
-    go false e = refl
-
--- the total of two words read back from their bits is that of the words
-pub total_value : {a b : ℤ} {r : Total} → SFits w64 a → SFits w64 b → r ≡ total_of (to_z w64 (of_z w64 a)) (to_z w64 (of_z w64 b)) → total_of a b ≡ r
-total_value f g e = sym (rw (word_value f, word_value g) at e)
+pub ruleset word_total = (library_total, to_z-of_z)
 
 -- ---- the nearest word
 
@@ -239,6 +169,14 @@ word_cases P z low word high = go (lt_z z least_word) refl (lt_z greatest_word z
     go false d true e = high (omega (linear, lt_z_true greatest_word z e))
     go false d false e =
         word (word_in_word (word_of (omega (linear, lt_z_false greatest_word z e)) (omega (linear, lt_z_false z least_word d))))
+
+-- as the library's sum has it
+pub nearest : (z : ℤ) → saturate_signed w64 z ≡ saturated z
+unfolding saturated
+nearest (pos n) = grind (arith, ints)
+nearest (negsuc n) = grind (arith, ints)
+
+pub ruleset nearest_word = (nearest, to_z-of_z)
 
 -- the nearest word has the integer's sign
 pub saturated_sign : (z : ℤ) → (pos 0 ≤ℤ saturated z) ↔ (pos 0 ≤ℤ z)

@@ -1,8 +1,6 @@
 -- The operations on a bound, over unbounded integers, and the range of a signed 64-bit word.
-use Rattle.std.specs.Prelude.{Bool, true, false, cond, ◌≡◌, ℕ, ◌^◌, ltb, ℤ, pos, negsuc, neg_ℤ, ◌+ℤ◌, ◌≤ℤ◌}
+use Rattle.std.specs.Prelude.{Bool, true, false, cond, ◌≡◌, ℕ, ◌^◌, ltb, ℤ, pos, negsuc, neg_ℤ, ◌+ℤ◌, ◌≤ℤ◌, Option, Some, None}
 use Rattle.std.specs.Int.Signed.{mag, lt_z, shr_z}
-use Rattle.integers.specs.declared.Total.{Total}
-use Rattle.integers.specs.declared.Total.TheVariants.{Sum, Overflow}
 
 -- c halved and rounded toward minus infinity: 7 gives 3, 0 gives 0, -1 gives -1, -3 gives -2. (`shr_z c m` is c divided by m, rounded down.)
 unfoldable pub half : ℤ → ℤ
@@ -47,8 +45,8 @@ unfoldable pub saturated : ℤ → ℤ
 saturated z = cond (lt_z z least_word) least_word (cond (lt_z greatest_word z) greatest_word z)
 
 -- the sum of two words, where it is a word
-unfoldable pub total_of : ℤ → ℤ → Total
-total_of a b = cond (in_word (a +ℤ b)) (Sum (a +ℤ b)) Overflow
+unfoldable pub total_of : ℤ → ℤ → Option ℤ
+total_of a b = cond (in_word (a +ℤ b)) (Some (a +ℤ b)) None
 
 -- the integer z is at most B in magnitude
 pub record Within (B z : ℤ) : Type 0 where

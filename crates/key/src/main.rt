@@ -9,6 +9,7 @@ use std::io;
 const BYTES: usize = Sheet::MAX_TEXT + 1;
 
 fn main(rt: HostRuntime) -> io::Result<()> {
+    // Kept: a buffer and its length: memory is fixed.
     let mut text = [0; BYTES];
     let length = input::read_text(&mut rt.stdin(), &mut text);
     let mut out = [0; key::ROOM];

@@ -9,6 +9,7 @@ use lib.Dec.{leb}
 use lib.IntN.{ℤ, pos}
 use lib.ListN.{length}
 use borrow.Author.Tests.{leb-true, le-leb, lt-leb}
+use Rattle.std.specs.Prelude.{Ok, Err}
 use Rattle.places.specs.Numbering.{block_start}
 use Rattle.rules.specs.declared.paper.Paper.{Paper}
 use Rattle.rules.specs.declared.paper.Paper.TheVariants.{Sheet}
@@ -17,8 +18,6 @@ use Rattle.rules.specs.declared.refusal.Refusal.TheVariants.{Size, OutOfLimit, N
 use Rattle.rules.specs.Hidden.{set_within}
 use Rattle.rules.specs.Limits.{bound_limit}
 use Rattle.rules.specs.Refusing.{Needs, passed, ◌or◌then◌}
-use Rattle.tables.specs.declared.reply.Reply.{Reply}
-use Rattle.tables.specs.declared.reply.Reply.TheVariants.{Done, Refused}
 use Rattle.tables.specs.Tables.{table_size, serves}
 use Rattle.tables.specs.Meaning.{TableSized, Satisfiable, Unsatisfiable, BoundsWithin, NoneAbove}
 use Rattle.tables.specs.Promises.{InLimit}
@@ -26,7 +25,7 @@ use Rattle.tables.proofs.Tests.{both_true, refused_done, clash}
 use Rattle.tables.proofs.Limits.{words_in_limit_within}
 use Rattle.tables.proofs.Sizes.{serves_sized, serves_tells, size_known}
 use Rattle.tables.proofs.Refusing.{Tied, tied_done, tied_more, Before, before_none, before_more}
-use Rattle.tables.specs.Replies.{check}
+use Rattle.tables.specs.Replies.{Reply, check}
 use Rattle.elimination.specs.Hiding.{every}
 use Rattle.keys.specs.Keys.{refuted, bounds_in_limit, lent_checks, key_checks, key_reply, assignment_reply}
 use Rattle.keys.specs.Inner.{Fits, KeyChecked, AssignmentChecked}
@@ -76,7 +75,7 @@ module _ (n set : ℕ) (t : List ℤ) (s : TableSized n (length t)) (b : BoundsW
 -- ---- a table and a workspace
 
 module _ (n words w : ℕ) where
-  pub lent_size : serves n words ≡ false → Refused Size ≡ lent_checks n words w Done
+  pub lent_size : serves n words ≡ false → Err Size ≡ lent_checks n words w (Ok tt)
   unfolding lent_checks
   lent_size e = rw e
 
@@ -84,11 +83,11 @@ module _ (n words w : ℕ) where
     size : m ≡ block_start n
     size = d ∙ (serves_tells n words e).size
 
-    pub lent_short : w < m → Refused (TooShort m) ≡ lent_checks n words w Done
+    pub lent_short : w < m → Err (TooShort m) ≡ lent_checks n words w (Ok tt)
     unfolding lent_checks
     lent_short h = rw (e, lt-leb (block_start n) w (omega (arith, size)), size)
 
-    pub lent_done : m ≤ w → Done ≡ lent_checks n words w Done
+    pub lent_done : m ≤ w → (Ok tt) ≡ lent_checks n words w (Ok tt)
     unfolding lent_checks
     lent_done h = rw (e, le-leb (block_start n) w (omega (arith, size)))
 
@@ -104,19 +103,19 @@ module _ (n words w : ℕ) where
   unfolding lent_checks
   lent_tied rest next t = tied_more _ _ _ _ _ (serves_sized n words) (λ s. tied_more _ _ _ _ _ (length_test (block_start n) w) (λ l. t s))
 
-  lent_tells : lent_checks n words w Done ≡ Done → TableSized n words × (block_start n ≤ w)
-  lent_tells e = go ((lent_tied passed Done (λ s. tied_done)).accepted.0 e)
+  lent_tells : lent_checks n words w (Ok tt) ≡ Ok tt → TableSized n words × (block_start n ≤ w)
+  lent_tells e = go ((lent_tied passed (Ok tt) (λ s. tied_done)).accepted.0 e)
     where
       go : TableSized n words × ((block_start n ≤ w) × Unit {0}) → TableSized n words × (block_start n ≤ w)
       go (s, (l, u)) = (s, l)
 
 -- the size that is asked for is that of a table that serves
-pub lent_limit : (paper : Paper) (n set w m : ℕ) (limit : ℤ) (t : List ℤ) (r : Bool) → lent_checks n (length t) w Done ≡ Done → m ≡ table_size n
+pub lent_limit : (paper : Paper) (n set w m : ℕ) (limit : ℤ) (t : List ℤ) (r : Bool) → lent_checks n (length t) w (Ok tt) ≡ Ok tt → m ≡ table_size n
     → limit ≡ pos (bound_limit paper n set) → InLimit m limit t r → bounds_in_limit paper n set t ≡ r
 lent_limit paper n set w m limit t r e d l i = bounds_test paper n set m limit t r (size_known n m (lent_tells n (length t) w e).0.most d) l i
 
 -- and where its words are in the limit, none is above the no-rule word
-pub lent_held : (n w m : ℕ) (limit : ℤ) (t : List ℤ) (r : Bool) → lent_checks n (length t) w Done ≡ Done → m ≡ table_size n → InLimit m limit t r → r ≡ true → NoneAbove (block_start n) t
+pub lent_held : (n w m : ℕ) (limit : ℤ) (t : List ℤ) (r : Bool) → lent_checks n (length t) w (Ok tt) ≡ Ok tt → m ≡ table_size n → InLimit m limit t r → r ≡ true → NoneAbove (block_start n) t
 lent_held n w m limit t r e d i c = rw (size_known n m (lent_tells n (length t) w e).0.most d) at (i.words c)
 
 -- ---- the calls are refused by the first need that is not met
@@ -143,7 +142,7 @@ assignment_tied n t w v =
 -- ---- at each check of the key call
 
 -- a refusal
-key_stops : (n set : ℕ) (t : List ℤ) (w : ℕ) (f : Refusal) → Refused f ≡ key_checks n set t w Done → KeyChecked n set t w (Refused f)
+key_stops : (n set : ℕ) (t : List ℤ) (w : ℕ) (f : Refusal) → Err f ≡ key_checks n set t w (Ok tt) → KeyChecked n set t w (Err f)
 key_stops n set t w f e = record { reply = e; passes = λ d. absurd (refused_done d); words = λ d. absurd (refused_done d) }
 
 module _ (n set : ℕ) (t : List ℤ) (w : ℕ) where
@@ -159,27 +158,27 @@ module _ (n set : ℕ) (t : List ℤ) (w : ℕ) where
       numbers_checked next = check (set_within n set && bounds_in_limit Sheet n set t) (OutOfLimit 0) next
 
   -- and so is the call's reply
-  pub key_stands : (r : Reply) (f : Refusal) → r ≡ key_checks n set t w Done → r ≡ Refused f → r ≡ key_reply n set t w
+  pub key_stands : (r : Reply) (f : Refusal) → r ≡ key_checks n set t w (Ok tt) → r ≡ Err f → r ≡ key_reply n set t w
   unfolding key_reply
   key_stands r f e d = d ∙ sym (checks_before.stands f (sym e ∙ d) _)
 
-  pub key_lent : (r : Reply) (f : Refusal) → r ≡ lent_checks n (length t) w Done → r ≡ Refused f → KeyChecked n set t w r
+  pub key_lent : (r : Reply) (f : Refusal) → r ≡ lent_checks n (length t) w (Ok tt) → r ≡ Err f → KeyChecked n set t w r
   unfolding key_checks
   key_lent r f e d = rw d (key_stops n set t w f (sym ((lent_before n (length t) w).stands f (sym e ∙ d) _)))
 
-  module _ (e : lent_checks n (length t) w Done ≡ Done) where
+  module _ (e : lent_checks n (length t) w (Ok tt) ≡ Ok tt) where
     -- the checks past them
-    key_past : key_checks n set t w Done ≡ check (set_within n set && bounds_in_limit Sheet n set t) (OutOfLimit 0) Done
+    key_past : key_checks n set t w (Ok tt) ≡ check (set_within n set && bounds_in_limit Sheet n set t) (OutOfLimit 0) (Ok tt)
     unfolding key_checks
     key_past = (lent_before n (length t) w).goes_on e _
 
-    pub key_set : set_within n set ≡ false → KeyChecked n set t w (Refused (OutOfLimit 0))
+    pub key_set : set_within n set ≡ false → KeyChecked n set t w (Err (OutOfLimit 0))
     key_set f = key_stops n set t w (OutOfLimit 0) (rw (key_past, f))
 
-    pub key_words : bounds_in_limit Sheet n set t ≡ false → KeyChecked n set t w (Refused (OutOfLimit 0))
+    pub key_words : bounds_in_limit Sheet n set t ≡ false → KeyChecked n set t w (Err (OutOfLimit 0))
     key_words i = key_stops n set t w (OutOfLimit 0) (rw (key_past, i, and-false (set_within n set)))
 
-    pub key_passes : set_within n set ≡ true → bounds_in_limit Sheet n set t ≡ true → NoneAbove (block_start n) t → KeyChecked n set t w Done
+    pub key_passes : set_within n set ≡ true → bounds_in_limit Sheet n set t ≡ true → NoneAbove (block_start n) t → KeyChecked n set t w (Ok tt)
     key_passes f i a = record {
       reply = sym (rw (key_past, f, i));
       passes = λ c. let l = lent_tells n (length t) w e in (l.0, (l.1, ((f, (bounds Sheet n set t).0 i), tt)));
@@ -188,27 +187,27 @@ module _ (n set : ℕ) (t : List ℤ) (w : ℕ) where
 
 -- ---- and of the assignment call
 
-assignment_stops : (n : ℕ) (t : List ℤ) (w v : ℕ) (f : Refusal) → Refused f ≡ assignment_reply n t w v → AssignmentChecked n t w v (Refused f)
+assignment_stops : (n : ℕ) (t : List ℤ) (w v : ℕ) (f : Refusal) → Err f ≡ assignment_reply n t w v → AssignmentChecked n t w v (Err f)
 assignment_stops n t w v f e = record { stands = λ g d. e; passes = λ d. absurd (refused_done d) }
 
 module _ (n : ℕ) (t : List ℤ) (w v : ℕ) where
-  pub assignment_lent : (r : Reply) (f : Refusal) → r ≡ lent_checks n (length t) w Done → r ≡ Refused f → AssignmentChecked n t w v r
+  pub assignment_lent : (r : Reply) (f : Refusal) → r ≡ lent_checks n (length t) w (Ok tt) → r ≡ Err f → AssignmentChecked n t w v r
   unfolding assignment_reply
   assignment_lent r f e d = rw d (assignment_stops n t w v f (sym ((lent_before n (length t) w).stands f (sym e ∙ d) _)))
 
-  module _ (e : lent_checks n (length t) w Done ≡ Done) where
+  module _ (e : lent_checks n (length t) w (Ok tt) ≡ Ok tt) where
     assignment_past :
-        assignment_reply n t w v ≡ check (leb n v) (TooShort n) (check (bounds_in_limit Sheet n 0 t) (OutOfLimit 0) (check (not (refuted n t)) NoAssignment Done))
+        assignment_reply n t w v ≡ check (leb n v) (TooShort n) (check (bounds_in_limit Sheet n 0 t) (OutOfLimit 0) (check (not (refuted n t)) NoAssignment (Ok tt)))
     unfolding assignment_reply
     assignment_past = (lent_before n (length t) w).goes_on e _
 
-    pub assignment_brief : v < n → AssignmentChecked n t w v (Refused (TooShort n))
+    pub assignment_brief : v < n → AssignmentChecked n t w v (Err (TooShort n))
     assignment_brief h = assignment_stops n t w v (TooShort n) (rw (assignment_past, lt-leb n v h))
 
-    pub assignment_words : n ≤ v → bounds_in_limit Sheet n 0 t ≡ false → AssignmentChecked n t w v (Refused (OutOfLimit 0))
+    pub assignment_words : n ≤ v → bounds_in_limit Sheet n 0 t ≡ false → AssignmentChecked n t w v (Err (OutOfLimit 0))
     assignment_words k i = assignment_stops n t w v (OutOfLimit 0) (rw (assignment_past, le-leb n v k, i))
 
-    pub assignment_passes : n ≤ v → bounds_in_limit Sheet n 0 t ≡ true → AssignmentChecked n t w v Done
+    pub assignment_passes : n ≤ v → bounds_in_limit Sheet n 0 t ≡ true → AssignmentChecked n t w v (Ok tt)
     assignment_passes k i = record {
       stands = λ g c. absurd (refused_done (sym c));
       passes = λ c. let l = lent_tells n (length t) w e in (l.0, (l.1, (k, ((bounds Sheet n 0 t).0 i, tt))));

@@ -1,9 +1,8 @@
 -- Values read back from a table in which all quantities outside a set are eliminated: they satisfy it, are 0 in the set, and lie in their range. Assumes nothing.
 use mathlib.Core.Path.{◌≡◌, refl, ◌∙◌}
-use mathlib.Core.Bool.{Bool, true, false}
 use mathlib.Core.List.{List}
 use mathlib.Core.Logic.{inr}
-use Prim.Native.Nat.{ℕ, suc, ◌+◌, ◌-◌, ◌*◌, ◌≤◌, ◌<◌, ◌^◌}
+use Prim.Native.Nat.{ℕ, ◌+◌, ◌-◌, ◌*◌, ◌≤◌, ◌<◌, ◌^◌}
 use native.Mathlib.Omega.{arith}
 use lib.IntN.{ℤ, pos}
 use lib.ListN.{length}
@@ -13,7 +12,7 @@ use Rattle.integers.proofs.Parts.{positive_part, negative_part}
 use Rattle.integers.proofs.Within.{within_mono, within_of}
 use Rattle.words.specs.Change.{word_at, change, fill_from}
 use Rattle.words.proofs.Change.{change_length, change_drop, change_below}
-use Rattle.rules.specs.Hidden.{hidden_in, member_count}
+use Rattle.rules.specs.Hidden.{member_count}
 use Rattle.tables.specs.Meaning.{Satisfies, assignment_of}
 use Rattle.tables.proofs.Tests.{clash}
 use Rattle.elimination.specs.Magnitude.{value_limit}
@@ -23,14 +22,6 @@ use Rattle.keys.specs.Inner.{outside, member_of, Readable, PartReadable, read_ba
 use Rattle.keys.proofs.Deciding.{rest_left}
 use Rattle.keys.proofs.Fitting.{member_limit}
 use Rattle.keys.proofs.ReadBack.{read_length, read_rest, read_others, read_satisfies, read_within}
-
--- a member is a quantity outside the set
-not_outside : (set i : ℕ) → outside set (suc i) ≡ false → hidden_in set (suc i) ≡ true
-not_outside set i e = go (hidden_in set (suc i)) refl
-  where
-    go : (b : Bool) → hidden_in set (suc i) ≡ b → b ≡ true
-    go true d = refl
-    go false d = clash (rw d) e
 
 zero_within : (W : ℕ) → Within (pos W) (pos 0)
 unfolding positive_part negative_part

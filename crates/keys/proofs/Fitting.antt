@@ -24,7 +24,6 @@ use Rattle.elimination.specs.Hiding.{every, eliminated}
 use Rattle.elimination.specs.Magnitude.{Unnamed}
 use Rattle.elimination.proofs.Growth.{eliminated_within}
 use Rattle.elimination.proofs.Unnamed.{eliminated_unnamed_within, unnamed_eliminated}
-use Rattle.elimination.specs.Inner.{Ready}
 use Rattle.keys.specs.Keys.{hide_up_to, key_of}
 use Rattle.keys.specs.Inner.{outside, SetFits, Fits, RestFits}
 use Rattle.keys.proofs.Several.{Ample, AmpleUpTo, hide_up_to_length}
@@ -159,10 +158,6 @@ hide_ample hidden n t f j h =
     go : (i : ℕ) → i < n → (b : Bool) → f.members (suc i) ≡ b → (f.members (suc i) ≡ true) ⊎ Unnamed n i t
     go i g true e = inl e
     go i g false e = inr (f.rest i g e)
-
--- and the table is ready for the next
-pub set_ready : (members : ℕ → Bool) (n j : ℕ) (t : List ℤ) → SetFits members n t → j < n → Ready n j (hide_up_to members n j t)
-set_ready members n j t f h = let a = set_ample members n t f j h in record { most = f.most; one = h; room = a.room; words = a.words }
 
 -- ---- a sheet's limit
 

@@ -8,12 +8,11 @@ use native.Mathlib.Omega.{arith}
 use lib.IntN.{ℤ, pos, negsuc, neg_ℤ, ◌+ℤ◌}
 use lib.ListN.{length}
 use lib.Signed.{◌≤ℤ◌}
+use Rattle.std.specs.Prelude.{Err}
 use Rattle.integers.proofs.Parts.{linear, positive_part, negative_part, parts_add, parts_neg}
 use Rattle.rules.specs.Hidden.{hidden_in}
 use Rattle.rules.specs.Meaning.{Assignment, literal_value}
 use Rattle.rules.specs.Steps.{rule_of, halved_of}
-use Rattle.tables.specs.declared.reply.Reply.{Reply}
-use Rattle.tables.specs.declared.reply.Reply.TheVariants.{Refused}
 use Rattle.places.specs.Numbering.{block_start}
 use Rattle.rules.specs.declared.refusal.Refusal.{Refusal}
 use Rattle.tables.specs.Tables.{empty_table, cleared, rule_reply}
@@ -21,7 +20,7 @@ use Rattle.tables.specs.Meaning.{HoldsRule, Satisfies, Satisfiable, Unsatisfiabl
 use Rattle.tables.proofs.Tests.{clash}
 use Rattle.tables.proofs.Lists.{AllAccepted, empty_satisfied, table_of_length, table_of_meaning}
 use Rattle.tables.proofs.SheetA.{rules, of_one_and_three, of_two_lem, completes, allowed, not_allowed}
-use Rattle.tables.specs.Replies.{reply_number}
+use Rattle.tables.specs.Replies.{Reply, reply_number}
 use Rattle.elimination.specs.Hiding.{eliminated}
 use Rattle.rules.specs.Refusing.{passed, AllMet}
 use Rattle.keys.specs.Meaning.{key_needs_then, assignment_needs_then}
@@ -153,5 +152,5 @@ unfolding block_start
 past_table_changed set w w' r k = let e = k.rest in let z : ◌≡◌ {A = ℕ} 4 3 = cc in omega arith
 
 -- one that changes the first on a refusal
-pub refused_changed : (set : ℕ) (w w' : List ℤ) (f : Refusal) → Keyed 1 set (pos 1 ∷ pos 2 ∷ []) w (Refused f) (pos 0 ∷ pos 2 ∷ []) w' → ⊥
+pub refused_changed : (set : ℕ) (w w' : List ℤ) (f : Refusal) → Keyed 1 set (pos 1 ∷ pos 2 ∷ []) w (Err f) (pos 0 ∷ pos 2 ∷ []) w' → ⊥
 refused_changed set w w' f k = let e = k.words in let z : ◌≡◌ {A = ℕ} 0 1 = cc in omega arith

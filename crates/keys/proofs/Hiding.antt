@@ -1,14 +1,14 @@
 -- The quantities of a set hidden in increasing number, each paired with the live ones alone: none of the set before it is named any more. Assumes nothing.
 use mathlib.Core.Path.{◌≡◌, refl, sym, ◌∙◌}
-use mathlib.Core.Bool.{Bool, true, false, not, ◌&&◌, ◌||◌}
+use mathlib.Core.Bool.{Bool, true, false, ◌&&◌}
 use mathlib.Core.List.{List}
 use Prim.Native.Nat.{ℕ, suc, ◌+◌, ◌≤◌, ◌<◌}
 use native.Mathlib.Numerals.{add-one}
 use native.Mathlib.Omega.{arith}
-use lib.Dec.{leb, ltb}
+use lib.Dec.{ltb}
 use lib.IntN.{ℤ}
-use lib.ListN.{length, take}
-use borrow.Author.Tests.{le-leb, leb-false, ltb-true, ltb-false}
+use lib.ListN.{length}
+use borrow.Author.Tests.{le-leb, ltb-true, ltb-false}
 use Rattle.places.specs.Numbering.{block_start}
 use Rattle.rules.specs.Hidden.{hidden_in}
 use Rattle.tables.specs.Meaning.{Satisfiable}
@@ -16,26 +16,13 @@ use Rattle.tables.proofs.Tests.{clash}
 use Rattle.elimination.specs.Hiding.{every, contradicts}
 use Rattle.elimination.specs.Promises.{QuantityHidden}
 use Rattle.elimination.specs.Magnitude.{Unnamed}
-use Rattle.elimination.specs.Inner.{Ready, NamesAlone}
-use Rattle.keys.specs.declared.live.Part.TheVariants.{Inside}
+use Rattle.elimination.specs.Inner.{Ready}
 use Rattle.keys.specs.Keys.{hide_up_to}
-use Rattle.keys.specs.Inner.{LiveListed, Fits, ContradictionMet, HideReady, MemberHidden, SetHidden}
+use Rattle.keys.specs.Inner.{Fits, ContradictionMet, MemberHidden, SetHidden}
 use Rattle.keys.proofs.Several.{hide_up_to_length, hide_up_to_unnamed, rest_hidden, hide_more, hide_all}
 use Rattle.keys.proofs.Fitting.{hide_ample}
 use Rattle.keys.proofs.AtTurns.{met_none}
 use Rattle.keys.proofs.Deciding.{NoneMet, turns_some}
-
--- the rules of a table name a member at its turn and live quantities alone
-pub hide_alone : (n set j count from : ℕ) (t : List ℤ) (list out : List ℕ) (plus minus : List ℤ) → HideReady n set j t list plus minus → from ≡ suc j
-    → LiveListed n set Inside from count out → NamesAlone n j (take count out) t
-hide_alone n set j count from t list out plus minus r q l i h d e =
-    let listed : LiveListed n set Inside (suc j) count out = rw q at l in go (hidden_in set (suc i)) refl (leb (suc j) i) refl (sym (listed.each i h) ∙ e)
-  where
-    go : (b : Bool) → hidden_in set (suc i) ≡ b → (c : Bool) → leb (suc j) i ≡ c → (c || not b) ≡ false → Unnamed n i t
-    go true b false c f = r.gone i (omega (arith, leb-false (suc j) i c, d)) b
-    go true b true c f = clash refl f
-    go false b true c f = clash refl f
-    go false b false c f = clash refl f
 
 -- at each turn the table is ready to have the next one hidden
 pub hide_ready : (n set j : ℕ) (t : List ℤ) → Fits n t → j < n → Ready n j (hide_up_to (hidden_in set) n j t)
@@ -47,11 +34,7 @@ hide_gone n set j t l h i g e = hide_up_to_unnamed (hidden_in set) n j i t h l (
 
 -- ---- one quantity
 
--- one that the set has not is passed,
-pub member_passed : (n set j : ℕ) (t : List ℤ) → hidden_in set (j + 1) ≡ false → MemberHidden n set j t false t
-member_passed n set j t e = let f : hidden_in set (suc j) ≡ false = rw (add-one j) at e in record { reply = rw f; table = rw f }
-
--- and another hidden
+-- a quantity of the set is hidden
 pub member_hidden : (n set j : ℕ) (t u : List ℤ) (r : Bool) → hidden_in set (j + 1) ≡ true → QuantityHidden n j t r u → MemberHidden n set j t r u
 member_hidden n set j t u r e q =
     let f : hidden_in set (suc j) ≡ true = rw (add-one j) at e in record { reply = rw f q.reply; table = rw f q.table }

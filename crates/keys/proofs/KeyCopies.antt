@@ -3,16 +3,16 @@ use mathlib.Core.Path.{◌≡◌, refl, sym, ◌∙◌, ap}
 use mathlib.Core.Bool.{Bool, true, false, cond, not, ◌&&◌, ◌||◌, and-true}
 use mathlib.Core.List.{List}
 use Prim.Native.Nat.{ℕ, zero, suc, ◌+◌, ◌-◌, ◌*◌, ◌/◌, ◌≤◌, ◌<◌}
-use native.Mathlib.Numerals.{add-one, unary_clauses}
+use native.Mathlib.Numerals.{add-one}
 use native.Mathlib.Omega.{arith}
 use lib.Dec.{eqb, ltb}
 use lib.IntN.{ℤ}
 use lib.ListN.{length, drop, length-drop}
-use lib.ListN.{set as put}
 use borrow.Author.Tests.{eqb-true, eqb-false, eq-eqb, ne_eqb, lt-ltb, le-ltb, ltb-true, ltb-false, le-leb}
 use borrow.Rule.Slice.PartMut.{mid_of, put_mid}
+use Rattle.std.specs.Prelude.{Ok}
 use Rattle.words.specs.Change.{word_at, change, starting_at}
-use Rattle.words.proofs.Change.{change_length, change_below, change_is, change_same, change_nothing, change_past, change_drop, starting_none, starting_more}
+use Rattle.words.proofs.Change.{change_length, change_below, change_is, change_same, change_nothing, change_past, change_drop}
 use Rattle.places.specs.Numbering.{block_start, is_one, higher_at, lower_at}
 use Rattle.places.proofs.Numbering.{at_lower, at_below}
 use Rattle.rules.specs.declared.rule.Rule.TheVariants.{One, Two}
@@ -20,8 +20,7 @@ use Rattle.rules.specs.Hidden.{hidden_in}
 use Rattle.rules.specs.Limits.{no_rule, max_quantities}
 use Rattle.rules.specs.Literal.{quantity_of}
 use Rattle.rules.specs.Meaning.{names}
-use Rattle.tables.specs.declared.reply.Reply.{Reply}
-use Rattle.tables.specs.declared.reply.Reply.TheVariants.{Done}
+use Rattle.tables.specs.Replies.{Reply}
 use Rattle.tables.specs.Places.{rule_at}
 use Rattle.tables.specs.Tables.{table_size, clearing, cleared, clear_reply}
 use Rattle.tables.specs.Promises.{Cleared}
@@ -34,7 +33,7 @@ use Rattle.elimination.proofs.Step.{paired_length}
 use Rattle.elimination.proofs.Fewer.{fewer_paired}
 use Rattle.keys.specs.Keys.{hide_up_to, key_of}
 use Rattle.keys.specs.Inner.{AtTurns}
-use Rattle.keys.specs.Copies.{word_before, copied_on, clearing_set, set_cleared, KeyCopied}
+use Rattle.keys.specs.Copies.{clearing_set, set_cleared, KeyCopied}
 use Rattle.keys.proofs.Several.{hide_up_to_length, hide_up_to_unnamed, hide_all}
 use Rattle.keys.proofs.Turning.{not_yet, turn_had, turn_open, had_yet, yet_later}
 use Rattle.keys.proofs.Parts.{PartBack, part_back, drop_twice, front_word, back_word}
@@ -128,40 +127,29 @@ yet_more members j k c e = rw (own_turn members j (higher_at k / 2) e, own_turn 
 
 -- ---- the words copied on
 
--- the first m words over the next ones, as far as i
-abbrev pub copied_up_to : ℕ → ℕ → List ℤ → List ℤ
-copied_up_to m i t = change (m + i) (starting_at m (word_before m t)) t
+-- as a change: the word that a list has m places before
+abbrev word_before : ℕ → List ℤ → ℕ → ℤ → ℤ
+word_before m t k w = word_at t (k - m)
 
-pub copy_none : (m : ℕ) (t : List ℤ) → t ≡ copied_up_to m 0 t
-copy_none m t = simp unary_clauses (starting_none m (word_before m t) t)
+-- the first m words copied over the next m
+unfoldable pub copied_on : ℕ → List ℤ → List ℤ
+copied_on m t = change (2 * m) (starting_at m (word_before m t)) t
 
--- the first words stay
-copy_front : (m i : ℕ) (t : List ℤ) (k : ℕ) → k < m → m ≤ length t → word_at (copied_up_to m i t) k ≡ word_at t k
-copy_front m i t k h l = change_below (m + i) (starting_at m (word_before m t)) t k (omega arith) (omega arith) ∙ rw (lt-ltb k m h)
-
--- one more
-pub copy_more : (m i : ℕ) (t u : List ℤ) → i < m → 2 * m ≤ length t → u ≡ copied_up_to m i t → put u (m + i) (word_at u i) ≡ copied_up_to m (i + 1) t
-copy_more m i t u h l e =
-    ap (put u (m + i)) word ∙ starting_more m (m + i) (word_before m t) t u (omega arith) (omega arith) e
-    ∙ ap (λ (k : ℕ). change k (starting_at m (word_before m t)) t) next
-  where
-    back : m + i - m ≡ i
-    back = omega arith
-
-    next : suc (m + i) ≡ m + (i + 1)
-    next = omega arith
-
-    word : word_at u i ≡ word_at t (m + i - m)
-    word = rw (e, back) (copy_front m i t i h (omega arith))
-
--- and all
-pub copy_all : (m : ℕ) (t : List ℤ) → copied_up_to m m t ≡ copied_on m t
+-- a list with the first m words again as the next m, and else as it was
+pub copied_is : (m : ℕ) (t u : List ℤ) → length u ≡ length t → ((k : ℕ) → k < m → word_at u k ≡ word_at t k)
+    → ((k : ℕ) → m ≤ k → k < m + (m - 0) → word_at u k ≡ word_at t (0 + (k - m))) → ((k : ℕ) → m + (m - 0) ≤ k → word_at u k ≡ word_at t k) → u ≡ copied_on m t
 unfolding copied_on
-copy_all m t = let e : m + m ≡ 2 * m = omega arith in ap (λ (k : ℕ). change k (starting_at m (word_before m t)) t) e
+copied_is m t u e front next past = change_is (2 * m) (starting_at m (word_before m t)) t u e (λ k h l. go k h (ltb k m) refl) (λ k h l. past k (omega arith))
+  where
+    go : (k : ℕ) → k < 2 * m → (b : Bool) → ltb k m ≡ b → word_at u k ≡ starting_at m (word_before m t) k (word_at t k)
+    go k h true q = rw q (front k (ltb-true k m q))
+    go k h false q = let e : 0 + (k - m) ≡ k - m = omega arith in rw q (rw e at (next k (ltb-false k m q) (omega arith)))
 
 module _ (m : ℕ) (t : List ℤ) (l : 2 * m ≤ length t) where
+  -- the first words stay
   copied_front : (k : ℕ) → k < m → word_at (copied_on m t) k ≡ word_at t k
-  copied_front k h = rw (← copy_all m t) (copy_front m m t k h (omega arith))
+  unfolding copied_on
+  copied_front k h = change_below (2 * m) (starting_at m (word_before m t)) t k (omega arith) (omega arith) ∙ rw (lt-ltb k m h)
 
   -- the next ones are as the first
   copied_next : (k : ℕ) → k < m → word_at (copied_on m t) (m + k) ≡ word_at t k
@@ -246,7 +234,7 @@ clear_member members n j t u v reply most h l e d c =
     room : block_start n ≤ length u
     room = rw (d, clear_length members n j t) l
 
-    done : reply ≡ Done
+    done : reply ≡ Ok tt
     done = c.reply ∙ rw (long_serves n (length u) (omega arith) most room, le-leb 1 (j + 1) (omega arith), le-leb (j + 1) n (omega arith))
 
 pub clear_all : (set n : ℕ) (t : List ℤ) → cleared_up_to (hidden_in set) n n t ≡ set_cleared n set t

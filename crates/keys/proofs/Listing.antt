@@ -9,14 +9,14 @@ use lib.IntN.{ℤ}
 use lib.ListN.{length, get_or, take, length-append, get_or-append, length-set}
 use lib.ListN.{set as put}
 use lib.Seq.{take-suc-set, get_or-append_seam}
-use borrow.Author.Tests.{eq-eqb, ne_eqb, ltb-true, ltb-false, le-leb, lt-leb}
+use borrow.Author.Tests.{eq-eqb, ne_eqb, ltb-true, ltb-false, le-leb}
 use Rattle.rules.specs.Hidden.{is_listed, hidden_in}
 use Rattle.tables.proofs.Tests.{clash}
 use Rattle.elimination.specs.Magnitude.{Unnamed}
 use Rattle.elimination.specs.Inner.{among, Listed}
 use Rattle.elimination.proofs.Lists.{listed_below}
 use Rattle.keys.specs.declared.live.Part.{Part}
-use Rattle.keys.specs.declared.live.Part.TheVariants.{Inside, Outside}
+use Rattle.keys.specs.declared.live.Part.TheVariants.{Outside}
 use Rattle.keys.specs.Inner.{still_live, NoneBefore, LiveListed, LiveAlone}
 
 -- ---- a list with one more at its end
@@ -72,13 +72,6 @@ pub listed_wider : (n m : ℕ) (list : List ℕ) → n ≤ m → Listed n list �
 listed_wider n m list h l = record { rising = l.rising; below = λ i g. omega (arith, l.below i g) }
 
 -- ---- the live ones of the first i quantities
-
--- inside a set all later ones are live, and outside it no earlier one is
-pub none_inside : (from : ℕ) → NoneBefore Inside from 0
-none_inside from = record { most = omega arith; none = λ set h l. let z : ⊥ = omega arith in absurd z }
-
-pub none_outside : (from : ℕ) → NoneBefore Outside from from
-none_outside from = record { most = omega arith; none = λ set h l. rw (lt-leb from h l) }
 
 module _ (set : ℕ) (part : Part) (from : ℕ) where
   -- before the first none is,

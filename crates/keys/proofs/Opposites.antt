@@ -10,6 +10,7 @@ use lib.IntN.{ℤ}
 use lib.ListN.{length, drop}
 use lib.Seq.{drop-set-lt}
 use borrow.Author.Tests.{lt-ltb, ne_eqb}
+use Rattle.std.specs.Prelude.{Ok}
 use Rattle.integers.specs.Bound.{opposite_bound}
 use Rattle.words.specs.Change.{lowered}
 use Rattle.places.specs.Numbering.{block_start}
@@ -20,8 +21,7 @@ use Rattle.rules.specs.Literal.{negated}
 use Rattle.rules.specs.Meaning.{Assignment, Meets, bound_of}
 use Rattle.rules.specs.Steps.{opposite_of, halved_of}
 use Rattle.rules.proofs.Meanings.{opposite-bound, opposite_meaning}
-use Rattle.tables.specs.declared.reply.Reply.{Reply}
-use Rattle.tables.specs.declared.reply.Reply.TheVariants.{Done}
+use Rattle.tables.specs.Replies.{Reply}
 use Rattle.tables.specs.Places.{rule_at, HasPlace}
 use Rattle.tables.specs.Tables.{has_rule, serves, rule_reply, put_reply, put_rule}
 use Rattle.tables.specs.Meaning.{Satisfies, assignment_of}
@@ -52,7 +52,7 @@ opposed_satisfies n t k c l h e σ =
     rw (put_lowers n t (opposite_of (rule_at k c)) u) (λ s. ((p.0 s).0, o.0 (p.0 s).1), λ s. p.1 (s.0, o.1 s.1))
 
 -- a rule that has a place, with a bound, is accepted
-placed_accepted : (n : ℕ) (r : Rule) → HasPlace n r → has_rule (bound_of r) ≡ true → rule_reply n (halved_of r) ≡ Done
+placed_accepted : (n : ℕ) (r : Rule) → HasPlace n r → has_rule (bound_of r) ≡ true → rule_reply n (halved_of r) ≡ Ok tt
 unfolding rule_reply halved_of
 placed_accepted n (One x c) u e = rw (lt-ltb x _ u, e)
 placed_accepted n (Two x y c) u e =
@@ -94,7 +94,7 @@ module _ (n set : ℕ) (t : List ℤ) (r : Rule) (v : List ℤ) (p : RuleBreakab
   unfolding put_reply
   put_opposed s a x f q = rw done at q.table ∙ rw f
     where
-      done : a ≡ Done
+      done : a ≡ Ok tt
       done = q.reply ∙ rw (f, serving) (placed_accepted n (opposite_of r) placed bounded)
 
   -- then sums fit

@@ -14,8 +14,7 @@ use Rattle.integers.proofs.Parts.{smaller_either}
 use Rattle.integers.proofs.Within.{within_half}
 use Rattle.words.specs.Change.{word_at, lowered}
 use Rattle.words.proofs.Change.{lowered_length, lowered_same, lowered_other}
-use Rattle.places.specs.declared.Place.{Place}
-use Rattle.places.specs.declared.Place.TheVariants.{At, Nowhere}
+use Rattle.std.specs.Prelude.{Option, Some, None}
 use Rattle.places.specs.Numbering.{block_start}
 use Rattle.rules.specs.declared.rule.Rule.{Rule}
 use Rattle.rules.specs.declared.rule.Rule.TheVariants.{One, Two, Nothing}
@@ -55,10 +54,10 @@ lowered_within m B t k c w h = record { each = λ j a l e. go j a (rw (lowered_l
     go j a l e false d = rw (lowered_other t k j c (eqb-false j k d)) (w.each j a l (rw (lowered_other t k j c (eqb-false j k d)) at e))
 
 -- wherever the rule's term stands
-at_within : (m : ℕ) (B : ℤ) (t : List ℤ) (p : Place) (c : ℤ) → WordsWithin m B t → Within B c → WordsWithin m B (put_at t p c)
+at_within : (m : ℕ) (B : ℤ) (t : List ℤ) (p : Option ℕ) (c : ℤ) → WordsWithin m B t → Within B c → WordsWithin m B (put_at t p c)
 unfolding put_at
-at_within m B t (At k) c w h = lowered_within m B t k c w h
-at_within m B t Nowhere c w h = w
+at_within m B t (Some k) c w h = lowered_within m B t k c w h
+at_within m B t None c w h = w
 
 -- so a rule whose bound is within a limit keeps the words within it
 pub put_within : (m B : ℕ) (t : List ℤ) (r : Rule) → WordsWithin m (pos B) t → Within (pos B) (bound_of r) → WordsWithin m (pos B) (put_rule t r)

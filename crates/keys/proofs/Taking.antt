@@ -8,7 +8,6 @@ use native.Mathlib.Omega.{arith}
 use lib.Dec.{ltb}
 use lib.IntN.{ℤ, pos}
 use lib.ListN.{length, take, drop}
-use lib.Seq.{length-take-le}
 use lib.ListN.{set as put}
 use borrow.Author.Tests.{ltb-true, ltb-false}
 use Rattle.integers.specs.Bound.{Within}
@@ -24,14 +23,14 @@ use Rattle.tables.proofs.Tests.{clash}
 use Rattle.elimination.specs.Hiding.{pair_word, lone_word, paired, contradicts}
 use Rattle.elimination.specs.Choosing.{chosen, choice}
 use Rattle.elimination.specs.Magnitude.{add_limit}
-use Rattle.elimination.specs.Inner.{among, Ready, StepReady, Valued}
+use Rattle.elimination.specs.Inner.{among, Ready, Valued}
 use Rattle.elimination.specs.Promises.{Paired, Chosen}
 use Rattle.elimination.proofs.Projection.{bounded_live}
 use Rattle.elimination.proofs.Lists.{listed_below}
 use Rattle.elimination.proofs.Fewer.{fewer_paired, fewer_contradicts}
 use Rattle.keys.specs.declared.live.Part.{Part}
 use Rattle.keys.specs.Keys.{hide_up_to}
-use Rattle.keys.specs.Inner.{member_of, still_live, LiveListed, PartFits, turn_at, AtTurns, ContradictionMet, SetEliminated, TurnReady, TurnTaken, ChoiceReady, PartReadable, read_one, read_back}
+use Rattle.keys.specs.Inner.{member_of, still_live, LiveListed, PartFits, turn_at, AtTurns, ContradictionMet, SetEliminated, TurnTaken, ChoiceReady, PartReadable, read_one, read_back}
 use Rattle.keys.proofs.Several.{hide_up_to_length}
 use Rattle.keys.proofs.Fitting.{limit_rises, hidden_within, set_ample}
 use Rattle.keys.proofs.Turning.{turn_most, had_yet}
@@ -57,23 +56,13 @@ agree_choice live other n j t values same =
 
 -- ---- a turn
 
--- a list of live quantities, and rows with room for their bounds
-pub turn_step : (n set : ℕ) (part : Part) (j count from : ℕ) (t : List ℤ) (list out : List ℕ) (plus minus : List ℤ) → TurnReady n j t list plus minus
-    → LiveListed n set part from count out → StepReady n j (take count out) t plus minus
-turn_step n set part j count from t list out plus minus r l =
-    record { ready = r.ready; listed = l.listed; plus_room = r.rows.plus_room; minus_room = r.rows.minus_room }
-
--- of no member
-pub turn_passed : (n set : ℕ) (part : Part) (j : ℕ) (t : List ℤ) → member_of set part (suc j) ≡ false → TurnTaken n set part j t false t
-turn_passed n set part j t e = record { reply = rw e; table = rw e }
-
 -- of a member
-pub turn_taken : (n set : ℕ) (part : Part) (j count from : ℕ) (t : List ℤ) (list out : List ℕ) (plus minus : List ℤ) (r : Bool) (u : List ℤ) → TurnReady n j t list plus minus
+pub turn_taken : (n set : ℕ) (part : Part) (j count from : ℕ) (t : List ℤ) (out : List ℕ) (r : Bool) (u : List ℤ) → Ready n j t
     → from ≡ suc j → LiveListed n set part from count out → member_of set part (suc j) ≡ true → Paired (among (take count out)) n j t r u → TurnTaken n set part j t r u
-turn_taken n set part j count from t list out plus minus r u y q l e p =
+turn_taken n set part j count from t out r u y q l e p =
     let listed : LiveListed n set part (suc j) count out = rw q at l in record {
-      reply = p.reply ∙ agree_contradicts (among (take count out)) (still_live set part (suc j)) n j t y.ready.room y.ready.one listed.each ∙ rw e;
-      table = p.table ∙ agree_paired (among (take count out)) (still_live set part (suc j)) n j t y.ready.room y.ready.one listed.each ∙ rw e;
+      reply = p.reply ∙ agree_contradicts (among (take count out)) (still_live set part (suc j)) n j t y.room y.one listed.each ∙ rw e;
+      table = p.table ∙ agree_paired (among (take count out)) (still_live set part (suc j)) n j t y.room y.one listed.each ∙ rw e;
     }
 
 -- it leaves the words past the table alone, and its length
@@ -227,7 +216,3 @@ table_ready n set part t values j r h = record {
         let w = hidden_within members members n (turn_at members n k) r.readable.fits.limit r.from (turn_most members n k) r.readable.fits.room r.readable.fits.within (λ i g e. inl e) in
         within_mono (omega (arith, limit_rises members r.readable.fits.limit (turn_at members n k) n (turn_most members n k), r.readable.fits.last))
         (w.each k b (omega (arith, hide_up_to_length members n (turn_at members n k) r.from, r.readable.fits.room)) d)
-
--- a prefix of a list that is long enough has its length
-pub taken_length : (count : ℕ) (out : List ℕ) → count ≤ length out → count ≡ length (take count out)
-taken_length count out h = sym (length-take-le count out h)

@@ -38,9 +38,6 @@ turn_had members m i e = go (members (suc i)) refl (ltb i m) refl
 pub had_yet : (members : ℕ → Bool) (m i : ℕ) → members (suc i) ≡ true → i < m → not_yet members m i ≡ false
 had_yet members m i e h = rw (e, lt-ltb i m h)
 
-pub yet_other : (members : ℕ → Bool) (m i : ℕ) → members (suc i) ≡ false → not_yet members m i ≡ true
-yet_other members m i e = rw e
-
 pub yet_later : (members : ℕ → Bool) (m i : ℕ) → m ≤ i → not_yet members m i ≡ true
 yet_later members m i h = rw (le-ltb i m h) (go (members (suc i)))
   where

@@ -1,6 +1,6 @@
 -- The key copied from a table in which the hidden quantities are eliminated.
-use Rattle.std.specs.Prelude.{true, cond, ◌≡◌, List, ℕ, suc, ◌+◌, ◌-◌, ◌*◌, ◌≤◌, ◌<◌, ℤ, length}
-use Rattle.words.specs.Change.{word_at, change, starting_at}
+use Rattle.std.specs.Prelude.{true, cond, ◌≡◌, List, ℕ, suc, ◌+◌, ◌*◌, ◌≤◌, ◌<◌, ℤ, length}
+use Rattle.words.specs.Change.{word_at, change}
 use Rattle.words.specs.Lent.{Lent}
 use Rattle.places.specs.Numbering.{block_start}
 use Rattle.rules.specs.Limits.{no_rule}
@@ -8,14 +8,6 @@ use Rattle.rules.specs.Hidden.{hidden_in}
 use Rattle.elimination.specs.Hiding.{live_at}
 use Rattle.keys.specs.Keys.{key_of}
 use Rattle.keys.specs.Inner.{outside, AtTurns}
-
--- as a change: the word that a list has m places before
-abbrev pub word_before : ℕ → List ℤ → ℕ → ℤ → ℤ
-word_before m t k w = word_at t (k - m)
-
--- the first m words copied over the next m
-unfoldable pub copied_on : ℕ → List ℤ → List ℤ
-copied_on m t = change (2 * m) (starting_at m (word_before m t)) t
 
 -- as a change: the no-rule word at each place that names a quantity of the set
 abbrev pub clearing_set : ℕ → ℕ → ℤ → ℤ

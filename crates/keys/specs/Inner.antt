@@ -3,7 +3,7 @@
 -- they were at its turn. Where the members are the hidden ones, the places of visible quantities then have the key. Where they are all that rules name, no rule is left to meet, and
 -- 'no assignment' is decided. Values are chosen in the opposite order, each from its quantity's rules as at its turn. The key call hides the members of the set instead, by document 01's step, and
 -- decides in a copy of the key.
-use Rattle.std.specs.Prelude.{Bool, true, false, cond, not, ◌&&◌, ◌||◌, ◌≡◌, ◌↔◌, List, ℕ, zero, suc, ◌+◌, ◌-◌, ◌*◌, ◌/◌, ◌≤◌, ◌<◌, ◌^◌, leb, ltb, ℤ, pos, length, take, drop, set as put}
+use Rattle.std.specs.Prelude.{Bool, true, false, cond, not, ◌&&◌, ◌||◌, ◌≡◌, ◌↔◌, List, ℕ, zero, suc, ◌+◌, ◌-◌, ◌*◌, ◌/◌, ◌≤◌, ◌<◌, ◌^◌, leb, ltb, ℤ, pos, length, take, drop, set as put, Ok, Err}
 use Rattle.integers.specs.Bound.{Within}
 use Rattle.words.specs.Change.{word_at}
 use Rattle.words.specs.Lent.{Lent}
@@ -12,8 +12,7 @@ use Rattle.rules.specs.Refusing.{passed, AllMet}
 use Rattle.rules.specs.declared.refusal.Refusal.{Refusal}
 use Rattle.rules.specs.Hidden.{hidden_in, member_count}
 use Rattle.rules.specs.Limits.{max_quantities}
-use Rattle.tables.specs.declared.reply.Reply.{Reply}
-use Rattle.tables.specs.declared.reply.Reply.TheVariants.{Done, Refused}
+use Rattle.tables.specs.Replies.{Reply}
 use Rattle.tables.specs.Meaning.{Satisfies, Satisfiable, Unsatisfiable, WordsWithin, NoneAbove, assignment_of}
 use Rattle.elimination.specs.Hiding.{every, paired, contradicts, eliminated}
 use Rattle.elimination.specs.Choosing.{choice}
@@ -23,6 +22,24 @@ use Rattle.keys.specs.declared.live.Part.{Part}
 use Rattle.keys.specs.declared.live.Part.TheVariants.{Inside, Outside}
 use Rattle.keys.specs.Keys.{hide_up_to, key_of, refuted, key_checks, assignment_reply}
 use Rattle.keys.specs.Meaning.{key_needs_then, assignment_needs_then}
+
+-- ---- sizes of room on the stack: they serve n quantities, and none is larger than the largest sheet needs
+
+-- a list of quantities,
+abbrev pub ListServes : ℕ → ℕ → Type 0
+ListServes n list = (n ≤ list) × (list ≤ max_quantities)
+
+-- a row of literals' words,
+abbrev pub RowServes : ℕ → ℕ → Type 0
+RowServes n row = (2 * n ≤ row) × (row ≤ 2 * max_quantities)
+
+-- both,
+abbrev pub RowsServe : ℕ → ℕ → ℕ → Type 0
+RowsServe n list row = ListServes n list × RowServes n row
+
+-- and a table
+abbrev pub TableServes : ℕ → ℕ → Type 0
+TableServes n table = (block_start n ≤ table) × (table ≤ 2 * max_quantities * max_quantities)
 
 -- ---- the quantities that are live
 
@@ -176,18 +193,7 @@ pub record Filled (n set : ℕ) (table values values' : List ℤ) : Type 0 where
 
 -- ---- one turn
 
--- room for a list of live quantities of n, and for rows
-pub record RowsLent (n : ℕ) (list : List ℕ) (plus minus : List ℤ) : Type 0 where
-  pub list_room : n ≤ length list
-  pub plus_room : 2 * n ≤ length plus
-  pub minus_room : 2 * n ≤ length minus
-
--- quantity j + 1 of a table whose words add, with list and rows
-pub record TurnReady (n j : ℕ) (table : List ℤ) (list : List ℕ) (plus minus : List ℤ) : Type 0 where
-  pub ready : Ready n j table
-  pub rows : RowsLent n list plus minus
-
--- it is paired with the live ones where it is of the part
+-- quantity j + 1 is paired with the live ones where it is of the part
 pub record TurnTaken (n set : ℕ) (part : Part) (j : ℕ) (before : List ℤ) (r : Bool) (after : List ℤ) : Type 0 where
   pub reply : r ≡ (member_of set part (suc j) && contradicts (still_live set part (suc j)) n j before)
   pub table : after ≡ cond (member_of set part (suc j)) (paired (still_live set part (suc j)) n j before) before
@@ -200,8 +206,8 @@ pub record ChoiceReady (n set : ℕ) (part : Part) (j : ℕ) (values : List ℤ)
 -- ---- the members of a set hidden
 
 -- quantity j + 1 is ready for it: rules name no quantity of the set before it
-pub record HideReady (n set j : ℕ) (table : List ℤ) (list : List ℕ) (plus minus : List ℤ) : Type 0 where
-  pub turn : TurnReady n j table list plus minus
+pub record HideReady (n set j : ℕ) (table : List ℤ) : Type 0 where
+  pub ready : Ready n j table
   pub gone : (i : ℕ) → i < j → hidden_in set (suc i) ≡ true → Unnamed n i table
 
 -- it is hidden where the set has it
@@ -226,11 +232,11 @@ pub record KeyTried (key_by : (ℕ → Bool) → ℕ → List ℤ → List ℤ) 
 -- ---- the calls' checks before 5: a refusal is the call's reply, and where they are done the needs are met
 
 pub record KeyChecked (n set : ℕ) (t : List ℤ) (w : ℕ) (r : Reply) : Type 0 where
-  pub reply : r ≡ key_checks n set t w Done
-  pub passes : r ≡ Done → AllMet (key_needs_then n set t w passed)
+  pub reply : r ≡ key_checks n set t w (Ok tt)
+  pub passes : r ≡ Ok tt → AllMet (key_needs_then n set t w passed)
   -- every word was looked at, and a word of 64 bits is not above the no-rule word
-  pub words : r ≡ Done → NoneAbove (block_start n) t
+  pub words : r ≡ Ok tt → NoneAbove (block_start n) t
 
 pub record AssignmentChecked (n : ℕ) (t : List ℤ) (w v : ℕ) (r : Reply) : Type 0 where
-  pub stands : (f : Refusal) → r ≡ Refused f → r ≡ assignment_reply n t w v
-  pub passes : r ≡ Done → AllMet (assignment_needs_then n t w v passed)
+  pub stands : (f : Refusal) → r ≡ Err f → r ≡ assignment_reply n t w v
+  pub passes : r ≡ Ok tt → AllMet (assignment_needs_then n t w v passed)

@@ -1,16 +1,14 @@
 -- The key of a sheet, 'no assignment', and the replies of the two calls (document 01, 'Hiding', 'Finding an assignment', 'Returned to the
 -- caller').
-use Rattle.std.specs.Prelude.{Bool, false, cond, not, ◌&&◌, ◌||◌, List, ℕ, zero, suc, leb, eqb, ℤ, pos, length}
+use Rattle.std.specs.Prelude.{Bool, false, cond, not, ◌&&◌, ◌||◌, List, ℕ, zero, suc, leb, eqb, ℤ, pos, length, Ok}
 use Rattle.places.specs.Numbering.{block_start}
 use Rattle.rules.specs.declared.paper.Paper.{Paper}
 use Rattle.rules.specs.declared.paper.Paper.TheVariants.{Sheet}
 use Rattle.rules.specs.declared.refusal.Refusal.TheVariants.{Size, OutOfLimit, NoAssignment, TooShort}
 use Rattle.rules.specs.Limits.{bound_limit}
 use Rattle.rules.specs.Hidden.{set_within}
-use Rattle.tables.specs.declared.reply.Reply.{Reply}
-use Rattle.tables.specs.declared.reply.Reply.TheVariants.{Done}
 use Rattle.tables.specs.Tables.{serves, words_in_limit}
-use Rattle.tables.specs.Replies.{reply_number, check}
+use Rattle.tables.specs.Replies.{Reply, reply_number, check}
 use Rattle.elimination.specs.Hiding.{every, contradicts, eliminated}
 
 -- of the first m quantities those that are hidden, hidden in increasing number, in a table over n quantities
@@ -47,7 +45,7 @@ key_checks n set t workspace next = lent_checks n (length t) workspace (check (s
 
 -- its reply: these, and 5
 unfoldable pub key_reply : ℕ → ℕ → List ℤ → ℕ → Reply
-key_reply n set t workspace = key_checks n set t workspace (check (not (refuted n t)) NoAssignment Done)
+key_reply n set t workspace = key_checks n set t workspace (check (not (refuted n t)) NoAssignment (Ok tt))
 
 -- the assignment call's: 1, 6 for the workspace, 6 for the assignment, 3, 5. It is lent no hidden set
 unfoldable pub assignment_reply : ℕ → List ℤ → ℕ → ℕ → Reply
@@ -55,7 +53,7 @@ assignment_reply n t workspace values =
     lent_checks n (length t) workspace
     (check (leb n values) (TooShort n)
     (check (bounds_in_limit Sheet n 0 t) (OutOfLimit 0)
-    (check (not (refuted n t)) NoAssignment Done)))
+    (check (not (refuted n t)) NoAssignment (Ok tt))))
 
 -- the replies after which the workspace is free: success and 5
 abbrev pub frees_workspace : Reply → Bool

@@ -6,8 +6,7 @@ use Rattle.rules.specs.Refusal.{refused_as}
 use Rattle.rules.specs.Refusing.{passed, AllMet, DecidedBy}
 use Rattle.rules.specs.Hidden.{hidden_in}
 use Rattle.rules.specs.Meaning.{Assignment}
-use Rattle.tables.specs.declared.reply.Reply.{Reply}
-use Rattle.tables.specs.Replies.{is_done, reply_returned, reply_number}
+use Rattle.tables.specs.Replies.{Reply, is_done, reply_returned, reply_number}
 use Rattle.tables.specs.Meaning.{Satisfies, Satisfiable, Unsatisfiable, SheetAllows, KeyLike, assignment_of}
 use Rattle.elimination.specs.Magnitude.{ValuesWithin}
 use Rattle.keys.specs.Keys.{key_of, key_reply, assignment_reply, frees_workspace}

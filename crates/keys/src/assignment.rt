@@ -24,18 +24,15 @@ pub fn fill(n: usize, set: Set, table: &[i64], values: &mut [i64])
 fn check(n: usize, table: &[i64], workspace: usize, values: usize) -> Reply
     ensures { AssignmentChecked n table.now workspace values result }
 {
-    let lent = checks::lent(n, table.len(), workspace);
-    let Reply::Done = lent else {
-        return lent;
-    };
+    checks::lent(n, table.len(), workspace)?;
     if values < n {
-        return Reply::Refused(Refusal::TooShort { needed: n });
+        return Err(Refusal::TooShort { needed: n });
     }
     let most = paper::bound_limit(Paper::Sheet, n, 0);
     if !limit::is_table_in(table, table::size(n), most) {
-        return Reply::Refused(Refusal::OutOfLimit { line: 0 });
+        return Err(Refusal::OutOfLimit { line: 0 });
     }
-    Reply::Done
+    Ok(())
 }
 
 // Writes integers that satisfy every rule of the table to the first `n` words of `values`. Which integers is left free; they lie between
@@ -43,13 +40,10 @@ fn check(n: usize, table: &[i64], workspace: usize, values: usize) -> Reply
 pub fn assignment(n: usize, table: &[i64], workspace: &mut [i64], values: &mut [i64]) -> Reply
     ensures { Assigned n table.now workspace.old values.old result workspace.new values.new }
 {
-    let checked = check(n, table, workspace.len(), values.len());
-    let Reply::Done = checked else {
-        return checked;
-    };
+    check(n, table, workspace.len(), values.len())?;
     if decide::decide(n, 0, table, workspace) {
-        return Reply::Refused(Refusal::NoAssignment);
+        return Err(Refusal::NoAssignment);
     }
     fill(n, 0, workspace, values);
-    Reply::Done
+    Ok(())
 }

@@ -12,7 +12,8 @@ pub fn break_rule(n: usize, set: Set, table: &mut [i64], rule: Rule, values: &mu
     requires { RuleBreakable n set table.old rule values.old }
     ensures { RuleBroken n set table.old rule values.old table.new values.new }
 {
-    table::put(n, table, rule.opposite());
+    // Never refused: the rule is one of the table.
+    let _ = table::put(n, table, rule.opposite());
     turns::eliminate(n, set, Part::Outside, table);
     assignment::fill(n, set, table, values);
 }

@@ -7,7 +7,7 @@ use rules::hidden;
 use rules::hidden::Set;
 
 // A part of the quantities, given by a set.
-#[derive(Clone, Copy)]
+#[derive(Clone, Copy, PartialEq, Eq, Debug)]
 pub enum Part {
     // those in the set
     Inside,
@@ -33,18 +33,8 @@ fn is_live(set: Set, part: Part, from: usize, i: usize) -> bool
     ensures { result ≡ still_live set part from i }
 {
     match part {
-        Part::Inside => {
-            if from <= i {
-                return true;
-            }
-            !hidden::is_hidden(set, i + 1)
-        }
-        Part::Outside => {
-            if from <= i {
-                return !hidden::is_hidden(set, i + 1);
-            }
-            false
-        }
+        Part::Inside => from <= i || !hidden::is_hidden(set, i + 1),
+        Part::Outside => from <= i && !hidden::is_hidden(set, i + 1),
     }
 }
 
@@ -59,18 +49,18 @@ fn first(part: Part, from: usize) -> usize
 }
 
 // Lists the live quantities of `n`, and answers how many they are. The other words of `out` are free.
+// Kept: a lent slice and a count, since there is no heap (fixed memory) for a `Vec`. The set and its part stay two, here and in turns.rt: the clauses of `list`, `turns::eliminate` and
+// `turns::read_back` name them apart.
 pub fn list(n: usize, set: Set, part: Part, from: usize, out: &mut [usize]) -> usize
     requires { (n ≤ max_quantities) × (n ≤ length out.old) × (from ≤ n) }
     ensures { LiveListed n set part from result out.new }
 {
     let mut count = 0;
-    let mut i = first(part, from);
-    while i < n {
+    for i in first(part, from)..n {
         if is_live(set, part, from, i) {
             out[count] = i;
-            count = count + 1;
+            count += 1;
         }
-        i = i + 1;
     }
     count
 }

@@ -55,10 +55,6 @@ bit_told n q h = go (quantity_within n q) refl
 
 -- ---- room for the bit
 
--- the sum with the bit of a quantity above all in the set fits its word
-pub bit_fits : (n q set : ℕ) → n ≤ max_quantities → 1 ≤ q → q ≤ n → 2 * set < 2 ^ q → set + bit_of q < 2 ^ 32
-bit_fits n q set h l m r = omega (arith, bit_twice q l, pow_mono {i = q} {j = 32} (omega arith))
-
 -- a set of numbers below `least` is one of numbers below any q from there on, also where that is told
 pub room_told : (n q least set : ℕ) → n ≤ max_quantities → least ≤ q → 2 * set < 2 ^ least → capped q ≤ n → 2 * set < 2 ^ capped q
 room_told n q least set h l r m = rw (capped_exact q (omega arith)) (lt_of_lt_of_le r (pow_mono {i = least} {j = q} l))

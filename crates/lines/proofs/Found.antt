@@ -6,25 +6,24 @@ use mathlib.Core.List.{List, [], ◌∷◌, ◌++◌, append_assoc}
 use Prim.Native.Nat.{ℕ, ◌≤◌, ◌<◌}
 use native.Mathlib.Omega.{arith}
 use lib.Dec.{leb}
+use lib.IntN.{ℤ}
 use lib.ListN.{length, drop, length-append, length-drop}
-use denote.Enum.Declared.{tag_of}
 use borrow.Author.Tests.{leb-true}
+use Rattle.std.specs.Prelude.{Ok, Err}
+use Rattle.numerals.specs.declared.read.Found.{Found}
 use Rattle.numerals.specs.Bytes.{newline}
 use Rattle.numerals.specs.Decimal.{decimal}
-use Rattle.numerals.specs.Parsing.{Parsed, parsed, malformed, cursor_of}
+use Rattle.numerals.specs.Parsing.{Parsed, parsed, malformed, cursor_of, found_in}
 use Rattle.numerals.proofs.Cases.{clash}
 use Rattle.numerals.proofs.Cursors.{cursor_rest}
 use Rattle.rules.specs.declared.refusal.Refusal.{Refusal}
 use Rattle.rules.specs.declared.refusal.Refusal.TheVariants.{OutOfLimit, Cancelling}
 use Rattle.rules.specs.declared.rule.Rule.{Rule}
 use Rattle.rules.specs.Hidden.{set_of}
-use Rattle.lines.specs.declared.answer.Answer.{Answer}
-use Rattle.lines.specs.declared.answer.Answer.TheVariants.{Count, Hidden, Refused}
-use Rattle.lines.specs.declared.answer.Answer.TheVariants.{Rule as RuleRead}
 use Rattle.lines.specs.Spelling.{Line, Written, quantities, hidden, rules, rule, line_text, IncreasingFrom, all_within, rule_within, cancelling, written_rule}
 use Rattle.lines.specs.Lines.{Judged, accepted, refused, judged, never, between, count_line, hidden_line, rule_line, count_judged, hidden_judged, rule_judged}
-use Rattle.lines.specs.Answers.{answer_of, count_answer, hidden_answer, rule_answer}
-use Rattle.lines.specs.contracts.answer.Answer.{the_type}
+use Rattle.lines.specs.Answers.{answer_of, count_answer, hidden_answer, rule_answer, LineAnswered}
+use Rattle.lines.specs.Answers.{Line as LineAnswer}
 use Rattle.lines.proofs.Spellings.{count_sound, hidden_sound, hidden_increases, rule_sound}
 
 -- ---- lines that are accepted
@@ -61,15 +60,14 @@ by_accepted {A} {X} line within cancels (parsed b u) a rest e told = go (within 
     go true true q r f = absurd (not_both f)
     go false c q r f = absurd (not_both f)
 
--- the place of an answer among the answers
-abbrev pub place : Answer → ℕ
-place got = tag_of the_type got
-
 -- an answer that is no refusal is that of an accepted line
-by_answer : {A X : Type 0} (make : A → ℕ → Answer) (s : List ℕ) (j : Judged A) (got : Answer) → answer_of make s j ≡ got → place got < 3
-    → ((a : A) (rest : List ℕ) → j ≡ accepted a rest → make a (cursor_of s rest) ≡ got → X) → X
-by_answer make s (accepted a rest) got e h told = told a rest refl e
-by_answer make s (refused r) got e h told = let z : ⊥ = omega (arith, ap place e) in absurd z
+by_answer : {A B X : Type 0} (make : A → B) (s : List ℕ) (j : Judged A) (it : Found B) → answer_of make s j ≡ Ok it
+    → ((a : A) (rest : List ℕ) → j ≡ accepted a rest → make a ≡ it.value → cursor_of s rest ≡ it.next → X) → X
+by_answer make s (accepted a rest) it e told = let same : found_in s (make a) rest ≡ it = cc in told a rest refl (cc) (cc)
+by_answer make s (refused r) it e told = absurd (never_ok e)
+  where
+    never_ok : {A E : Type 0} {x : E} {a : A} → Err x ≡ Ok a → ⊥
+    never_ok q = cc
 
 -- a line has bytes
 line_some : (l : Line) → 0 < length (line_text l)
@@ -117,11 +115,11 @@ count_accepted s key least most line at v rest next e q = by_accepted line (betw
     spelled p = simp append_assoc (count_sound key (drop at s) v rest p)
 
 -- where the answer is a count, that line is there
-pub count_found : (s key : List ℕ) (least most line at v next : ℕ) → count_answer s (count_judged key least most line (drop at s)) ≡ Count v next
-    → CountFound s key least most line at v next
+pub count_found : (s key : List ℕ) (least most line at : ℕ) (it : Found ℕ) → count_answer s (count_judged key least most line (drop at s)) ≡ Ok it
+    → CountFound s key least most line at it.value it.next
 unfolding count_answer
-count_found s key least most line at v next e = by_answer Count s (count_judged key least most line (drop at s)) (Count v next) e (omega arith) (λ w rest q f.
-    let same : w ≡ v = cc in count_accepted s key least most line at v rest next (q ∙ ap (λ (x : ℕ). accepted x rest) same) (cc))
+count_found s key least most line at it e = by_answer (λ v. v) s (count_judged key least most line (drop at s)) it e (λ w rest q f n.
+    count_accepted s key least most line at it.value rest it.next (q ∙ ap (λ (x : ℕ). accepted x rest) f) n)
 
 -- ---- hidden quantities
 
@@ -152,12 +150,11 @@ hidden_accepted s n line at qs rest set next e f q = by_accepted line (all_withi
     })
 
 -- where the answer is a hidden set, that line is there
-pub hidden_found : (s : List ℕ) (n line at set next : ℕ) → hidden_answer s (hidden_judged n line (drop at s)) ≡ Hidden set next
-    → HiddenFound s n line at set next
+pub hidden_found : (s : List ℕ) (n line at : ℕ) (it : Found ℕ) → hidden_answer s (hidden_judged n line (drop at s)) ≡ Ok it
+    → HiddenFound s n line at it.value it.next
 unfolding hidden_answer
-hidden_found s n line at set next e =
-    by_answer (λ qs. Hidden (set_of qs)) s (hidden_judged n line (drop at s)) (Hidden set next) e (omega arith) (λ qs rest q f.
-    hidden_accepted s n line at qs rest set next q (cc) (cc))
+hidden_found s n line at it e = by_answer set_of s (hidden_judged n line (drop at s)) it e (λ qs rest q f m.
+    hidden_accepted s n line at qs rest it.value it.next q f m)
 
 -- ---- a rule
 
@@ -180,42 +177,15 @@ rule_accepted s n limit line at w rest r next e f q = by_accepted line (rule_wit
     record { written = w; is = e ∙ ap (accepted w) t.follow; told = sym f; within = o; stays = c; after = t.later; inside = t.limit })
 
 -- where the answer is a rule, that line is there
-pub rule_found : (s : List ℕ) (n limit line at : ℕ) (r : Rule) (next : ℕ) → rule_answer s (rule_judged n limit line (drop at s)) ≡ RuleRead r next
-    → RuleFound s n limit line at r next
+pub rule_found : (s : List ℕ) (n limit line at : ℕ) (it : Found Rule) → rule_answer s (rule_judged n limit line (drop at s)) ≡ Ok it
+    → RuleFound s n limit line at it.value it.next
 unfolding rule_answer
-rule_found s n limit line at r next e =
-    by_answer (λ w. RuleRead (written_rule w)) s (rule_judged n limit line (drop at s)) (RuleRead r next) e (omega arith) (λ w rest q f.
-    rule_accepted s n limit line at w rest r next q (cc) (cc))
+rule_found s n limit line at it e = by_answer written_rule s (rule_judged n limit line (drop at s)) it e (λ w rest q f m.
+    rule_accepted s n limit line at w rest it.value it.next q f m)
 
 -- ---- lines that are refused
 
--- the line is refused, and so is its answer
-pub record LineRefused {A : Type 0} (j : Judged A) (got : Answer) : Type 0 where
-  pub refusal : Refusal
-  pub is : j ≡ refused refusal
-  pub answered : got ≡ Refused refusal
-
 -- by whatever refusal the answer is
-pub refused_by : {A : Type 0} {j : Judged A} {got : Answer} (f : Refusal) → LineRefused j got → got ≡ Refused f → j ≡ refused f
-refused_by f l e = let a = l.answered in let same : l.refusal ≡ f = cc in l.is ∙ ap refused same
-
--- an answer that is not of the line's own kind is its refusal
-other_refused : {A : Type 0} (make : A → ℕ → Answer) (s : List ℕ) (j : Judged A) (got : Answer) → got ≡ answer_of make s j
-    → ((a : A) (i : ℕ) → got ≡ make a i → ⊥) → LineRefused j got
-other_refused make s (accepted a u) got e m = absurd (m a (cursor_of s u) e)
-other_refused make s (refused f) got e m = record { refusal = f; is = refl; answered = e }
-
--- what the `else` of `let Answer::Count { .. } = got else { .. }` tells of a line of a key and a number
-pub count_refused : (s : List ℕ) (j : Judged ℕ) (got : Answer) → got ≡ count_answer s j → ((v i : ℕ) → got ≡ Count v i → ⊥) → LineRefused j got
-unfolding count_answer
-count_refused s j got e o = other_refused Count s j got e o
-
--- of `let Answer::Hidden { .. } = got else { .. }`, of a line of hidden quantities
-pub hidden_refused : (s : List ℕ) (j : Judged (List ℕ)) (got : Answer) → got ≡ hidden_answer s j → ((set i : ℕ) → got ≡ Hidden set i → ⊥) → LineRefused j got
-unfolding hidden_answer
-hidden_refused s j got e o = other_refused (λ qs. Hidden (set_of qs)) s j got e (λ qs i. o (set_of qs) i)
-
--- of `let Answer::Rule { .. } = got else { .. }`, of a line of a rule
-pub rule_refused : (s : List ℕ) (j : Judged Written) (got : Answer) → got ≡ rule_answer s j → ((r : Rule) (i : ℕ) → got ≡ RuleRead r i → ⊥) → LineRefused j got
-unfolding rule_answer
-rule_refused s j got e o = other_refused (λ w. RuleRead (written_rule w)) s j got e (λ w i. o (written_rule w) i)
+pub line_refused : {A B : Type 0} {values : B → List ℤ} {answer : Judged A → LineAnswer B} {j : Judged A} (f : Refusal) → LineAnswered values answer j (Err f)
+    → j ≡ refused f
+line_refused f a = (a.refuses f).0 refl

@@ -7,7 +7,8 @@ pub mod Spellings
 pub mod RuleBytes
 pub mod Found
 pub mod Answered
-pub mod Ends
+pub mod AtCursors
+pub mod Judging
 pub mod Counts
 pub mod Bits
 pub mod Members

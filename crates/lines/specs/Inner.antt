@@ -1,23 +1,17 @@
 -- What private functions answer. Only contracts of functions that no other crate calls cite it: none of it has to be believed.
-use Rattle.std.specs.Prelude.{◌≡◌, Bool, true, false, cond, ◌&&◌, List, [], ◌∷◌, ℕ, suc, leb, ℤ, pos, negsuc, neg_ℤ, nat_abs, ◌+ℤ◌, length}
-use Rattle.numerals.specs.declared.byte.Kind.{Kind}
-use Rattle.numerals.specs.declared.byte.Kind.TheVariants.{LineEnd}
-use Rattle.numerals.specs.Bytes.{colon}
+use Rattle.std.specs.Prelude.{Bool, true, false, cond, ◌&&◌, Option, Some, None, Result, Ok, Err, List, [], ◌∷◌, ℕ, suc, ◌+◌, leb, eqb, ℤ, pos, negsuc, neg_ℤ, nat_abs, length, drop}
+use Rattle.numerals.specs.declared.read.Found.{Found}
+use Rattle.numerals.specs.Bytes.{colon, newline, plus, minus}
 use Rattle.numerals.specs.Decimal.{capped}
-use Rattle.numerals.specs.Parsing.{Parsed, parsed, malformed, and_then, expect, cursor_of}
-use Rattle.rules.specs.declared.refusal.Refusal.TheVariants.{Malformed, OutOfLimit, Cancelling}
+use Rattle.numerals.specs.Parsing.{Parsed, parsed, malformed, and_then, expect, starts_with, found_in}
+use Rattle.rules.specs.declared.refusal.Refusal.{Refusal}
+use Rattle.rules.specs.declared.refusal.Refusal.TheVariants.{Malformed}
 use Rattle.rules.specs.Hidden.{bit_of}
-use Rattle.rules.specs.Steps.{is_none, rule_of}
 use Rattle.rules.specs.Literal.{quantity_within}
-use Rattle.lines.specs.declared.answer.Answer.{Answer}
-use Rattle.lines.specs.declared.answer.Answer.TheVariants.{Hidden, Rule, Refused}
-use Rattle.lines.specs.declared.signed.Signed.{Signed}
-use Rattle.lines.specs.declared.signed.Signed.TheVariants.{Read, Malformed}
+use Rattle.lines.specs.declared.hidden.Members.{Members}
 use Rattle.lines.specs.declared.spelled.Spelled.{Spelled}
-use Rattle.lines.specs.declared.spelled.Spelled.TheVariants.{One, Two, Malformed}
 use Rattle.lines.specs.Spelling.{Term, Written, one, two, all_within, signed_quantity}
-use Rattle.lines.specs.Lines.{term_of, below, bound_line, judged, never, members_from}
-use Rattle.lines.specs.Answers.{hidden_answer}
+use Rattle.lines.specs.Lines.{term_of, below, bound_line, members_from}
 
 -- ---- signed numbers
 
@@ -31,19 +25,36 @@ abbrev pub with_sign : Bool → ℕ → ℤ
 with_sign true v = neg_ℤ (pos v)
 with_sign false v = pos v
 
+-- whether the sign that the bytes begin with is a minus
+abbrev pub sign_of : List ℕ → Option Bool
+sign_of [] = None
+sign_of (b ∷ u) = cond (eqb b plus) (Some false) (cond (eqb b minus) (Some true) None)
+
 -- the bound of a number that was read after a minus or without one
 abbrev pub signed_bound : Bool → ℕ → List ℕ → Parsed ℤ
 signed_bound true = below
 signed_bound false = λ v. parsed (pos v)
 
--- the answer of a bound, and of a signed quantity number, in the text s
-unfoldable pub signed_answer : List ℕ → Parsed ℤ → Signed
-signed_answer s (parsed z u) = Read (capped_integer z) (cursor_of s u)
-signed_answer s malformed = Malformed
+-- a signed quantity number as the program has it
+abbrev pub capped_term : Term → ℤ
+capped_term x = capped_integer (signed_quantity x)
 
-unfoldable pub term_answer : List ℕ → Parsed Term → Signed
-term_answer s (parsed x u) = Read (capped_integer (signed_quantity x)) (cursor_of s u)
-term_answer s malformed = Malformed
+-- ---- the form of a line
+
+-- what was found in the text s of what was read, as the program has it
+abbrev pub found_answer : {A B : Type 0} → (A → B) → List ℕ → Parsed A → Option (Found B)
+found_answer tell s (parsed a u) = Some (found_in s (tell a) u)
+found_answer tell s malformed = None
+
+-- what was read, or the refusal of a line that is malformed
+abbrev pub well_formed : {A : Type 0} → ℕ → Option A → Result A Refusal
+well_formed line (Some a) = Ok a
+well_formed line None = Err (Malformed line)
+
+-- what was found in the text s, where the line ends after it
+abbrev pub ended_answer : {A : Type 0} → List ℕ → Found A → Option (Found A)
+ended_answer s found =
+    cond (starts_with (newline ∷ []) (drop found.next s)) (Some (record { value = found.value; next = found.next + 1 })) None
 
 -- ---- the form of a rule line
 
@@ -51,33 +62,27 @@ term_answer s malformed = Malformed
 abbrev pub second_line : List ℕ → Parsed (Term × ℤ)
 second_line u = and_then (term_of u) (λ y v. expect (colon ∷ []) v (λ w. and_then (bound_line w) (λ c. parsed (y, c))))
 
--- the answer of what follows the first term x, as the program has it: the bound alone, or a second term before it
-unfoldable pub one_answer : List ℕ → ℤ → Parsed ℤ → Spelled
-one_answer s x (parsed c u) = One (capped_integer c) (cursor_of s u) x
-one_answer s x malformed = Malformed
+-- a rule as the program has it: after the first term x the bound alone, or a second term before it
+abbrev pub one_form : ℤ → ℤ → Spelled
+one_form x c = record { first = x; second = None; bound = capped_integer c }
 
-unfoldable pub two_answer : List ℕ → ℤ → Parsed (Term × ℤ) → Spelled
-two_answer s x (parsed (y, c) u) = Two (capped_integer c) (cursor_of s u) x (capped_integer (signed_quantity y))
-two_answer s x malformed = Malformed
+abbrev pub two_form : ℤ → Term × ℤ → Spelled
+two_form x p = record { first = x; second = Some (capped_term p.0); bound = capped_integer p.1 }
 
--- the answer of the whole line
-unfoldable pub spelled_answer : List ℕ → Parsed Written → Spelled
-spelled_answer s (parsed (one x c) u) = One (capped_integer c) (cursor_of s u) (capped_integer (signed_quantity x))
-spelled_answer s (parsed (two x y c) u) =
-    Two (capped_integer c) (cursor_of s u) (capped_integer (signed_quantity x)) (capped_integer (signed_quantity y))
-spelled_answer s malformed = Malformed
+abbrev pub form : Written → Spelled
+form (one x c) = one_form (capped_term x) c
+form (two x y c) = two_form (capped_term x) (y, c)
 
--- ---- a rule line by its form
+-- ---- a rule by its form
 
--- its answer from the capped values: its numbers in their limits, then whether its terms cancel
-unfoldable pub form_answer : ℕ → ℕ → ℕ → Spelled → Answer
-form_answer n limit line (One c next x) =
-    cond (quantity_within n (nat_abs x) && leb (nat_abs c) limit) (Rule (rule_of x (pos 0) c) next) (Refused (OutOfLimit line))
-form_answer n limit line (Two c next x y) =
-    cond (quantity_within n (nat_abs x) && quantity_within n (nat_abs y) && leb (nat_abs c) limit)
-    (cond (is_none (x +ℤ y)) (Refused (Cancelling line)) (Rule (rule_of x y c) next))
-    (Refused (OutOfLimit line))
-form_answer n limit line Malformed = Refused (Malformed line)
+-- a second term that may be missing is of 1 to n
+abbrev pub second_within : ℕ → Option ℤ → Bool
+second_within n None = true
+second_within n (Some y) = quantity_within n (nat_abs y)
+
+-- its numbers are in their limits
+abbrev pub form_within : ℕ → ℕ → Spelled → Bool
+form_within n limit f = quantity_within n (nat_abs f.first) && second_within n f.second && leb (nat_abs f.bound) limit
 
 -- ---- the list of hidden quantities, number by number
 
@@ -85,15 +90,15 @@ form_answer n limit line Malformed = Refused (Malformed line)
 unfoldable pub member_bit : ℕ → ℕ → ℕ
 member_bit n q = cond (quantity_within n q) (bit_of q) 0
 
--- the answer at the end of a line with this set, its numbers being within their limits or not
-abbrev pub end_answer : ℕ → ℕ → Bool → ℕ → Answer
-end_answer line set within next = cond within (Hidden set next) (Refused (OutOfLimit line))
+-- the bits of all numbers
+abbrev pub set_within : ℕ → List ℕ → ℕ
+set_within n [] = 0
+set_within n (q ∷ qs) = member_bit n q + set_within n qs
 
--- the answer r where no number follows, but a byte of this kind
-pub record Ending (line set : ℕ) (within : Bool) (kind : Kind) (next : ℕ) (r : Answer) : Type 0 where
-  pub ended : kind ≡ LineEnd → r ≡ end_answer line set within next
-  pub other : (kind ≡ LineEnd → ⊥) → r ≡ Refused (Malformed line)
+-- these, and whether all numbers are within their limits
+abbrev pub members_of : ℕ → List ℕ → Members
+members_of n qs = record { set = set_within n qs; within = all_within n qs }
 
 -- the answer of a list of at least one number at u, the last bytes of the text s
-abbrev pub list_answer : ℕ → ℕ → List ℕ → List ℕ → Answer
-list_answer n line s u = hidden_answer s (judged line (all_within n) never (members_from (length u) 0 u))
+abbrev pub list_answer : ℕ → List ℕ → List ℕ → Option (Found Members)
+list_answer n s u = found_answer (members_of n) s (members_from (length u) 0 u)

@@ -3,6 +3,7 @@
 
 pub mod answer;
 pub mod count;
+mod ending;
 pub mod hidden;
 pub mod rule;
 mod signed;

@@ -1,89 +1,78 @@
 // The form of a rule line.
 ghost use Rattle.std.specs.Prelude.{◌≡◌, drop};
 ghost use Rattle.lines.specs.Lines.{bound_line, rule_line};
-ghost use Rattle.lines.specs.Inner.{second_line, one_answer, two_answer, spelled_answer};
+ghost use Rattle.lines.specs.Inner.{found_answer, second_line, one_form, two_form, form, form_within};
 
 use crate::signed;
-use crate::signed::Signed;
 use numerals::byte;
 use numerals::byte::Kind;
+use numerals::read::Found;
+use rules::literal;
 
-// A rule as it is written: its bound, the cursor of the next line and its signed quantity numbers, all magnitudes capped. What both forms have comes first, so
-// that it is at one place in both.
-#[derive(Clone, Copy)]
-pub(crate) enum Spelled {
-    One {
-        bound: i64,
-        next: usize,
-        term: i64,
-    },
-    Two {
-        bound: i64,
-        next: usize,
-        first: i64,
-        second: i64,
-    },
-    Malformed,
+// A rule as it is written: its signed quantity numbers, of which the second may be missing, and its bound, all magnitudes capped.
+#[derive(Clone, Copy, PartialEq, Eq, Debug)]
+pub(crate) struct Spelled {
+    pub(crate) first: i64,
+    pub(crate) second: Option<i64>,
+    pub(crate) bound: i64,
+}
+
+impl Spelled {
+    // Whether its numbers are in their limits, over `n` quantities with bounds up to `limit` in magnitude.
+    pub(crate) fn is_within(self, n: usize, limit: u64) -> bool
+        ensures { result ≡ form_within n limit self }
+    {
+        literal::is_quantity(self.first, n)
+            && self.second.is_none_or(|term| literal::is_quantity(term, n))
+            && integers::magnitude(self.bound) <= limit
+    }
 }
 
 // A rule of one term, whose bound is at the cursor.
-fn rule_of_one(s: &[u8], at: usize, term: i64) -> Spelled
-    ensures { result ≡ one_answer s.now term (bound_line (drop at s.now)) }
+fn rule_of_one(s: &[u8], at: usize, first: i64) -> Option<Found<Spelled>>
+    ensures { result ≡ found_answer (one_form first) s.now (bound_line (drop at s.now)) }
 {
-    let got = signed::bound_line(s, at);
-    let Signed::Read { value: bound, next } = got else {
-        return Spelled::Malformed;
-    };
-    Spelled::One { bound, next, term }
+    let bound = signed::bound_line(s, at)?;
+    Some(Found {
+        value: Spelled {
+            first,
+            second: None,
+            bound: bound.value,
+        },
+        next: bound.next,
+    })
 }
 
 // A rule of two terms, of which the second is at the cursor.
-fn rule_of_two(s: &[u8], at: usize, first: i64) -> Spelled
-    ensures { result ≡ two_answer s.now first (second_line (drop at s.now)) }
+fn rule_of_two(s: &[u8], at: usize, first: i64) -> Option<Found<Spelled>>
+    ensures { result ≡ found_answer (two_form first) s.now (second_line (drop at s.now)) }
 {
-    let got = signed::term_at(s, at);
-    let Signed::Read {
-        value: second,
-        next,
-    } = got
-    else {
-        return Spelled::Malformed;
-    };
-    let kind = byte::kind_of(byte::byte_at(s, next));
-    let Kind::Colon = kind else {
-        return Spelled::Malformed;
-    };
-    let ending = signed::bound_line(s, next + 1);
-    let Signed::Read {
-        value: bound,
-        next: after,
-    } = ending
-    else {
-        return Spelled::Malformed;
-    };
-    Spelled::Two {
-        bound,
-        next: after,
-        first,
-        second,
+    let second = signed::term_at(s, at)?;
+    if Kind::from(byte::byte_at(s, second.next)) != Kind::Colon {
+        return None;
     }
+    let bound = signed::bound_line(s, second.next + 1)?;
+    Some(Found {
+        value: Spelled {
+            first,
+            second: Some(second.value),
+            bound: bound.value,
+        },
+        next: bound.next,
+    })
 }
 
 // The rule line at the cursor.
-pub(crate) fn spelled_at(s: &[u8], at: usize) -> Spelled
-    ensures { result ≡ spelled_answer s.now (rule_line (drop at s.now)) }
+pub(crate) fn spelled_at(s: &[u8], at: usize) -> Option<Found<Spelled>>
+    ensures { result ≡ found_answer form s.now (rule_line (drop at s.now)) }
 {
     let key = b"rule=";
     if !byte::has_key(s, at, key) {
-        return Spelled::Malformed;
+        return None;
     }
-    let got = signed::term_at(s, at + 5);
-    let Signed::Read { value, next } = got else {
-        return Spelled::Malformed;
-    };
-    let kind = byte::kind_of(byte::byte_at(s, next));
-    let Kind::Colon = kind else {
-        return rule_of_two(s, next, value);
-    };
-    rule_of_one(s, next + 1, value)
+    let first = signed::term_at(s, at + key.len())?;
+    if Kind::from(byte::byte_at(s, first.next)) != Kind::Colon {
+        return rule_of_two(s, first.next, first.value);
+    }
+    rule_of_one(s, first.next + 1, first.value)
 }

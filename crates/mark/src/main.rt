@@ -22,6 +22,7 @@ fn read_file(rt: &impl Files, path: &str, text: &mut [u8]) -> usize
 }
 
 fn main(rt: HostRuntime) -> io::Result<()> {
+    // Kept: buffers and their lengths: memory is fixed.
     let mut sheet = [0; BYTES];
     let sheet_length = read_file(&rt, "sheet", &mut sheet);
     let mut script = [0; BYTES];

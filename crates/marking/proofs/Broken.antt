@@ -1,13 +1,13 @@
 -- Assignments that break a rule: of the script from its copy, of the sheet from its key's copy, completed by hidden values. Assumes nothing.
 use mathlib.Core.Path.{◌≡◌, refl, sym, ◌∙◌, ap}
 use mathlib.Core.Bool.{Bool, true, false}
-use mathlib.Core.List.{List}
+use mathlib.Core.List.{List, ◌++◌}
 use mathlib.Core.Logic.{inr}
 use Prim.Native.Nat.{ℕ, zero, suc, ◌+◌, ◌-◌, ◌*◌, ◌≤◌, ◌<◌, ◌^◌}
 use native.Mathlib.Omega.{arith}
 use lib.Dec.{eqb}
 use lib.IntN.{ℤ, pos}
-use lib.ListN.{length, drop, length-drop}
+use lib.ListN.{length, take, drop, length-drop, get_or-append}
 use lib.Seq.{take_all}
 use borrow.Rule.Slice.PartMut.{mid_of}
 use borrow.Author.Tests.{eqb-true, eqb-false, le-leb}
@@ -16,8 +16,6 @@ use Rattle.integers.proofs.Within.{within_mono}
 use Rattle.words.specs.Change.{word_at, change, copying, lowered}
 use Rattle.words.specs.Lent.{Lent}
 use Rattle.words.proofs.Change.{change_length, change_drop, lowered_length, lowered_same, lowered_other}
-use Rattle.places.specs.declared.Place.{Place}
-use Rattle.places.specs.declared.Place.TheVariants.{At, Nowhere}
 use Rattle.places.specs.Numbering.{block_start}
 use Rattle.rules.specs.declared.rule.Rule.{Rule}
 use Rattle.rules.specs.Hidden.{hidden_in, member_count}
@@ -32,6 +30,7 @@ use Rattle.tables.proofs.Sizes.{size_known}
 use Rattle.tables.proofs.Tests.{clash}
 use Rattle.tables.proofs.Values.{meets_named}
 use Rattle.elimination.specs.Magnitude.{Unnamed}
+use Rattle.elimination.specs.Inner.{Listed}
 use Rattle.keys.specs.declared.live.Part.TheVariants.{Inside, Outside}
 use Rattle.keys.specs.Keys.{key_of, hide_up_to}
 use Rattle.keys.specs.Inner.{outside, member_of, still_live, LiveAlone, Fits, AtTurns, Readable, PartReadable, read_back}
@@ -44,12 +43,14 @@ use Rattle.keys.proofs.Puts.{put_lowers, opposite_has_place}
 use Rattle.keys.proofs.Parts.{PartBack, front_word, back_word}
 use Rattle.tightening.specs.Promises.{Tightened}
 use Rattle.tightening.proofs.Least.{bound_least}
-use Rattle.tightening.specs.Below.{LivePlace, FirstBelow}
+use Rattle.tightening.specs.Below.{LivePlace, FirstBelow, Comparable}
 use Rattle.marking.specs.Meaning.{workspace_size}
 use Rattle.marking.specs.Inner.{FirstSeen, LeastBounds, FrontFound, ScriptBreakable, ScriptBroken, SheetBreakable, SheetShown}
-use Rattle.marking.proofs.Finding.{LeastOf, below_seen}
+use Rattle.marking.proofs.Finding.{below_seen}
 use Rattle.marking.proofs.Lending.{lent_again, lent_wider, part_lent}
 use Rattle.marking.proofs.Reducing.{same_breaks, same_alone, same_front}
+use Rattle.std.specs.Prelude.{Option, Some, None}
+use Rattle.std.proofs.lemmas.List.{take_at, drop_at, length-append}
 
 -- the part of a workspace from its second table on
 pub second_part : (n m : ℕ) (u : List ℤ) → n ≤ max_quantities → m ≡ table_size n → mid_of m (length u - m) u ≡ drop (block_start n) u
@@ -203,14 +204,14 @@ module _ (n set : ℕ) (sheet : List ℤ) (r : Rule) (w v u part : List ℤ) (p 
 -- ---- the script's least bounds at the back
 
 -- rules that are seen in words that are the same
-seen_same : (n : ℕ) (live : List ℕ) (words rules : List ℤ) (script : List ℤ) (p : Place) → ((k : ℕ) → k < block_start n → word_at words k ≡ word_at rules k)
+seen_same : (n : ℕ) (live : List ℕ) (words rules : List ℤ) (script : List ℤ) (p : Option ℕ) → ((k : ℕ) → k < block_start n → word_at words k ≡ word_at rules k)
     → FirstSeen n live words (Satisfies n script) p → FirstSeen n live rules (Satisfies n script) p
-seen_same n live words rules script (At k) same f = record {
+seen_same n live words rules script (Some k) same f = record {
   seen = record { at = f.seen.at; rule = rw (same k f.seen.at.0) at f.seen.rule };
   breaks = rw (same k f.seen.at.0) at f.breaks;
   first = λ i h s b. f.first i h (record { at = s.at; rule = rw (same i s.at.0) s.rule }) (rw (same i s.at.0) b);
 }
-seen_same n live words rules script Nowhere same f =
+seen_same n live words rules script None same f =
     λ i s b. f i (record { at = s.at; rule = rw (same i s.at.0) s.rule }) (rw (same i s.at.0) b)
 
 -- a copy made the tightest has the least bounds of the table's terms
@@ -241,23 +242,43 @@ module _ (n m : ℕ) (live : List ℕ) (t w u : List ℤ) (f : Fits n t) (a : Li
       back : SameTable n u t
       back = same_back n t u copy_same
 
--- at the back of a workspace
-module _ (n : ℕ) (live : List ℕ) (script w part part' z : List ℤ) (r : Bool) (g : PartBack (block_start n) w part part' z) (t : LeastBounds n script part r part') where
+-- at the back of a workspace, split behind its first table
+module _ (n m : ℕ) (live : List ℕ) (script w front back back' : List ℤ) (r : Bool) (h : n ≤ max_quantities) (d : m ≡ table_size n) (e : w ≡ front ++ back) (l : length front ≡ m) (t : LeastBounds n script back r back') where
+  long : length front ≡ block_start n
+  long = l ∙ size_known n m h d
+
+  split_back : PartBack (block_start n) w back back' (front ++ back')
+  split_back = record {
+    size = omega (arith, length-append front back', ap length e, length-append front back, t.lent.size);
+    front = take_at front back' (block_start n) long ∙ sym (ap (take (block_start n)) e ∙ take_at front back (block_start n) long);
+    was = sym (ap (drop (block_start n)) e ∙ drop_at front back (block_start n) long);
+    is = sym (drop_at front back' (block_start n) long);
+  }
+
+  -- what looking for the first rule at the front asks
+  pub front_comparable : workspace_size n ≤ length w → Listed n live → Comparable n live front back'
+  front_comparable room listed = record {
+    most = h;
+    listed = listed;
+    rules_room = omega (arith, long);
+    least_room = omega (arith, long, ap length e, length-append front back, t.lent.size);
+  }
+
   -- no integers satisfy the script: it breaks nothing
-  pub front_none : r ≡ true → FrontFound n live script w Nowhere z
+  pub front_none : r ≡ true → FrontFound n live script w None (front ++ back')
   front_none c = record {
     found = λ i s b. t.none.0 c b.assignment b.satisfies;
-    front = front_word (block_start n) w z g.front;
-    lent = part_lent n w part part' z g t.lent;
+    front = front_word (block_start n) w (front ++ back') split_back.front;
+    lent = part_lent n w back back' (front ++ back') split_back t.lent;
   }
 
   -- or the first rule below its least bounds
-  pub front_found : r ≡ false → (x : List ℤ) → x ≡ drop (block_start n) z → (q : Place) → FirstBelow (LivePlace n live) z x q → FrontFound n live script w q z
-  front_found c x f q b = record {
-    found = seen_same n live z w script q (front_word (block_start n) w z g.front) (below_seen n live z x (Satisfies n script) q least b);
-    front = front_word (block_start n) w z g.front;
-    lent = part_lent n w part part' z g t.lent;
+  pub front_found : r ≡ false → (q : Option ℕ) → FirstBelow (LivePlace n live) front back' q → FrontFound n live script w q (front ++ back')
+  front_found c q b = record {
+    found = seen_same n live front w script q same (below_seen n live front back' (Satisfies n script) q (t.least c) b);
+    front = front_word (block_start n) w (front ++ back') split_back.front;
+    lent = part_lent n w back back' (front ++ back') split_back t.lent;
   }
     where
-      least : LeastOf n (Satisfies n script) x
-      least = rw (f ∙ sym g.is) (t.least c)
+      same : (k : ℕ) → k < block_start n → word_at front k ≡ word_at w k
+      same k j = sym (ap (λ (u : List ℤ). word_at u k) e ∙ get_or-append front back (pos 0) k (omega (arith, long)))

@@ -62,11 +62,11 @@ rule_for (p ∷ c ∷ []) = One (literal_of p) c
 rule_for (p ∷ q ∷ c ∷ zs) = Two (literal_of p) (literal_of q) c
 
 -- it is the rule that has them, where that has a term
-rule-for : (r : Rule) → has_term r ≡ true → rule_for (rule_values r) ≡ r
+rule_for_values : (r : Rule) → has_term r ≡ true → rule_for (rule_values r) ≡ r
 unfolding rule_for
-rule-for (One x c) e = rw (signed_back x)
-rule-for (Two x y c) e = rw (signed_back x, signed_back y)
-rule-for (Nothing c) e = clash e refl
+rule_for_values (One x c) e = rw (signed_back x)
+rule_for_values (Two x y c) e = rw (signed_back x, signed_back y)
+rule_for_values (Nothing c) e = clash e refl
 
 -- has a list a first element?
 unfoldable has_first : List ℤ → Bool
@@ -89,7 +89,7 @@ same_rule : (r s : Rule) → rule_values r ≡ rule_values s → (r ≡ s) ⊎ (
 same_rule r s e = go (has_term r) refl
   where
     go : (b : Bool) → has_term r ≡ b → (r ≡ s) ⊎ ((has_term r ≡ false) × (has_term s ≡ false))
-    go true h = inl (sym (rule-for r h) ∙ ap rule_for e ∙ rule-for s (sym (same_term r s e) ∙ h))
+    go true h = inl (sym (rule_for_values r h) ∙ ap rule_for e ∙ rule_for_values s (sym (same_term r s e) ∙ h))
     go false h = inr (h, sym (same_term r s e) ∙ h)
 
 -- ---- its words for a host

@@ -1,6 +1,6 @@
 -- The checks of marking two tables: which refusal stands at each, and that they are document 01's, in its order. Assumes nothing.
-use mathlib.Core.Path.{◌≡◌}
-use mathlib.Core.Bool.{Bool, true, false, not, ◌&&◌, and-false}
+use mathlib.Core.Path.{◌≡◌, sym}
+use mathlib.Core.Bool.{Bool, true, false, ◌&&◌, and-false}
 use mathlib.Core.List.{List}
 use mathlib.Core.Logic.{◌↔◌}
 use Prim.Native.Nat.{ℕ, ◌*◌, ◌≤◌, ◌<◌}
@@ -14,12 +14,10 @@ use Rattle.rules.specs.declared.refusal.Refusal.TheVariants.{Size, OutOfLimit, T
 use Rattle.rules.specs.Hidden.{hidden_in, set_within}
 use Rattle.rules.specs.Limits.{max_quantities}
 use Rattle.rules.specs.Refusing.{AllMet}
-use Rattle.tables.specs.declared.reply.Reply.TheVariants.{Done, Refused}
-use Rattle.tables.specs.Tables.{serves, table_names_hidden}
+use Rattle.tables.specs.Tables.{table_size, serves, table_names_hidden}
 use Rattle.tables.specs.Meaning.{TableSized, BoundsWithin}
-use Rattle.tables.specs.Replies.{check}
 use Rattle.tables.proofs.Tests.{both_true}
-use Rattle.tables.proofs.Sizes.{small_start, serves_tells, serves_sized}
+use Rattle.tables.proofs.Sizes.{small_start, size_known, serves_tells, serves_sized}
 use Rattle.tables.proofs.Refusing.{Tied, tied_done, tied_more}
 use Rattle.tables.proofs.Naming.{names_test}
 use Rattle.keys.specs.Keys.{bounds_in_limit}
@@ -28,6 +26,7 @@ use Rattle.keys.proofs.Checking.{length_test, bounds}
 use Rattle.marking.specs.Meaning.{workspace_size, mark_needs}
 use Rattle.marking.specs.Marking.{numbers_within, mark_checks}
 use Rattle.marking.specs.Inner.{TablesAccepted}
+use Rattle.std.specs.Prelude.{Ok, Err}
 
 -- ---- the tests, and what they mean
 
@@ -94,12 +93,12 @@ module _ (n set : ℕ) (sheet script : List ℤ) where
 
 module _ (n set : ℕ) (sheet script : List ℤ) (w v : ℕ) where
   -- a sheet that does not serve
-  pub sheet_refused : serves n (length sheet) ≡ false → Refused Size ≡ mark_checks n set sheet script w v
+  pub sheet_refused : serves n (length sheet) ≡ false → Err Size ≡ mark_checks n set sheet script w v
   unfolding mark_checks
   sheet_refused e = rw e
 
   -- a script that does not
-  pub script_refused : serves n (length script) ≡ false → Refused Size ≡ mark_checks n set sheet script w v
+  pub script_refused : serves n (length script) ≡ false → Err Size ≡ mark_checks n set sheet script w v
   unfolding mark_checks
   script_refused e = rw (e, and-false (serves n (length sheet)))
 
@@ -109,6 +108,13 @@ pub record BothServe (n m : ℕ) (sheet script : List ℤ) : Type 0 where
   pub script_serves : serves n (length script) ≡ true
   pub size : m ≡ block_start n
 
+pub both_serve : (n m : ℕ) (sheet script : List ℤ) → true ≡ serves n (length sheet) → true ≡ serves n (length script) → m ≡ table_size n → BothServe n m sheet script
+both_serve n m sheet script d e s = record {
+  sheet_serves = sym d;
+  script_serves = sym e;
+  size = size_known n m (serves_tells n (length sheet) (sym d)).most s;
+}
+
 -- that size is small
 pub both_small : (n m : ℕ) (sheet script : List ℤ) → BothServe n m sheet script → m ≤ 2 * (max_quantities * max_quantities)
 both_small n m sheet script b =
@@ -116,25 +122,28 @@ both_small n m sheet script b =
 
 module _ (n set m : ℕ) (sheet script : List ℤ) (w v : ℕ) (b : BothServe n m sheet script) where
   -- a workspace that is too short
-  pub workspace_refused : w < 2 * m → Refused (TooShort (2 * m)) ≡ mark_checks n set sheet script w v
+  pub workspace_refused : w < 2 * m → Err (TooShort (2 * m)) ≡ mark_checks n set sheet script w v
   unfolding mark_checks
   workspace_refused h = rw (b.sheet_serves, b.script_serves, lt-leb (workspace_size n) w (omega (arith, b.size)), b.size)
 
   module _ (l : 2 * m ≤ w) where
     -- an assignment that is
-    pub values_refused : v < n → Refused (TooShort n) ≡ mark_checks n set sheet script w v
+    pub values_refused : v < n → Err (TooShort n) ≡ mark_checks n set sheet script w v
     unfolding mark_checks
     values_refused g = rw (b.sheet_serves, b.script_serves, le-leb (workspace_size n) w (omega (arith, b.size)), lt-leb n v g)
 
     module _ (k : n ≤ v) where
       -- a number outside its limit
-      pub numbers_refused : numbers_within n set sheet script ≡ false → Refused (OutOfLimit 0) ≡ mark_checks n set sheet script w v
+      pub numbers_refused : numbers_within n set sheet script ≡ false → Err (OutOfLimit 0) ≡ mark_checks n set sheet script w v
       unfolding mark_checks
       numbers_refused e = rw (b.sheet_serves, b.script_serves, le-leb (workspace_size n) w (omega (arith, b.size)), le-leb n v k, e)
 
       -- all limits kept, the names decide
-      pub names_answered : (named : Bool) → numbers_within n set sheet script ≡ true → named ≡ table_names_hidden (hidden_in set) n script
-          → check (not named) Mismatch Done ≡ mark_checks n set sheet script w v
-      unfolding mark_checks
-      names_answered named e d =
-          rw (b.sheet_serves, b.script_serves, le-leb (workspace_size n) w (omega (arith, b.size)), le-leb n v k, e, d)
+      module _ (e : numbers_within n set sheet script ≡ true) where
+        pub names_refused : true ≡ table_names_hidden (hidden_in set) n script → Err Mismatch ≡ mark_checks n set sheet script w v
+        unfolding mark_checks
+        names_refused d = rw (b.sheet_serves, b.script_serves, le-leb (workspace_size n) w (omega (arith, b.size)), le-leb n v k, e, ← d)
+
+        pub names_passed : false ≡ table_names_hidden (hidden_in set) n script → Ok tt ≡ mark_checks n set sheet script w v
+        unfolding mark_checks
+        names_passed d = rw (b.sheet_serves, b.script_serves, le-leb (workspace_size n) w (omega (arith, b.size)), le-leb n v k, e, ← d)

@@ -9,8 +9,6 @@ use lib.IntN.{ℤ}
 use lib.ListN.{length}
 use lib.Signed.{◌<ℤ◌}
 use Rattle.words.specs.Change.{word_at}
-use Rattle.places.specs.declared.Place.{Place}
-use Rattle.places.specs.declared.Place.TheVariants.{At, Nowhere}
 use Rattle.places.specs.Numbering.{block_start, is_one, higher_at, lower_at}
 use Rattle.places.proofs.Numbering.{at_lower, at_below}
 use Rattle.rules.specs.Hidden.{hidden_in}
@@ -24,6 +22,7 @@ use Rattle.tightening.specs.Below.{FirstBelow, LivePlace}
 use Rattle.marking.specs.Meaning.{FirstAt}
 use Rattle.marking.specs.Inner.{VisibleListed, FirstSeen}
 use Rattle.marking.proofs.Breakable.{NoneBroken}
+use Rattle.std.specs.Prelude.{Option, Some, None}
 
 -- ---- from least bounds to what is broken
 
@@ -32,14 +31,14 @@ abbrev pub LeastOf : ℕ → Solutions → List ℤ → Type 0
 LeastOf n paper least = (k : ℕ) → k < block_start n → (c : ℤ) → has_rule c ≡ true → (c <ℤ word_at least k) ↔ Breaks paper (rule_at k c)
 
 -- the first rule below the least bound of its term is the first that is broken
-pub below_seen : (n : ℕ) (live : List ℕ) (rules least : List ℤ) (paper : Solutions) (p : Place) → LeastOf n paper least → FirstBelow (LivePlace n live) rules least p
+pub below_seen : (n : ℕ) (live : List ℕ) (rules least : List ℤ) (paper : Solutions) (p : Option ℕ) → LeastOf n paper least → FirstBelow (LivePlace n live) rules least p
     → FirstSeen n live rules paper p
-below_seen n live rules least paper (At k) l f = record {
+below_seen n live rules least paper (Some k) l f = record {
   seen = record { at = f.inside; rule = f.below.rule };
   breaks = (l k f.inside.0 (word_at rules k) f.below.rule).0 f.below.smaller;
   first = λ i h s b. f.sooner i h s.at (record { rule = s.rule; smaller = (l i s.at.0 (word_at rules i) s.rule).1 b });
 }
-below_seen n live rules least paper Nowhere l f =
+below_seen n live rules least paper None l f =
     λ i s b. f i s.at (record { rule = s.rule; smaller = (l i s.at.0 (word_at rules i) s.rule).1 b })
 
 -- ---- from visible places to all
@@ -65,19 +64,19 @@ visible_seen n set visible rules k v names_visible h = (h.inside, go (is_one k) 
     go false o = rw (high, low o)
 
 -- the first of a table's rules that a paper breaks; none where none does
-abbrev pub Found : ℕ → Solutions → List ℤ → Place → Type 0
-Found n paper rules (At k) = FirstAt n rules paper k
-Found n paper rules Nowhere = NoneBroken n rules paper
+abbrev pub Found : ℕ → Solutions → List ℤ → Option ℕ → Type 0
+Found n paper rules (Some k) = FirstAt n rules paper k
+Found n paper rules None = NoneBroken n rules paper
 
 -- rules seen in words that are, at these places, those of a table of visible quantities are the table's
-pub seen_found : (n set : ℕ) (visible : List ℕ) (words rules : List ℤ) (paper : Solutions) (p : Place) → VisibleListed n set visible
+pub seen_found : (n set : ℕ) (visible : List ℕ) (words rules : List ℤ) (paper : Solutions) (p : Option ℕ) → VisibleListed n set visible
     → NamesVisible n (hidden_in set) rules → block_start n ≤ length rules → ((k : ℕ) → LivePlace n visible k → word_at words k ≡ word_at rules k)
     → FirstSeen n visible words paper p → Found n paper rules p
-seen_found n set visible words rules paper (At k) v names_visible l same f = record {
+seen_found n set visible words rules paper (Some k) v names_visible l same f = record {
   holds = record { inside = f.seen.at.0; there = omega (arith, f.seen.at.0); rule = rw (same k f.seen.at) at f.seen.rule };
   breaks = rw (same k f.seen.at) at f.breaks;
   first = λ i h g b. let s = visible_seen n set visible rules i v names_visible g in
       f.first i h (record { at = s; rule = rw (same i s) g.rule }) (rw (same i s) b);
 }
-seen_found n set visible words rules paper Nowhere v names_visible l same f =
+seen_found n set visible words rules paper None v names_visible l same f =
     λ i g b. let s = visible_seen n set visible rules i v names_visible g in f i (record { at = s; rule = rw (same i s) g.rule }) (rw (same i s) b)

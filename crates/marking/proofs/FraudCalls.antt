@@ -18,25 +18,25 @@ use Rattle.tables.proofs.Tests.{clash}
 use Rattle.keys.proofs.Sheets.{steps}
 use Rattle.marking.specs.declared.verdict.Verdict.{Verdict}
 use Rattle.marking.specs.declared.verdict.Verdict.TheVariants.{Equal}
-use Rattle.marking.specs.declared.verdict.Marking.{Marking}
-use Rattle.marking.specs.declared.verdict.Marking.TheVariants.{Marked, Refused}
 use Rattle.marking.specs.Meaning.{mark_needs}
 use Rattle.marking.specs.Promises.{TablesMarked}
 use Rattle.marking.proofs.Checking.{met_accepted}
+use Rattle.std.specs.Prelude.{Ok, Err}
+use Rattle.marking.specs.Verdicts.{Marking}
 
 -- ---- words
 
 module _ (set : ℕ) (sheet script : List ℤ) where
   -- the assignment is changed, and the verdict is equal
-  pub changed_on_equal : (w w' : List ℤ) → TablesMarked 1 set sheet script w (pos 7 ∷ []) (Marked Equal) w' (pos 0 ∷ []) → ⊥
+  pub changed_on_equal : (w w' : List ℤ) → TablesMarked 1 set sheet script w (pos 7 ∷ []) (Ok Equal) w' (pos 0 ∷ []) → ⊥
   changed_on_equal w w' m = let e = m.written.kept refl in let z : ◌≡◌ {A = ℕ} 0 7 = cc in omega arith
 
   -- it is changed on a refusal
-  pub changed_on_refusal : (f : Refusal) (w w' : List ℤ) → TablesMarked 1 set sheet script w (pos 7 ∷ []) (Refused f) w' (pos 0 ∷ []) → ⊥
+  pub changed_on_refusal : (f : Refusal) (w w' : List ℤ) → TablesMarked 1 set sheet script w (pos 7 ∷ []) (Err f) w' (pos 0 ∷ []) → ⊥
   changed_on_refusal f w w' m = let e = m.written.kept refl in let z : ◌≡◌ {A = ℕ} 0 7 = cc in omega arith
 
   -- the workspace is
-  pub workspace_on_refusal : (f : Refusal) (v v' : List ℤ) → TablesMarked 1 set sheet script (pos 7 ∷ []) v (Refused f) (pos 0 ∷ []) v' → ⊥
+  pub workspace_on_refusal : (f : Refusal) (v v' : List ℤ) → TablesMarked 1 set sheet script (pos 7 ∷ []) v (Err f) (pos 0 ∷ []) v' → ⊥
   workspace_on_refusal f v v' m = let e = m.lent.kept refl in let z : ◌≡◌ {A = ℕ} 0 7 = cc in omega arith
 
   -- the word after the n of an assignment is changed, whatever the reply is
@@ -51,7 +51,7 @@ words k = replicate k (pos 0)
 
 -- a refusal is no reply to n 1, none hidden, two tables with no rules, a workspace of so many words and so many for the assignment
 abbrev NoReply : ℕ → ℕ → Refusal → Type 0
-NoReply w v f = (w' v' : List ℤ) → TablesMarked 1 0 (empty_table 1) (empty_table 1) (words w) (words v) (Refused f) w' v' → ⊥
+NoReply w v f = (w' v' : List ℤ) → TablesMarked 1 0 (empty_table 1) (empty_table 1) (words w) (words v) (Err f) w' v' → ⊥
 
 -- a 6 is of the workspace or of the assignment
 short_of : (w v m : ℕ) → RefusedBy (mark_needs 1 0 (empty_table 1) (empty_table 1) w v) (TooShort m) → ((w < 4) × (m ≡ 4)) ⊎ ((v < 1) × (m ≡ 1))
@@ -78,7 +78,7 @@ one_more_asked w' v' t = ⊎_elim (λ p. omega (arith, p.1)) (λ p. omega (arith
 -- ---- names
 
 -- n 1, hidden 1: the script +1:0 names a hidden quantity, and is marked
-pub hidden_marked : (v : Verdict) (sheet w u w' u' : List ℤ) → TablesMarked 1 1 sheet (table_of 1 (rule_of (pos 1) (pos 0) (pos 0) ∷ [])) w u (Marked v) w' u' → ⊥
+pub hidden_marked : (v : Verdict) (sheet w u w' u' : List ℤ) → TablesMarked 1 1 sheet (table_of 1 (rule_of (pos 1) (pos 0) (pos 0) ∷ [])) w u (Ok v) w' u' → ⊥
 unfolding steps
 hidden_marked v sheet w u w' u' t =
     let x = (met_accepted _ _ _ _ _ _ (t.decided.accepted.0 refl)).visible in

@@ -13,5 +13,6 @@ pub mod Demand
 pub mod Showing
 pub mod OwnKeys
 pub mod Promised
+pub mod Told
 pub mod Frauds
 mod FraudCalls

@@ -26,10 +26,9 @@ use Rattle.tightening.proofs.Tight.{tight_visible, tight_meaning, tight_solution
 use Rattle.tables.proofs.Tests.{clash}
 use Rattle.marking.specs.declared.verdict.Verdict.{Verdict}
 use Rattle.marking.specs.declared.verdict.Verdict.TheVariants.{Equal, Loose, Tight}
-use Rattle.marking.specs.declared.verdict.Marking.{Marking}
-use Rattle.marking.specs.declared.verdict.Marking.TheVariants.{Marked, Refused}
-use Rattle.marking.specs.Verdicts.{verdict_number, verdict_returned, marking_returned, is_marked}
+use Rattle.marking.specs.Verdicts.{Marking, verdict_number, verdict_returned, marking_returned, is_marked}
 use Rattle.marking.specs.Meaning.{AllowSame, VerdictMeans, workspace_size, mark_needs, KeyOfSheet, plain, tight, OwnKey}
+use Rattle.std.specs.Prelude.{Ok, Err}
 
 -- the number tells equal
 pub is_equal : (v : Verdict) → verdict_number v ≡ 100 → v ≡ Equal
@@ -38,8 +37,8 @@ is_equal (Loose r) e = absurd (omega arith)
 is_equal (Tight r) e = absurd (omega arith)
 
 pub reply_equal : (r : Marking) → is_marked r ≡ true → (marking_returned r).number ≡ 100 → marking_returned r ≡ verdict_returned Equal
-reply_equal (Marked v) m e = ap verdict_returned (is_equal v e)
-reply_equal (Refused f) m e = clash {b = false} m refl
+reply_equal (Ok v) m e = ap verdict_returned (is_equal v e)
+reply_equal (Err f) m e = clash {b = false} m refl
 
 -- ---- a key of a sheet that some integers satisfy
 

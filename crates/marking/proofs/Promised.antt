@@ -9,8 +9,6 @@ use lib.IntN.{ℤ}
 use lib.ListN.{length, drop}
 use Rattle.words.specs.Change.{word_at}
 use Rattle.words.specs.Lent.{Lent}
-use Rattle.places.specs.declared.Place.{Place}
-use Rattle.places.specs.declared.Place.TheVariants.{At, Nowhere}
 use Rattle.places.specs.Numbering.{block_start}
 use Rattle.rules.specs.declared.refusal.Refusal.{Refusal}
 use Rattle.rules.specs.declared.rule.Rule.{Rule}
@@ -21,13 +19,9 @@ use Rattle.rules.specs.Refusing.{DecidedBy}
 use Rattle.rules.proofs.Refusals.{same_refusal}
 use Rattle.rules.specs.Steps.{trivial_rule}
 use Rattle.rules.specs.Meaning.{has_term}
-use Rattle.tables.specs.declared.reply.Reply.{Reply}
-use Rattle.tables.specs.declared.reply.Reply.TheVariants.{Done}
-use Rattle.tables.specs.declared.reply.Reply.TheVariants.{Refused as NotDone}
 use Rattle.tables.specs.Places.{rule_at}
 use Rattle.tables.specs.Meaning.{rule_in, Satisfies, Satisfiable, NamesVisible}
 use Rattle.tables.proofs.Refusing.{refusal_in, decided_as}
-use Rattle.tables.proofs.Places.{at_nowhere}
 use Rattle.tables.proofs.Meanings.{table_allows_visible, script_visible}
 use Rattle.tables.proofs.Tests.{refused_done, clash}
 use Rattle.elimination.specs.Inner.{among}
@@ -42,14 +36,12 @@ use Rattle.keys.proofs.Promised.{untouched, key_made, decided_reduced, values_fo
 use Rattle.tightening.specs.Below.{FirstBelow, LivePlace}
 use Rattle.marking.specs.declared.verdict.Verdict.{Verdict}
 use Rattle.marking.specs.declared.verdict.Verdict.TheVariants.{Equal, Loose, Tight}
-use Rattle.marking.specs.declared.verdict.Marking.TheVariants.{Marked, Refused}
-use Rattle.marking.specs.declared.verdict.Marking.{Marking}
-use Rattle.marking.specs.Verdicts.{verdict_number, carried_rule, verdict_returned, marking_returned, is_marked, is_marking_shown}
+use Rattle.marking.specs.Verdicts.{Marking, verdict_number, carried_rule, verdict_returned, marking_returned, is_marked, is_marking_shown}
 use Rattle.marking.specs.Marking.{first_broken, or_else, verdict_of, mark_checks, marked_as, mark_reply}
 use Rattle.marking.specs.Meaning.{FirstAt, LooseShown, TightShown, VerdictMeans, workspace_size, mark_needs}
 use Rattle.marking.specs.Promises.{TablesMarked}
 use Rattle.marking.specs.Inner.{TablesAccepted, VerdictGiven, VerdictTold, VisibleListed, SheetReducible, SheetReduced, ScriptComparable, FrontFound}
-use Rattle.marking.specs.Inner.{ScriptBreakable, ScriptBroken, SheetBreakable, SheetBroken, NarrowReady, NarrowGiven}
+use Rattle.marking.specs.Inner.{ScriptBreakable, ScriptBroken, SheetBreakable, NarrowReady, NarrowGiven}
 use Rattle.marking.proofs.Checking.{mark_tied, met_accepted}
 use Rattle.marking.proofs.Carried.{verdict_refusal, rule_at_term, first_alike, loose_alike, loose_shown_alike, tight_shown_alike}
 use Rattle.marking.proofs.Breakable.{NoneBroken, Exactly, first_at, first_nowhere}
@@ -60,28 +52,10 @@ use Rattle.marking.proofs.Reducing.{visible_alone, same_front}
 use Rattle.marking.proofs.OwnKeys.{own_equal}
 use Rattle.marking.proofs.Demand.{KeyExact, key_allows, some_satisfy, key_exactly, script_exactly, verdict_demand, verdict_loose, verdict_tight}
 use Rattle.marking.proofs.Showing.{zero_words, loose_shows, tight_shows}
+use Rattle.std.specs.Prelude.{Option, Some, None, Ok, Err}
+use Rattle.tables.specs.Replies.{Reply}
 
 -- ---- which verdict it is
-
--- equal is not loose
-equal_loose : (r : Rule) → Equal ≡ Loose r → ⊥
-equal_loose r e = let z : ◌≡◌ {A = ℕ} 0 1 = cc in omega arith
-
--- equal is not tight
-equal_tight : (r : Rule) → Equal ≡ Tight r → ⊥
-equal_tight r e = let z : ◌≡◌ {A = ℕ} 0 1 = cc in omega arith
-
--- loose is not tight
-loose_tight : (r s : Rule) → Loose r ≡ Tight s → ⊥
-loose_tight r s e = let z : ◌≡◌ {A = ℕ} 0 1 = cc in omega arith
-
--- two loose verdicts that are the same carry the same rule
-loose_inj : (r s : Rule) → Loose r ≡ Loose s → r ≡ s
-loose_inj r s e = cc
-
--- so do two tight ones
-tight_inj : (r s : Rule) → Tight r ≡ Tight s → r ≡ s
-tight_inj r s e = cc
 
 -- the number tells loose and tight
 is_loose : (v : Verdict) → verdict_number v ≡ 101 → v ≡ Loose (carried_rule v)
@@ -101,8 +75,8 @@ given_equal n set sheet script w v w' v' e l k = record {
   reply = e;
   lent = l;
   written = rw k (untouched n false v);
-  loose_shown = λ rule d. absurd (equal_loose rule d);
-  tight_shown = λ rule d. absurd (equal_tight rule d);
+  loose_shown = λ rule d. absurd (cc);
+  tight_shown = λ rule d. absurd (cc);
 }
 
 -- loose with a rule and the assignment that shows it
@@ -113,8 +87,8 @@ given_loose n set sheet script w v r w' v' e l k s = record {
   reply = e;
   lent = l;
   written = k;
-  loose_shown = λ rule d. rw (← loose_inj r rule d) s;
-  tight_shown = λ rule d. absurd (loose_tight r rule d);
+  loose_shown = λ rule d. let same : r ≡ rule = cc in rw (← same) s;
+  tight_shown = λ rule d. absurd (cc);
 }
 
 -- tight with a rule and the assignment that shows it
@@ -125,8 +99,8 @@ given_tight n set sheet script w v r w' v' e l k s = record {
   reply = e;
   lent = l;
   written = k;
-  loose_shown = λ rule d. absurd (loose_tight rule r (sym d));
-  tight_shown = λ rule d. rw (← tight_inj r rule d) s;
+  loose_shown = λ rule d. absurd (cc);
+  tight_shown = λ rule d. let same : r ≡ rule = cc in rw (← same) s;
 }
 
 -- ---- a sheet that no integers satisfy
@@ -237,27 +211,24 @@ module _ (n set : ℕ) (visible : List ℕ) (sheet script w v u : List ℤ) (m :
   key_names = key_visible (hidden_in set) n sheet m.sized.sheet_room
 
   -- the first rule of the script that the key breaks
-  tight_found : (p : Place) → FirstBelow (LivePlace n visible) script (drop (block_start n) u) p → Found n (Satisfies n key) script p
+  tight_found : (p : Option ℕ) → FirstBelow (LivePlace n visible) script (drop (block_start n) u) p → Found n (Satisfies n key) script p
   tight_found p f =
       seen_found n set visible script script (Satisfies n key) p l m.visible m.sized.script_room (λ k h. refl)
       (below_seen n visible script (drop (block_start n) u) (Satisfies n key) p (d.least satisfiable) f)
 
   -- and of the key that the script breaks
-  loose_found : (x : List ℤ) (p : Place) → FrontFound n visible script u p x → Found n (Satisfies n script) key p
+  loose_found : (x : List ℤ) (p : Option ℕ) → FrontFound n visible script u p x → Found n (Satisfies n script) key p
   loose_found x p f = seen_found n set visible u key (Satisfies n script) p l key_names room (front_key n set visible sheet u m.sized.sheet_room l (d.front satisfiable)) f.found
 
-  module _ (x : List ℤ) (p : Place) (found : FrontFound n visible script u p x) (k : ℕ) (is : p ≡ At k) where
-    f : FrontFound n visible script u (At k) x
+  module _ (x : List ℤ) (p : Option ℕ) (found : FrontFound n visible script u p x) (k : ℕ) (is : p ≡ Some k) where
+    f : FrontFound n visible script u (Some k) x
     f = rw is at found
 
     at_key : FirstAt n key (Satisfies n script) k
-    at_key = loose_found x (At k) f
+    at_key = loose_found x (Some k) f
 
     pub loose_inside : k < block_start n
     loose_inside = at_key.holds.inside
-
-    pub loose_there : k < length x
-    loose_there = omega (arith, loose_inside, f.lent.size, d.lent.size, m.workspace_room)
 
     -- the rule at the front is the key's
     loose_word : word_at x k ≡ word_at key k
@@ -281,16 +252,16 @@ module _ (n set : ℕ) (visible : List ℕ) (sheet script w v u : List ℤ) (m :
           broken.written
           (loose_shows n set sheet script k x v w' v' exact at_key.holds (rw loose_rule at broken) (rw broken.written.size m.values_room)))
 
-  module _ (least : List ℤ) (tight : Place) (below : FirstBelow (LivePlace n visible) script least tight) (back : least ≡ drop (block_start n) u)
-      (x : List ℤ) (p : Place) (found : FrontFound n visible script u p x) (is : p ≡ Nowhere) where
+  module _ (least : List ℤ) (tight : Option ℕ) (below : FirstBelow (LivePlace n visible) script least tight) (back : least ≡ drop (block_start n) u)
+      (x : List ℤ) (p : Option ℕ) (found : FrontFound n visible script u p x) (is : p ≡ None) where
     t : FirstBelow (LivePlace n visible) script (drop (block_start n) u) tight
     t = rw back at below
 
-    kept : FrontFound n visible script u Nowhere x
+    kept : FrontFound n visible script u None x
     kept = rw is at found
 
     none : NoneBroken n key (Satisfies n script)
-    none = loose_found x Nowhere kept
+    none = loose_found x None kept
 
     front : AtTurns (hidden_in set) n n sheet x
     front = same_front (hidden_in set) n sheet u x kept.front (d.front satisfiable)
@@ -298,10 +269,10 @@ module _ (n set : ℕ) (visible : List ℕ) (sheet script w v u : List ℤ) (m :
     x_room : workspace_size n ≤ length x
     x_room = omega (arith, kept.lent.size, d.lent.size, m.workspace_room)
 
-    tight_at : (k : ℕ) → tight ≡ At k → FirstAt n script (Satisfies n key) k
+    tight_at : (k : ℕ) → tight ≡ Some k → FirstAt n script (Satisfies n key) k
     tight_at k q = let g = tight_found tight t in rw q at g
 
-    tight_ready : (k : ℕ) → tight ≡ At k → SheetBreakable n set sheet (rule_in script k) x v
+    tight_ready : (k : ℕ) → tight ≡ Some k → SheetBreakable n set sheet (rule_in script k) x v
     tight_ready k q = let g = tight_at k q in record {
       front = front;
       hides = sheet_hides n set sheet script (length w) (length v) m;
@@ -332,14 +303,14 @@ module _ (n set : ℕ) (visible : List ℕ) (sheet script w v u : List ℤ) (m :
     unfolding verdict_of
     narrow_given r w' v' g = go tight refl
       where
-        go : (p : Place) → tight ≡ p → VerdictGiven n set sheet script w v r w' v'
-        go Nowhere q =
+        go : (p : Option ℕ) → tight ≡ p → VerdictGiven n set sheet script w v r w' v'
+        go None q =
             let y = g.equal q in
             let unbroken : NoneBroken n script (Satisfies n key) = let h = tight_found tight t in rw q at h in
             rw y.0 (given_equal n set sheet script w v w' v'
             (rw (e, no_loose, first_nowhere n script key m.sized.script_room exactly unbroken))
             (rw y.1 lent) y.2)
-        go (At k) q =
+        go (Some k) q =
             let y = g.tight_broken k q in
             let h = tight_at k q in
             rw y.0 (given_tight n set sheet script w v (rule_in script k) w' v'
@@ -347,26 +318,6 @@ module _ (n set : ℕ) (visible : List ℕ) (sheet script w v u : List ℤ) (m :
             (lent_again (workspace_size n) true true w x w' lent y.1.lent)
             y.1.written
             (tight_shows n (hidden_in set) sheet script k v' h.holds (y.1.shown sheet (tight_ready k q)) (rw y.1.written.size m.values_room)))
-
--- ---- the verdict on a script that is not loose
-
--- no place: equal, and no word is changed
-pub narrow_equal : (n set : ℕ) (script : List ℤ) (tight : Place) (w v : List ℤ) → tight ≡ Nowhere → NarrowGiven n set script tight w v Equal w v
-narrow_equal n set script tight w v e = record {
-  equal = λ q. (refl, refl, refl);
-  tight_broken = λ k q. absurd (at_nowhere (sym q ∙ e));
-}
-
--- a place: tight with the rule there, broken
-pub narrow_tight : (n set : ℕ) (script : List ℤ) (tight : Place) (w v : List ℤ) (k : ℕ) (r : Rule) (w' v' : List ℤ) → tight ≡ At k → r ≡ rule_in script k
-    → SheetBroken n set r w v w' v' → NarrowGiven n set script tight w v (Tight r) w' v'
-narrow_tight n set script tight w v k r w' v' e f b = record {
-  equal = λ q. absurd (at_nowhere (sym e ∙ q));
-  tight_broken = λ i q. go i (sym e ∙ q);
-}
-  where
-    go : (i : ℕ) → At k ≡ At i → (Tight r ≡ Tight (rule_in script i)) × SheetBroken n set (rule_in script i) w v w' v'
-    go i q = let same : k ≡ i = cc in rw (← same, ← f) (refl, b)
 
 -- ---- marking two tables
 
@@ -398,14 +349,14 @@ pub told_given : (n set : ℕ) (sheet script w v : List ℤ) (r : Verdict) (w' v
 told_given n set sheet script w v r w' v' m g = record { given = g; means = verdict_told n set sheet script w v r w' v' m g }
 
 -- a reply made of checks is refused as they are
-marked_refused : (a : Reply) (v : Verdict) (f : Refusal) → (marking_returned (marked_as a v) ≡ refused_as f) ↔ (a ≡ NotDone f)
-marked_refused Done v f = (λ e. absurd (verdict_refusal v f (ap (λ (x : Returned). x.number) e)), λ e. absurd (refused_done (sym e)))
-marked_refused (NotDone g) v f = (λ e. ap NotDone (same_refusal g f e), λ e. rw (refusal_in e))
+marked_refused : (a : Reply) (v : Verdict) (f : Refusal) → (marking_returned (marked_as a v) ≡ refused_as f) ↔ (a ≡ Err f)
+marked_refused (Ok tt) v f = (λ e. absurd (verdict_refusal v f (ap (λ (x : Returned). x.number) e)), λ e. absurd (refused_done (sym e)))
+marked_refused (Err g) v f = (λ e. ap Err (same_refusal g f e), λ e. rw (refusal_in e))
 
 -- and is a verdict where they are done
-marked_done : (a : Reply) (v : Verdict) → (is_marked (marked_as a v) ≡ true) ↔ (a ≡ Done)
-marked_done Done v = (λ e. refl, λ e. refl)
-marked_done (NotDone g) v = (λ e. clash e refl, λ e. absurd (refused_done e))
+marked_done : (a : Reply) (v : Verdict) → (is_marked (marked_as a v) ≡ true) ↔ (a ≡ Ok tt)
+marked_done (Ok tt) v = (λ e. refl, λ e. refl)
+marked_done (Err g) v = (λ e. clash e refl, λ e. absurd (refused_done e))
 
 module _ (n set : ℕ) (sheet script : List ℤ) (w v : ℕ) where
   reply_decided : (r : Marking) → r ≡ mark_reply n set sheet script w v
@@ -417,7 +368,7 @@ module _ (n set : ℕ) (sheet script : List ℤ) (w v : ℕ) where
       rw e (decided_as (mark_tied n set sheet script w v) (marked_refused checks verdict) (marked_done checks verdict))
 
 -- checks that are done leave what a verdict asks
-pub checked_accepted : (n set : ℕ) (sheet script : List ℤ) (w v : ℕ) (a : Reply) → a ≡ mark_checks n set sheet script w v → a ≡ Done
+pub checked_accepted : (n set : ℕ) (sheet script : List ℤ) (w v : ℕ) (a : Reply) → a ≡ mark_checks n set sheet script w v → a ≡ Ok tt
     → TablesAccepted n set sheet script w v
 checked_accepted n set sheet script w v a e d = met_accepted n set sheet script w v ((mark_tied n set sheet script w v).accepted.0 (sym e ∙ d))
 
@@ -435,16 +386,15 @@ tables_marked n set sheet script w v r w' v' e l k m = let d = reply_decided n s
 }
 
 -- a refusal: no word is changed
-pub mark_refused : (n set : ℕ) (sheet script w v : List ℤ) (a : Reply) (f : Refusal) → a ≡ mark_checks n set sheet script (length w) (length v) → a ≡ NotDone f
-    → TablesMarked n set sheet script w v (Refused f) w v
+pub mark_refused : (n set : ℕ) (sheet script w v : List ℤ) (f : Refusal) → Err f ≡ mark_checks n set sheet script (length w) (length v) → TablesMarked n set sheet script w v (Err f) w v
 unfolding mark_reply
-mark_refused n set sheet script w v a f e d =
-    tables_marked n set sheet script w v (Refused f) w v (rw (← e, d)) (untouched (workspace_size n) false w) (untouched n false v) (λ c. clash {b = false} c refl)
+mark_refused n set sheet script w v f e =
+    tables_marked n set sheet script w v (Err f) w v (rw (← e)) (untouched (workspace_size n) false w) (untouched n false v) (λ c. clash {b = false} c refl)
 
 -- a verdict
 pub mark_given : (n set : ℕ) (sheet script w v : List ℤ) (a : Reply) (r : Verdict) (w' v' : List ℤ)
-    → a ≡ mark_checks n set sheet script (length w) (length v) → a ≡ Done → VerdictTold n set sheet script w v r w' v'
-    → TablesMarked n set sheet script w v (Marked r) w' v'
+    → a ≡ mark_checks n set sheet script (length w) (length v) → a ≡ Ok tt → VerdictTold n set sheet script w v r w' v'
+    → TablesMarked n set sheet script w v (Ok r) w' v'
 unfolding mark_reply
 mark_given n set sheet script w v a r w' v' e d g =
-    tables_marked n set sheet script w v (Marked r) w' v' (rw (← e, d, ← g.given.reply)) g.given.lent g.given.written (λ c. g.means)
+    tables_marked n set sheet script w v (Ok r) w' v' (rw (← e, d, ← g.given.reply)) g.given.lent g.given.written (λ c. g.means)

@@ -1,10 +1,8 @@
 -- What the functions inside ask and answer; no promise of marking rests on it, but `mark::verdict`, for tables that were checked before, promises `VerdictTold`. Verdicts go through the key: a rule of the script that some assignment of the sheet breaks is one that some assignment of the key
 -- breaks, and hidden values complete that one.
-use Rattle.std.specs.Prelude.{Bool, true, false, ◌≡◌, ◌↔◌, List, ℕ, suc, ◌+◌, ◌-◌, ◌*◌, ◌≤◌, ◌<◌, ◌^◌, ℤ, pos, length, drop, ◌<ℤ◌}
+use Rattle.std.specs.Prelude.{Bool, true, false, ◌≡◌, ◌↔◌, List, ℕ, suc, ◌+◌, ◌-◌, ◌*◌, ◌≤◌, ◌<◌, ◌^◌, ℤ, pos, length, drop, ◌<ℤ◌, Option, Some, None}
 use Rattle.words.specs.Change.{word_at}
 use Rattle.words.specs.Lent.{Lent}
-use Rattle.places.specs.declared.Place.{Place}
-use Rattle.places.specs.declared.Place.TheVariants.{At, Nowhere}
 use Rattle.places.specs.Numbering.{block_start}
 use Rattle.rules.specs.declared.rule.Rule.{Rule}
 use Rattle.rules.specs.declared.paper.Paper.TheVariants.{Sheet, Script}
@@ -95,9 +93,9 @@ pub record FirstSeenAt (n : ℕ) (live : List ℕ) (rules : List ℤ) (paper : S
   pub breaks : Breaks paper (rule_in rules k)
   pub first : (i : ℕ) → i < k → Seen n live rules i → Breaks paper (rule_in rules i) → ⊥
 
-abbrev pub FirstSeen : ℕ → List ℕ → List ℤ → Solutions → Place → Type 0
-FirstSeen n live rules paper (At k) = FirstSeenAt n live rules paper k
-FirstSeen n live rules paper Nowhere = (i : ℕ) → Seen n live rules i → Breaks paper (rule_in rules i) → ⊥
+abbrev pub FirstSeen : ℕ → List ℕ → List ℤ → Solutions → Option ℕ → Type 0
+FirstSeen n live rules paper (Some k) = FirstSeenAt n live rules paper k
+FirstSeen n live rules paper None = (i : ℕ) → Seen n live rules i → Breaks paper (rule_in rules i) → ⊥
 
 -- the least bounds of a table's terms, and whether no integers satisfy it
 pub record LeastBounds (n : ℕ) (table before : List ℤ) (r : Bool) (after : List ℤ) : Type 0 where
@@ -112,7 +110,7 @@ pub record ScriptComparable (n : ℕ) (live : List ℕ) (script workspace : List
   pub room : workspace_size n ≤ length workspace
 
 -- the first of these rules that some assignment of the script breaks; the front stays
-pub record FrontFound (n : ℕ) (live : List ℕ) (script workspace : List ℤ) (r : Place) (workspace' : List ℤ) : Type 0 where
+pub record FrontFound (n : ℕ) (live : List ℕ) (script workspace : List ℤ) (r : Option ℕ) (workspace' : List ℤ) : Type 0 where
   pub found : FirstSeen n live workspace (Satisfies n script) r
   pub front : (k : ℕ) → k < block_start n → word_at workspace' k ≡ word_at workspace k
   pub lent : Lent (workspace_size n) true workspace workspace'
@@ -158,12 +156,12 @@ pub record SheetBroken (n set : ℕ) (r : Rule) (workspace values workspace' val
 
 -- ---- the verdict on a script that is not loose
 
-pub record NarrowReady (n set : ℕ) (script : List ℤ) (tight : Place) (workspace values : List ℤ) : Type 0 where
+pub record NarrowReady (n set : ℕ) (script : List ℤ) (tight : Option ℕ) (workspace values : List ℤ) : Type 0 where
   pub most : n ≤ max_quantities
   pub room : block_start n ≤ length script
-  pub inside : (k : ℕ) → tight ≡ At k → k < block_start n
-  pub breakable : (k : ℕ) → tight ≡ At k → SomeSheetBreakable n set (rule_in script k) workspace values
+  pub inside : (k : ℕ) → tight ≡ Some k → k < block_start n
+  pub breakable : (k : ℕ) → tight ≡ Some k → SomeSheetBreakable n set (rule_in script k) workspace values
 
-pub record NarrowGiven (n set : ℕ) (script : List ℤ) (tight : Place) (workspace values : List ℤ) (r : Verdict) (workspace' values' : List ℤ) : Type 0 where
-  pub equal : tight ≡ Nowhere → (r ≡ Equal) × (workspace' ≡ workspace) × (values' ≡ values)
-  pub tight_broken : (k : ℕ) → tight ≡ At k → (r ≡ Tight (rule_in script k)) × SheetBroken n set (rule_in script k) workspace values workspace' values'
+pub record NarrowGiven (n set : ℕ) (script : List ℤ) (tight : Option ℕ) (workspace values : List ℤ) (r : Verdict) (workspace' values' : List ℤ) : Type 0 where
+  pub equal : tight ≡ None → (r ≡ Equal) × (workspace' ≡ workspace) × (values' ≡ values)
+  pub tight_broken : (k : ℕ) → tight ≡ Some k → (r ≡ Tight (rule_in script k)) × SheetBroken n set (rule_in script k) workspace values workspace' values'

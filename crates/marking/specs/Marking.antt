@@ -1,5 +1,5 @@
 -- Marking two tables (document 01, 'Marking', 'Returned to the caller'): the verdict and the reply, which compute.
-use Rattle.std.specs.Prelude.{Bool, cond, not, ◌&&◌, List, [], ◌∷◌, ℕ, suc, leb, ℤ, length, take}
+use Rattle.std.specs.Prelude.{Bool, cond, not, ◌&&◌, List, [], ◌∷◌, ℕ, suc, leb, ℤ, length, take, Ok, Err}
 use Rattle.places.specs.Numbering.{block_start}
 use Rattle.rules.specs.declared.rule.Rule.{Rule}
 use Rattle.rules.specs.declared.rule.Rule.TheVariants.{One, Two, Nothing}
@@ -7,17 +7,13 @@ use Rattle.rules.specs.declared.paper.Paper.TheVariants.{Sheet, Script}
 use Rattle.rules.specs.declared.refusal.Refusal.TheVariants.{Size, OutOfLimit, TooShort, Mismatch}
 use Rattle.rules.specs.Hidden.{hidden_in, set_within}
 use Rattle.rules.specs.Steps.{trivial_rule, opposite_of}
-use Rattle.tables.specs.declared.reply.Reply.{Reply}
-use Rattle.tables.specs.declared.reply.Reply.TheVariants.{Done}
-use Rattle.tables.specs.declared.reply.Reply.TheVariants.{Refused as NotDone}
 use Rattle.tables.specs.Places.{rule_at}
 use Rattle.tables.specs.Tables.{has_rule, serves, put_rule, table_names_hidden}
-use Rattle.tables.specs.Replies.{check}
+use Rattle.tables.specs.Replies.{Reply, check}
 use Rattle.keys.specs.Keys.{key_of, refuted, bounds_in_limit}
 use Rattle.marking.specs.declared.verdict.Verdict.{Verdict}
 use Rattle.marking.specs.declared.verdict.Verdict.TheVariants.{Equal, Loose, Tight}
-use Rattle.marking.specs.declared.verdict.Marking.{Marking}
-use Rattle.marking.specs.declared.verdict.Marking.TheVariants.{Marked, Refused}
+use Rattle.marking.specs.Verdicts.{Marking}
 use Rattle.marking.specs.Meaning.{workspace_size}
 
 -- ---- the verdict
@@ -63,12 +59,12 @@ mark_checks n set sheet script workspace values =
     (check (leb (workspace_size n) workspace) (TooShort (workspace_size n))
     (check (leb n values) (TooShort n)
     (check (numbers_within n set sheet script) (OutOfLimit 0)
-    (check (not (table_names_hidden (hidden_in set) n script)) Mismatch Done))))
+    (check (not (table_names_hidden (hidden_in set) n script)) Mismatch (Ok tt)))))
 
 -- a verdict where the checks are done, else their refusal
 abbrev pub marked_as : Reply → Verdict → Marking
-marked_as Done v = Marked v
-marked_as (NotDone f) v = Refused f
+marked_as (Ok done) v = Ok v
+marked_as (Err f) v = Err f
 
 -- the reply
 unfoldable pub mark_reply : ℕ → ℕ → List ℤ → List ℤ → ℕ → ℕ → Marking

@@ -104,14 +104,14 @@ pub record TightShown (n : ℕ) (hidden : ℕ → Bool) (sheet script : Solution
 -- ---- what a verdict means
 
 -- demand 3 with the rule and the assignment, of two papers over n quantities, their hidden set and their tables: a verdict that is returned so and comes with these words
-pub record VerdictMeans (n set : ℕ) (sheet script : Solutions) (sheet-table script_table : List ℤ) (returned : Returned) (values : List ℤ) : Type 0 where
+pub record VerdictMeans (n set : ℕ) (sheet script : Solutions) (sheet_table script_table : List ℤ) (returned : Returned) (values : List ℤ) : Type 0 where
   pub demand : ByDemand (hidden_in set) sheet script returned.number
   pub visibles : ByVisible n (hidden_in set) sheet script
   -- the key of which a loose verdict carries a rule, and by which a tight one is found, is one by demand 2
-  pub key : Satisfiable n sheet-table → KeyMade n set sheet-table (key_of (hidden_in set) n sheet-table)
+  pub key : Satisfiable n sheet_table → KeyMade n set sheet_table (key_of (hidden_in set) n sheet_table)
   -- the rule is the one whose values are returned
   pub loose : (rule : Rule) → returned ≡ verdict_returned (Loose rule)
-      → LooseRule (hidden_in set) n sheet-table script rule × LooseShown n (hidden_in set) sheet script rule values
+      → LooseRule (hidden_in set) n sheet_table script rule × LooseShown n (hidden_in set) sheet script rule values
   pub tight : (rule : Rule) → returned ≡ verdict_returned (Tight rule)
       → TightRule n sheet script_table rule × TightShown n (hidden_in set) sheet script rule values
 

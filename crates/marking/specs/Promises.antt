@@ -5,8 +5,7 @@ use Rattle.rules.specs.Refusal.{refused_as}
 use Rattle.rules.specs.Refusing.{DecidedBy}
 use Rattle.tables.specs.Meaning.{Satisfies}
 use Rattle.marking.specs.declared.verdict.Verdict.TheVariants.{Equal}
-use Rattle.marking.specs.declared.verdict.Marking.{Marking}
-use Rattle.marking.specs.Verdicts.{verdict_returned, marking_returned, is_marked, is_marking_shown}
+use Rattle.marking.specs.Verdicts.{verdict_returned, Marking, marking_returned, is_marked, is_marking_shown}
 use Rattle.marking.specs.Meaning.{VerdictMeans, workspace_size, mark_needs, OwnKey}
 use Rattle.marking.specs.Marking.{mark_reply}
 

@@ -1,13 +1,12 @@
 -- Document 01's number and values of each verdict, and what is returned for each reply of marking two tables.
-use Rattle.std.specs.Prelude.{Bool, true, false, List, ℕ, ℤ}
+use Rattle.std.specs.Prelude.{Bool, true, false, List, ℕ, ℤ, Result, Ok, Err}
 use Rattle.rules.specs.declared.rule.Rule.{Rule}
+use Rattle.rules.specs.declared.refusal.Refusal.{Refusal}
 use Rattle.rules.specs.Refusal.{refusal_value, Returned, refused_as}
 use Rattle.rules.specs.RuleWords.{rule_values, rule_words}
 use Rattle.rules.specs.Steps.{trivial_rule}
 use Rattle.marking.specs.declared.verdict.Verdict.{Verdict}
 use Rattle.marking.specs.declared.verdict.Verdict.TheVariants.{Equal, Loose, Tight}
-use Rattle.marking.specs.declared.verdict.Marking.{Marking}
-use Rattle.marking.specs.declared.verdict.Marking.TheVariants.{Marked, Refused}
 
 -- the number of a verdict
 abbrev pub verdict_number : Verdict → ℕ
@@ -39,25 +38,28 @@ is_shown (Tight r) = true
 
 -- ---- a reply: a verdict or a refusal
 
+abbrev pub Marking : Type 0
+Marking = Result Verdict Refusal
+
 -- as it is returned
 abbrev pub marking_returned : Marking → Returned
-marking_returned (Marked v) = verdict_returned v
-marking_returned (Refused f) = refused_as f
+marking_returned (Ok v) = verdict_returned v
+marking_returned (Err f) = refused_as f
 
 abbrev pub marking_number : Marking → ℕ
 marking_number r = (marking_returned r).number
 
 -- a refusal's line or length as one number, 0 where there is none
 abbrev pub marking_value : Marking → ℕ
-marking_value (Marked v) = 0
-marking_value (Refused f) = refusal_value f
+marking_value (Ok v) = 0
+marking_value (Err f) = refusal_value f
 
 -- is it a verdict?
 abbrev pub is_marked : Marking → Bool
-is_marked (Marked v) = true
-is_marked (Refused f) = false
+is_marked (Ok v) = true
+is_marked (Err f) = false
 
 -- does an assignment come with it?
 abbrev pub is_marking_shown : Marking → Bool
-is_marking_shown (Marked v) = is_shown v
-is_marking_shown (Refused f) = false
+is_marking_shown (Ok v) = is_shown v
+is_marking_shown (Err f) = false

@@ -2,6 +2,7 @@
 // term, so all of a table's rules are decided in O(n³) steps. The workspace has room for two tables: the sheet's at its front, with the hidden quantities eliminated, so that the places of
 // visible ones have the key; at its back the one that is made the tightest or broken. For a loose verdict the script takes the front, for
 // the key's rule is known then.
+// Kept: two tables in one workspace: the C interface lends one, and memory is fixed.
 ghost use Rattle.std.specs.Prelude.{◌≤◌, length};
 ghost use Rattle.places.specs.Numbering.{block_start};
 ghost use Rattle.keys.specs.Inner.{LiveAlone, Fits};
@@ -9,7 +10,6 @@ ghost use Rattle.marking.specs.Inner.{SheetReducible, SheetReduced, LeastBounds,
 
 use keys::live::Part;
 use keys::{breaking, copies, turns};
-use places::Place;
 use rules::hidden::Set;
 use rules::rule::Rule;
 use tables::table;
@@ -50,16 +50,15 @@ pub(crate) fn first_broken(
     visible: &[usize],
     script: &[i64],
     workspace: &mut [i64],
-) -> Place
+) -> Option<usize>
     requires { ScriptComparable n visible.now script.now workspace.old }
     ensures { FrontFound n visible.now script.now workspace.old result workspace.new }
 {
-    let m = table::size(n);
-    if least_bounds(n, visible, script, &mut workspace[m..]) {
-        return Place::Nowhere;
+    let (front, back) = workspace.split_at_mut(table::size(n));
+    if least_bounds(n, visible, script, back) {
+        return None;
     }
-    let words = &workspace[..];
-    below::first_below(n, visible, words, &words[m..])
+    below::first_below(n, visible, front, back)
 }
 
 // Writes an assignment of the script that breaks the rule, 0 at hidden quantities.

@@ -15,15 +15,9 @@ fn numbers_within(n: usize, set: Set, sheet: &[i64], script: &[i64], m: usize) -
     requires { m ≡ block_start n }
     ensures { result ≡ numbers_within n set sheet.now script.now }
 {
-    if !hidden::is_within(set, n) {
-        return false;
-    }
-    let sheet_most = paper::bound_limit(Paper::Sheet, n, set);
-    if !limit::is_table_in(sheet, m, sheet_most) {
-        return false;
-    }
-    let script_most = paper::bound_limit(Paper::Script, n, set);
-    limit::is_table_in(script, m, script_most)
+    hidden::is_within(set, n)
+        && limit::is_table_in(sheet, m, paper::bound_limit(Paper::Sheet, n, set))
+        && limit::is_table_in(script, m, paper::bound_limit(Paper::Script, n, set))
 }
 
 // The first refusal of marking two tables with a workspace and an assignment of so many words, or done.
@@ -37,24 +31,21 @@ pub(crate) fn check(
 ) -> Reply
     ensures { result ≡ mark_checks n set sheet.now script.now workspace values }
 {
-    if !table::serves(n, sheet.len()) {
-        return Reply::Refused(Refusal::Size);
-    }
-    if !table::serves(n, script.len()) {
-        return Reply::Refused(Refusal::Size);
+    if !table::serves(n, sheet.len()) || !table::serves(n, script.len()) {
+        return Err(Refusal::Size);
     }
     let m = table::size(n);
     if workspace < 2 * m {
-        return Reply::Refused(Refusal::TooShort { needed: 2 * m });
+        return Err(Refusal::TooShort { needed: 2 * m });
     }
     if values < n {
-        return Reply::Refused(Refusal::TooShort { needed: n });
+        return Err(Refusal::TooShort { needed: n });
     }
     if !numbers_within(n, set, sheet, script, m) {
-        return Reply::Refused(Refusal::OutOfLimit { line: 0 });
+        return Err(Refusal::OutOfLimit { line: 0 });
     }
     if names::any_names_hidden(n, set, script) {
-        return Reply::Refused(Refusal::Mismatch);
+        return Err(Refusal::Mismatch);
     }
-    Reply::Done
+    Ok(())
 }

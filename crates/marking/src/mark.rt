@@ -1,5 +1,7 @@
 // Marking two tables: a script against a sheet.
+// Kept: both tables, the workspace and the values stay parameters of their own, with `n` and the set: what may not change, as the clauses of `mark` and `verdict` (`TablesMarked`, `VerdictTold`) speak of each, and the C interface lends each.
 ghost use Rattle.std.specs.Prelude.{true, ◌≡◌, ◌≤◌, length};
+ghost use Rattle.rules.specs.Limits.{max_quantities};
 ghost use Rattle.keys.specs.Keys.{refuted};
 ghost use Rattle.marking.specs.Promises.{TablesMarked};
 ghost use Rattle.marking.specs.Inner.{TablesAccepted, VerdictGiven, VerdictTold, NarrowReady, NarrowGiven};
@@ -8,10 +10,8 @@ use crate::verdict::{Marking, Verdict};
 use crate::{breaking, check};
 use keys::live::Part;
 use keys::{assignment, decide, live, room};
-use places::Place;
 use rules::hidden::Set;
 use rules::rule::Rule;
-use tables::reply::Reply;
 use tables::{place, table};
 use tightening::below;
 
@@ -41,7 +41,7 @@ fn narrow_verdict(
     n: usize,
     set: Set,
     script: &[i64],
-    tight: Place,
+    tight: Option<usize>,
     workspace: &mut [i64],
     values: &mut [i64],
 ) -> Verdict
@@ -49,7 +49,7 @@ fn narrow_verdict(
     ensures { NarrowGiven n set script.now tight
         workspace.old values.old result workspace.new values.new }
 {
-    let Place::At(k) = tight else {
+    let Some(k) = tight else {
         return Verdict::Equal;
     };
     let rule = place::rule_at(k as u32, script[k]);
@@ -57,29 +57,30 @@ fn narrow_verdict(
     Verdict::Tight(rule)
 }
 
-// The verdict on tables that passed the checks, with a list lent for the visible quantities: its words are free. Rules of the script are compared with the least bounds of the key, then rules
-// of the key with those of the script.
-fn verdict_in(
+// The verdict on tables that passed the checks, with room for `LIST` visible quantities. Rules of the script are compared with the least bounds of the key, then rules of the key with those of
+// the script.
+fn verdict_in<const LIST: usize>(
     n: usize,
     set: Set,
     sheet: &[i64],
     script: &[i64],
     workspace: &mut [i64],
     values: &mut [i64],
-    list: &mut [usize],
 ) -> Verdict
     requires tables_accepted { TablesAccepted n set sheet.now script.now (length workspace.old) (length values.old) }
-    requires n_in_bounds { n ≤ length list.old }
+    requires list_room { (n ≤ LIST) × (LIST ≤ max_quantities) }
     ensures { VerdictTold n set sheet.now script.now
         workspace.old values.old result workspace.new values.new }
 {
-    let count = live::list(n, set, Part::Outside, 0, list);
-    if breaking::reduce_sheet(n, set, &list[..count], sheet, workspace) {
+    let mut list = [0; LIST];
+    let count = live::list(n, set, Part::Outside, 0, &mut list);
+    let visible = &list[..count];
+    if breaking::reduce_sheet(n, set, visible, sheet, workspace) {
         return unsatisfiable_sheet(n, set, sheet, script, workspace, values);
     }
-    let tight = below::first_below(n, &list[..count], script, &workspace[table::size(n)..]);
-    let loose = breaking::first_broken(n, &list[..count], script, workspace);
-    let Place::At(k) = loose else {
+    let tight = below::first_below(n, visible, script, &workspace[table::size(n)..]);
+    let loose = breaking::first_broken(n, visible, script, workspace);
+    let Some(k) = loose else {
         return narrow_verdict(n, set, script, tight, workspace, values);
     };
     let rule = place::rule_at(k as u32, workspace[k]);
@@ -101,15 +102,12 @@ pub fn verdict(
         workspace.old values.old result workspace.new values.new }
 {
     if n <= room::SMALL {
-        let mut list = [0; room::SMALL];
-        return verdict_in(n, set, sheet, script, workspace, values, &mut list);
+        verdict_in::<{ room::SMALL }>(n, set, sheet, script, workspace, values)
+    } else if n <= room::MIDDLE {
+        verdict_in::<{ room::MIDDLE }>(n, set, sheet, script, workspace, values)
+    } else {
+        verdict_in::<{ room::LARGE }>(n, set, sheet, script, workspace, values)
     }
-    if n <= room::MIDDLE {
-        let mut list = [0; room::MIDDLE];
-        return verdict_in(n, set, sheet, script, workspace, values, &mut list);
-    }
-    let mut list = [0; room::LARGE];
-    verdict_in(n, set, sheet, script, workspace, values, &mut list)
 }
 
 // Marks the script against the sheet, both tables over `n` quantities, those of the set `hidden` hidden. For loose and tight, `values` gets an assignment that shows
@@ -125,9 +123,6 @@ pub fn mark(
     ensures { TablesMarked n hidden sheet.now script.now
         workspace.old values.old result workspace.new values.new }
 {
-    let checked = check::check(n, hidden, sheet, script, workspace.len(), values.len());
-    match checked {
-        Reply::Refused(refusal) => Marking::Refused(refusal),
-        Reply::Done => Marking::Marked(verdict(n, hidden, sheet, script, workspace, values)),
-    }
+    check::check(n, hidden, sheet, script, workspace.len(), values.len())?;
+    Ok(verdict(n, hidden, sheet, script, workspace, values))
 }

@@ -13,40 +13,31 @@ fn signed(x: u32) -> i64
     ensures { result ≡ signed_of x }
 {
     let q = literal::quantity(x) as i64;
-    if x % 2 == 0 {
-        return q;
-    }
-    -q
+    if x % 2 == 0 { q } else { -q }
 }
 
-// Writes a rule's words.
-fn put_rule(rule: Rule, words: &mut [i64; 3])
-    ensures { words.new ≡ rule_words rule }
+// A rule's words.
+fn words_of(rule: Rule) -> [i64; 3]
+    ensures { result ≡ rule_words rule }
 {
     match rule {
-        Rule::One { literal, bound } => {
-            *words = [signed(literal), 0, bound];
-        }
+        Rule::One { literal, bound } => [signed(literal), 0, bound],
         Rule::Two {
             first,
             second,
             bound,
-        } => {
-            *words = [signed(first), signed(second), bound];
-        }
-        Rule::Nothing { bound: _ } => {
-            *words = [0, 0, 0];
-        }
+        } => [signed(first), signed(second), bound],
+        Rule::Nothing { .. } => [0, 0, 0],
     }
 }
 
 // Writes the words of the rule that a verdict carries; equal carries none and leaves them.
+// Kept: the C interface: a host lends the three words, and what stands there stays with equal (`carried_words`), so that they are written, not returned.
 pub fn put_carried(verdict: Verdict, words: &mut [i64; 3])
     ensures { words.new ≡ carried_words words.old verdict }
 {
     match verdict {
         Verdict::Equal => {}
-        Verdict::Loose(rule) => put_rule(rule, words),
-        Verdict::Tight(rule) => put_rule(rule, words),
+        Verdict::Loose(rule) | Verdict::Tight(rule) => *words = words_of(rule),
     }
 }

@@ -1,11 +1,11 @@
 // Verdicts, and the reply of marking two tables. Document 01's numbers and values of each are in specs/Verdicts.antt.
 ghost use Rattle.std.specs.Prelude.{◌≡◌};
-ghost use Rattle.marking.specs.Verdicts.{verdict_number, marking_number, marking_value};
+ghost use Rattle.marking.specs.Verdicts.{verdict_number, marking_number};
 
 use rules::refusal::Refusal;
 use rules::rule::Rule;
 
-#[derive(Clone, Copy)]
+#[derive(Clone, Copy, PartialEq, Eq, Debug)]
 pub enum Verdict {
     // 100: script and sheet allow the same
     Equal,
@@ -28,30 +28,16 @@ impl Verdict {
     }
 }
 
-#[derive(Clone, Copy)]
-pub enum Marking {
-    Marked(Verdict),
-    Refused(Refusal),
-}
+// The reply of marking: a verdict, or the first need that is not met.
+pub type Marking = Result<Verdict, Refusal>;
 
-impl Marking {
-    // Document 01's number of a verdict or a refusal.
-    pub fn number(self) -> u32
-        ensures { result ≡ marking_number self }
-    {
-        match self {
-            Marking::Marked(verdict) => verdict.number(),
-            Marking::Refused(refusal) => rules::refusal::number(refusal),
-        }
-    }
-
-    // What is returned beside a refusal's number, a line or the length needed; 0 where there is nothing.
-    pub fn value(self) -> usize
-        ensures { result ≡ marking_value self }
-    {
-        match self {
-            Marking::Marked(_) => 0,
-            Marking::Refused(refusal) => rules::refusal::value(refusal),
-        }
+// Document 01's number of a verdict or a refusal. What is returned beside is `rules::refusal::value_of`.
+// Kept: beside `rules::refusal::number_of`: the number is a verdict's where there is one, and a trait for what is no refusal would be no plainer.
+pub fn marking_number(marking: &Marking) -> u32
+    ensures { result ≡ marking_number marking.now }
+{
+    match marking {
+        Ok(verdict) => verdict.number(),
+        Err(refusal) => refusal.number(),
     }
 }

@@ -1,32 +1,27 @@
 -- The number of marks, byte by byte; and where bytes tell of places whether they are marked, it is the number of marked places. Assumes nothing.
-use mathlib.Core.Bool.{Bool, true, false}
+use mathlib.Core.Bool.{Bool, true, false, cond}
 use mathlib.Core.Path.{◌≡◌, refl, ◌∙◌, ap}
 use mathlib.Core.List.{List, [], ◌∷◌}
-use Prim.Native.Nat.{ℕ, zero, suc, ◌+◌, ◌-◌, ◌≤◌, ◌<◌}
+use Prim.Native.Nat.{ℕ, zero, suc, ◌+◌, ◌≤◌, ◌<◌}
 use native.Mathlib.Omega.{arith}
 use lib.Dec.{eqb}
-use lib.ListN.{length, drop}
-use lib.Seq.{drop-cons}
+use lib.ListN.{length, take}
+use Rattle.std.specs.List.{filter}
 use Rattle.integers.specs.Bound.{bit}
 use Rattle.marks.specs.Marks.{Marked, byte_at}
 use Rattle.marks.specs.Bytes.{mark_count, marked_count}
 
--- one byte more
-pub count_more : (m i : ℕ) (marks : List ℕ) → i < m → i < length marks
-    → mark_count (m - i) (drop i marks) ≡ bit (eqb (byte_at marks i) 1) + mark_count (m - (i + 1)) (drop (i + 1) marks)
+-- as the library counts them
+pub count_all : (m : ℕ) (marks : List ℕ) → length (filter (λ b. eqb b 1) (take m marks)) ≡ mark_count m marks
 unfolding mark_count
-count_more m i marks h l = rw (rest, drop-cons marks i 0 l, next)
+count_all zero marks = refl
+count_all (suc m) [] = refl
+count_all (suc m) (b ∷ marks) = go (count_all m marks) (eqb b 1)
   where
-    rest : m - i ≡ suc (m - (i + 1))
-    rest = omega arith
-
-    next : i + 1 ≡ suc i
-    next = omega arith
-
-pub count_none : (m : ℕ) → mark_count m [] ≡ 0
-unfolding mark_count
-count_none zero = refl
-count_none (suc m) = refl
+    go : length (filter (λ b. eqb b 1) (take m marks)) ≡ mark_count m marks
+        → (t : Bool) → length (cond t (b ∷ filter (λ b. eqb b 1) (take m marks)) (filter (λ b. eqb b 1) (take m marks))) ≡ bit t + mark_count m marks
+    go h true = omega arith
+    go h false = omega arith
 
 pub count_zero : (marks : List ℕ) → mark_count 0 marks ≡ 0
 unfolding mark_count

@@ -9,8 +9,7 @@ use lib.Signed.{lt_z, ◌<ℤ◌}
 use borrow.Author.Tests.{eqb-true, eq-eqb}
 use Rattle.integers.specs.Bound.{smaller}
 use Rattle.integers.proofs.Parts.{linear, lt_z_true, lt_z_false, lt_lt_z, smaller_left, smaller_right}
-use Rattle.places.specs.declared.Place.{Place}
-use Rattle.places.specs.declared.Place.TheVariants.{At, Nowhere}
+use Rattle.std.specs.Prelude.{Option, Some, None}
 use Rattle.rules.specs.declared.rule.Rule.{Rule}
 use Rattle.rules.specs.Limits.{no_rule}
 use Rattle.rules.specs.Meaning.{bound_of}
@@ -23,11 +22,11 @@ use Rattle.marks.specs.Marks.{meet, marked_rule, marked_at, AllLose, RestsOnHalv
 use Rattle.marks.proofs.Rules.{marked_smallest}
 
 -- the test of a place
-at_true : (k : ℕ) (p : Place) → is_at k p ≡ true → p ≡ At k
-at_true k (At j) e = ap At (sym (eqb-true k j e))
-at_true k Nowhere e = clash e refl
+at_true : (k : ℕ) (p : Option ℕ) → is_at k p ≡ true → p ≡ Some k
+at_true k (Some j) e = ap Some (sym (eqb-true k j e))
+at_true k None e = clash e refl
 
-true_at : (k : ℕ) (p : Place) → p ≡ At k → is_at k p ≡ true
+true_at : (k : ℕ) (p : Option ℕ) → p ≡ Some k → is_at k p ≡ true
 true_at k p e = ap (is_at k) e ∙ eq-eqb k k refl
 
 -- no rule of the place has a bound below the smallest

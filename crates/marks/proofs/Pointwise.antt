@@ -1,30 +1,26 @@
 -- A list that is changed place by place from the first on: what holds when nothing, one place more or all of the first places are done. Assumes nothing.
 use mathlib.Core.Bool.{Bool, true, false}
-use mathlib.Core.Path.{◌≡◌, refl, ◌∙◌}
-use mathlib.Core.List.{List, [], ◌∷◌}
-use Prim.Native.Nat.{ℕ, zero, suc, ◌+◌, ◌≤◌, ◌<◌}
+use mathlib.Core.Path.{◌≡◌, refl, sym, ◌∙◌}
+use mathlib.Core.List.{List}
+use Prim.Native.Nat.{ℕ, ◌+◌, ◌≤◌, ◌<◌}
 use native.Mathlib.Omega.{arith}
 use lib.Dec.{eqb}
 use lib.ListN.{length, get_or, set, drop, length-set}
 use lib.Seq.{get_or-set_same, get_or-set_other, ext_get_or}
+use Rattle.std.proofs.Common.{length-drop}
+use Rattle.std.proofs.lemmas.List.{get_or-drop}
 use borrow.Author.Tests.{eqb-true, eqb-false}
 
 -- lists of one length that agree from a place on are the same from there
 pub drop_same : {A : Type 0} (d : A) (i : ℕ) (u t : List A) → length u ≡ length t → ((k : ℕ) → i ≤ k → get_or u k d ≡ get_or t k d) → drop i u ≡ drop i t
-drop_same d zero u t e h = ext_get_or d u t e (λ k l. h k (omega arith))
-drop_same d (suc i) [] [] e h = refl
-drop_same d (suc i) [] (y ∷ t) e h = let z : ⊥ = omega arith in absurd z
-drop_same d (suc i) (x ∷ u) [] e h = let z : ⊥ = omega arith in absurd z
-drop_same d (suc i) (x ∷ u) (y ∷ t) e h = drop_same d i u t (omega arith) (λ k l. h (suc k) (omega arith))
+drop_same d i u t e h = ext_get_or d (drop i u) (drop i t) (simp length-drop (omega arith))
+    (λ k l. get_or-drop i u k d ∙ h (i + k) (omega arith) ∙ sym (get_or-drop i t k d))
 
 -- the first i places of a list hold what they are to hold, and the others what they held
 pub record DoneTo {A : Type 0} (d : A) (i : ℕ) (f : ℕ → A) (before after : List A) : Type 0 where
   pub size : length after ≡ length before
   pub each : (k : ℕ) → k < i → get_or after k d ≡ f k
   pub rest : (k : ℕ) → i ≤ k → get_or after k d ≡ get_or before k d
-
-pub done_none : {A : Type 0} (d : A) (f : ℕ → A) (t : List A) → DoneTo d 0 f t t
-done_none d f t = record { size = refl; each = λ k l. let z : ⊥ = omega arith in absurd z; rest = λ k l. refl }
 
 -- one place more is written
 pub done_more : {A : Type 0} (d : A) (i : ℕ) (f : ℕ → A) (t u : List A) (w : A) → DoneTo d i f t u → i < length t → w ≡ f i → DoneTo d (i + 1) f t (set u i w)

@@ -17,7 +17,7 @@ use Rattle.rules.specs.Limits.{no_rule}
 use Rattle.rules.specs.Literal.{negated}
 use Rattle.rules.specs.Meaning.{bound_of}
 use Rattle.rules.specs.Steps.{halved_of, loses_half}
-use Rattle.tables.specs.declared.reply.Reply.TheVariants.{Done}
+use Rattle.std.specs.Prelude.{Ok}
 use Rattle.tables.specs.Places.{find_place}
 use Rattle.tables.specs.Tables.{has_rule, is_at, rule_reply, smallest_at}
 use Rattle.tables.proofs.Tests.{clash}
@@ -90,15 +90,15 @@ module _ (r : Rule) (w : Within (pos (2 ^ 61)) (bound_of r)) where
   rule_sound = let l = within_rule (bound_of (halved_of r)) (halved_within (2 ^ 61) r w) in (omega linear, λ e. clash ruled e)
 
 -- a table accepts it too
-one_doubled : (n x : ℕ) (c d : ℤ) → has_rule d ≡ true → rule_reply n (One x c) ≡ Done → rule_reply n (One x d) ≡ Done
+one_doubled : (n x : ℕ) (c d : ℤ) → has_rule d ≡ true → rule_reply n (One x c) ≡ Ok tt → rule_reply n (One x d) ≡ Ok tt
 one_doubled n x c d h e = let p = one_accepted n x c e in sym (one_inside n x d true (omega arith) h)
 
-two_doubled : (n x y : ℕ) (c d : ℤ) → has_rule d ≡ true → rule_reply n (Two x y c) ≡ Done → rule_reply n (Two x y d) ≡ Done
+two_doubled : (n x y : ℕ) (c d : ℤ) → has_rule d ≡ true → rule_reply n (Two x y c) ≡ Ok tt → rule_reply n (Two x y d) ≡ Ok tt
 two_doubled n x y c d h e =
     let p = two_accepted n x y c e in
     sym (two_inside n x y d true false (omega arith) (omega arith) h (ne_eqb y (negated x) p.3))
 
-nothing_above : (n : ℕ) (c : ℤ) → rule_reply n (Nothing c) ≡ Done → pos 0 ≤ℤ c
+nothing_above : (n : ℕ) (c : ℤ) → rule_reply n (Nothing c) ≡ Ok tt → pos 0 ≤ℤ c
 nothing_above n c e = (nothing_accepted n c (λ q. pos 0) e).met
 
 sum_above : (c : ℤ) → pos 0 ≤ℤ c → pos 0 ≤ℤ (c +ℤ c)
@@ -109,13 +109,13 @@ sum-rule : (c : ℤ) → Within (pos (2 ^ 61)) c → has_rule (c +ℤ c) ≡ tru
 unfolding positive_part negative_part
 sum-rule c w = lt_lt_z (c +ℤ c) no_rule (omega (linear, parts_add c c, within_to w))
 
-pub doubled_accepted : (n : ℕ) (r : Rule) → Within (pos (2 ^ 61)) (bound_of r) → rule_reply n (halved_of r) ≡ Done → rule_reply n (halved_of (doubled_rule r)) ≡ Done
+pub doubled_accepted : (n : ℕ) (r : Rule) → Within (pos (2 ^ 61)) (bound_of r) → rule_reply n (halved_of r) ≡ Ok tt → rule_reply n (halved_of (doubled_rule r)) ≡ Ok tt
 unfolding doubled_rule halved_of
 doubled_accepted n (One x c) w e = one_doubled n x c (c +ℤ c) (sum-rule c w) e
 doubled_accepted n (Two x y c) w e = go (eqb x y) refl e
   where
-    go : (b : Bool) → eqb x y ≡ b → rule_reply n (cond b (One x (half c)) (Two x y c)) ≡ Done
-        → rule_reply n (halved_of (cond b (One x c) (Two x y (c +ℤ c)))) ≡ Done
+    go : (b : Bool) → eqb x y ≡ b → rule_reply n (cond b (One x (half c)) (Two x y c)) ≡ Ok tt
+        → rule_reply n (halved_of (cond b (One x c) (Two x y (c +ℤ c)))) ≡ Ok tt
     go true q e = one_doubled n x (half c) c (lt_lt_z c no_rule (within_rule c w)) e
     go false q e = rw q (two_doubled n x y c (c +ℤ c) (sum-rule c w) e)
 doubled_accepted n (Nothing c) w e = sym (bare n (c +ℤ c) true false (sum-rule c w) (le_lt_z (c +ℤ c) (pos 0) (sum_above c (nothing_above n c e))))

@@ -2,6 +2,7 @@
 use mathlib.Core.Bool.{Bool, true, false, cond, ◌&&◌}
 use mathlib.Core.Path.{◌≡◌, refl, sym, ◌∙◌, ap}
 use lib.IntN.{ℤ}
+use mir.Val.{bool_byte}
 use lib.Signed.{◌≤ℤ◌}
 use Rattle.integers.specs.Bound.{half, odd, bit}
 use Rattle.integers.proofs.Parts.{linear, lt_z_false}
@@ -12,18 +13,15 @@ use Rattle.marks.specs.Marks.{Marked, holds}
 use Rattle.marks.specs.Doubled.{doubled_word, split_word}
 use Rattle.marks.proofs.WordOrder.{Tame, large, twice, twice_sum, doubled-rule, doubled_held}
 
--- the bound of a rule, its mark where the word is odd and where it is not, and a word that is no rule
+-- the bound of a rule, its mark, and a word that is no rule
 pub split_half : (v : ℤ) → has_rule v ≡ true → half v ≡ (split_word v).bound
 unfolding split_word
 split_half v h = rw h
 
-pub split_odd : (v : ℤ) → has_rule v ≡ true → odd v ≡ true → 1 ≡ bit (split_word v).mark
+pub split_told : (v : ℤ) (o : Bool) → has_rule v ≡ true → o ≡ odd v → bool_byte o ≡ bit (split_word v).mark
 unfolding split_word
-split_odd v h e = rw (h, e)
-
-pub split_even : (v : ℤ) → has_rule v ≡ true → odd v ≡ false → 0 ≡ bit (split_word v).mark
-unfolding split_word
-split_even v h e = rw (h, e)
+split_told v true h e = rw (h, ← e)
+split_told v false h e = rw (h, ← e)
 
 pub split_unruled : (v : ℤ) → v ≡ no_rule → (v ≡ (split_word v).bound) × (0 ≡ bit (split_word v).mark)
 unfolding split_word

@@ -1,37 +1,22 @@
 -- The test of marks, byte by byte, and what it says of each. Assumes nothing.
 use mathlib.Core.Bool.{Bool, true, ◌&&◌}
-use mathlib.Core.Path.{◌≡◌, refl, ◌∙◌}
+use mathlib.Core.Path.{◌≡◌, refl, ◌∙◌, ap}
 use mathlib.Core.List.{List, [], ◌∷◌}
-use Prim.Native.Nat.{ℕ, zero, suc, ◌+◌, ◌-◌, ◌<◌}
+use Prim.Native.Nat.{ℕ, zero, suc}
 use native.Mathlib.Omega.{arith}
 use lib.Dec.{leb}
-use lib.ListN.{length, drop}
-use lib.Seq.{drop-cons}
+use lib.ListN.{take}
+use Rattle.std.specs.List.{list_all}
 use borrow.Author.Tests.{le-leb, leb-true}
 use Rattle.tables.proofs.Tests.{both_true}
-use Rattle.marks.specs.Marks.{byte_at}
 use Rattle.marks.specs.Bytes.{marks_in, MarksWithin, MarksTested}
 
--- one byte more
-pub marks_more : (m i : ℕ) (marks : List ℕ) → i < m → i < length marks
-    → marks_in (m - i) (drop i marks) ≡ ◌&&◌ (leb (byte_at marks i) 1) (marks_in (m - (i + 1)) (drop (i + 1) marks))
+-- as the library tests them
+pub marks_all : (m : ℕ) (marks : List ℕ) → list_all (λ b. leb b 1) (take m marks) ≡ marks_in m marks
 unfolding marks_in
-marks_more m i marks h l = rw (rest, drop-cons marks i 0 l, next)
-  where
-    rest : m - i ≡ suc (m - (i + 1))
-    rest = omega arith
-
-    next : i + 1 ≡ suc i
-    next = omega arith
-
-pub marks_none : (m : ℕ) → marks_in m [] ≡ true
-unfolding marks_in
-marks_none zero = refl
-marks_none (suc m) = refl
-
-pub marks_zero : (marks : List ℕ) → marks_in 0 marks ≡ true
-unfolding marks_in
-marks_zero marks = refl
+marks_all zero marks = refl
+marks_all (suc m) [] = refl
+marks_all (suc m) (b ∷ marks) = ap (◌&&◌ (leb b 1)) (marks_all m marks)
 
 -- where it passes each byte is 0 or 1
 pub marks_within : (m : ℕ) (marks : List ℕ) → marks_in m marks ≡ true → MarksWithin m marks

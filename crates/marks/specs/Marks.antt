@@ -1,9 +1,8 @@
 -- Marks (document 02, [6]): whether the bound of a rule lost a half when it was halved, or rests on one that did. A mark never changes a bound.
-use Rattle.std.specs.Prelude.{Bool, true, false, cond, ◌&&◌, ◌||◌, ◌≡◌, List, [], ◌∷◌, ℕ, eqb, ℤ, ◌+ℤ◌, get_or}
+use Rattle.std.specs.Prelude.{Bool, true, false, cond, ◌&&◌, ◌||◌, ◌≡◌, List, [], ◌∷◌, ℕ, eqb, ℤ, ◌+ℤ◌, get_or, Some}
 use Rattle.std.specs.Int.Signed.{lt_z}
 use Rattle.integers.specs.Bound.{half, odd, smaller}
 use Rattle.words.specs.Change.{word_at}
-use Rattle.places.specs.declared.Place.TheVariants.{At}
 use Rattle.rules.specs.declared.rule.Rule.{Rule}
 use Rattle.rules.specs.Limits.{no_rule}
 use Rattle.rules.specs.Meaning.{bound_of}
@@ -70,7 +69,7 @@ marked_at k (r ∷ rs) = cond (is_at k (find_place (halved_of r))) (meet (marked
 -- by meaning: every rule of a list whose place is this and whose bound, a doubled term halved, is c loses a half
 abbrev pub AllLose : ℕ → ℤ → List Rule → Type 0
 AllLose k c [] = Unit {0}
-AllLose k c (r ∷ rs) = (find_place (halved_of r) ≡ At k → bound_of (halved_of r) ≡ c → loses_half r ≡ true) × AllLose k c rs
+AllLose k c (r ∷ rs) = (find_place (halved_of r) ≡ Some k → bound_of (halved_of r) ≡ c → loses_half r ≡ true) × AllLose k c rs
 
 -- a place has a rule, and every rule of the list that has the smallest bound there loses a half
 pub record RestsOnHalves (k : ℕ) (rules : List Rule) : Type 0 where

@@ -6,45 +6,21 @@ ghost use Rattle.marks.specs.Bytes.{MarksTested, BytesCopied, mark_count};
 pub fn are_marks(marks: &[u8], m: usize) -> bool
     ensures { MarksTested m marks.now result }
 {
-    let mut i = 0;
-    while i < m {
-        if marks.len() <= i {
-            return true;
-        }
-        if 1 < marks[i] {
-            return false;
-        }
-        i = i + 1;
-    }
-    true
+    marks.iter().take(m).all(|mark| *mark <= 1)
 }
 
 // Copies the first `m` bytes.
+// Kept: beside `words::copy`, which takes lists of any lengths: each is one call of the library, and one function for both would be no plainer.
 pub fn copy(to: &mut [u8], from: &[u8], m: usize)
     requires { (m ≤ length to.old) × (m ≤ length from.now) }
     ensures { BytesCopied m from.now to.old to.new }
 {
-    let mut i = 0;
-    while i < m {
-        to[i] = from[i];
-        i = i + 1;
-    }
+    to[..m].copy_from_slice(&from[..m]);
 }
 
 // How many of the first `m` bytes, or of all where there are fewer, are 1.
 pub fn count(marks: &[u8], m: usize) -> usize
     ensures { result ≡ mark_count m marks.now }
 {
-    let mut found = 0;
-    let mut i = 0;
-    while i < m {
-        if marks.len() <= i {
-            return found;
-        }
-        if marks[i] == 1 {
-            found = found + 1;
-        }
-        i = i + 1;
-    }
-    found
+    marks.iter().take(m).filter(|mark| **mark == 1).count()
 }

@@ -9,17 +9,11 @@ pub fn double(table: &mut [i64], marks: &[u8], m: usize)
     requires { Doublable m table.old marks.now }
     ensures { TableDoubled m table.old marks.now table.new }
 {
-    let mut i = 0;
-    while i < m {
-        let w = table[i];
-        if w < Sheet::NO_RULE {
-            if marks[i] == 1 {
-                table[i] = w + w + 1;
-            } else {
-                table[i] = w + w;
-            }
+    for i in 0..m {
+        let bound = table[i];
+        if bound < Sheet::NO_RULE {
+            table[i] = bound + bound + i64::from(marks[i] == 1);
         }
-        i = i + 1;
     }
 }
 
@@ -28,19 +22,14 @@ pub fn split(table: &mut [i64], marks: &mut [u8], m: usize)
     requires { (m ≤ length table.old) × (m ≤ length marks.old) }
     ensures { TableSplit m table.old marks.old table.new marks.new }
 {
-    let mut i = 0;
-    while i < m {
-        let w = table[i];
-        let mut mark = 0;
-        if w < Sheet::NO_RULE {
-            let half = integers::halve(w);
-            let bound = half.half;
-            table[i] = bound;
-            if half.odd {
-                mark = 1;
-            }
+    for i in 0..m {
+        let word = table[i];
+        if word < Sheet::NO_RULE {
+            let halved = integers::halve(word);
+            table[i] = halved.half;
+            marks[i] = u8::from(halved.odd);
+        } else {
+            marks[i] = 0;
         }
-        marks[i] = mark;
-        i = i + 1;
     }
 }

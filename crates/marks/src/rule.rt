@@ -7,6 +7,7 @@ ghost use Rattle.marks.specs.Doubled.{doubled_rule};
 use rules::rule::Rule;
 
 // The rule with its bound doubled; a doubled term, whose bound would be halved, as the single one with the bound as it is.
+#[tactic(auto, unfolding(crate::specs::Doubled::doubled_rule))]
 pub fn doubled(rule: Rule) -> Rule
     requires { Within (pos (2 ^ 61)) (bound_of rule) }
     ensures { result ≡ doubled_rule rule }
@@ -20,19 +21,19 @@ pub fn doubled(rule: Rule) -> Rule
             first,
             second,
             bound,
-        } => {
-            if first == second {
-                return Rule::One {
-                    literal: first,
-                    bound,
-                };
-            }
-            Rule::Two {
-                first,
-                second,
-                bound: bound + bound,
-            }
-        }
+        } if first == second => Rule::One {
+            literal: first,
+            bound,
+        },
+        Rule::Two {
+            first,
+            second,
+            bound,
+        } => Rule::Two {
+            first,
+            second,
+            bound: bound + bound,
+        },
         Rule::Nothing { bound } => Rule::Nothing {
             bound: bound + bound,
         },

@@ -2,8 +2,8 @@
 use mathlib.Core.Path.{◌≡◌, refl, sym, ◌∙◌, ap, subst}
 use mathlib.Core.Bool.{Bool, true, false, cond}
 use mathlib.Core.List.{List, [], ◌∷◌, ◌++◌}
-use Prim.Native.Nat.{ℕ, zero, suc, ◌+◌, ◌/◌, ◌%◌, ◌^◌, ◌≤◌, ◌<◌}
-use native.Mathlib.Nat.{mod-eq_of_lt}
+use Prim.Native.Nat.{ℕ, zero, suc, ◌+◌, ◌*◌, ◌/◌, ◌%◌, ◌^◌, ◌≤◌, ◌<◌}
+use native.Mathlib.Nat.{mod-eq_of_lt, one-le-pow}
 use native.Mathlib.Numerals.{add-one}
 use native.Mathlib.Omega.{arith}
 use lib.Dec.{T, ltb}
@@ -13,6 +13,8 @@ use lib.Signed.{lt_z}
 use mir.Syntax.{w64}
 use mir.Val.{SFits, to_z, of_z}
 use borrow.Author.Tests.{ltb-true, ltb-false, lt-ltb, le-ltb}
+use Rattle.std.specs.Prelude.{Option, Some, None, IfNone, IfSome}
+use Rattle.std.specs.Option.{unwrap_or}
 use Rattle.integers.proofs.Parts.{word_value}
 use Rattle.numerals.specs.Bytes.{digit_zero, minus}
 use Rattle.numerals.specs.Decimal.{decimal_up_to, decimal, signed_decimal}
@@ -77,6 +79,19 @@ decimal_width (suc k) v h =
     by_size (length (decimal v) ≤ suc (suc k)) v
     (λ l. omega (arith, digit_width v l))
     (λ l. omega (arith, more_width v l, decimal_width k (v / 10) (omega arith)))
+
+-- and a number from a power of ten on has more digits than the power has zeros
+decimal_wider : (k v : ℕ) → 10 ^ k ≤ v → k < length (decimal v)
+decimal_wider zero v h = decimal_some v
+decimal_wider (suc k) v h = by_size (suc k < length (decimal v)) v
+    (λ l. let z : ⊥ = omega (arith, one-le-pow) in absurd z)
+    (λ l. omega (arith, more_width v l, decimal_wider k (v / 10) (omega arith)))
+
+-- so it has one digit more than the last power of ten that it reaches has zeros; 0 reaches none
+pub power_width : (v : ℕ) (o : Option ℕ) → IfNone o (v ≡ 0) → IfSome o (λ k. 10 ^ k ≤ v) → IfSome o (λ k. v < 10 * 10 ^ k)
+    → unwrap_or o 0 + 1 ≡ length (decimal v)
+power_width v None z h l = omega (arith, digit_width v (omega arith))
+power_width v (Some k) z h l = let m : v < 10 * 10 ^ k = l in omega (arith, decimal_wider k v h, decimal_width k v (omega arith))
 
 -- ---- from the last digit on
 

@@ -1,19 +1,21 @@
 -- The bytes at a cursor: keys that they start with, and what the kind of the first tells of it. Assumes nothing.
 use mathlib.Core.Path.{◌≡◌, refl, sym, ◌∙◌, ap, ap₂}
-use mathlib.Core.Bool.{Bool, true, false, cond, ◌&&◌}
+use mathlib.Core.Bool.{Bool, true, false, cond, not, ◌&&◌, and-true}
 use mathlib.Core.List.{List, [], ◌∷◌, ◌++◌}
-use Prim.Native.Nat.{ℕ, suc, ◌+◌, ◌≤◌, ◌<◌}
-use native.Mathlib.Nat.{add-suc}
-use native.Mathlib.Numerals.{add-one}
+use Prim.Native.Nat.{ℕ, ◌+◌, ◌-◌, ◌≤◌, ◌<◌, min}
 use native.Mathlib.Omega.{arith}
 use lib.Dec.{leb, eqb}
-use lib.ListN.{length, get_or, drop, length-append, drop_of_length-le, get_or-eq_default}
+use lib.ListN.{length, get_or, take, drop, length-append, length-drop, drop_of_length-le, get_or-eq_default}
 use lib.Seq.{drop-cons, drop-drop, drop-append_seam}
-use borrow.Author.Tests.{leb-true, leb-false, eqb-true, le-leb, eq-eqb, ne_eqb}
+use denote.Enum.Bare.{sameb, true_same, false_same}
+use borrow.Author.Tests.{leb-true, eqb-true, eqb-false, not-true, not-false, le-leb, eq-eqb, ne_eqb}
+use Rattle.std.specs.List.{starts_with as list_starts}
+use Rattle.std.proofs.lemmas.List.{take_all}
 use Rattle.numerals.specs.declared.byte.Kind.{Kind}
 use Rattle.numerals.specs.declared.byte.Kind.TheVariants.{Digit, Plus, Minus, Colon, Comma, LineEnd, Other}
 use Rattle.numerals.specs.Bytes.{is_digit, kind_of, digit_zero, plus, minus, colon, comma, newline}
 use Rattle.numerals.specs.Parsing.{Parsed, malformed, expect, starts_with, digit_next}
+use Rattle.numerals.specs.contracts.byte.Kind.{the_type}
 use Rattle.numerals.proofs.Cases.{clash, failed, both_true, by_below}
 
 -- ---- digits
@@ -117,9 +119,21 @@ kind_digit b e = go (is_digit b) (eqb b plus) (eqb b minus) (eqb b colon) (eqb b
 pub kind_test : (k : Kind) (b : ℕ) → single k ≡ true → kind_of b ≡ k → eqb b (byte_of k) ≡ true
 kind_test k b o e = eq-eqb b (byte_of k) (kind_byte k b o e)
 
--- any other fails it
-pub kind_test_fails : (k : Kind) (b : ℕ) → single k ≡ true → (kind_of b ≡ k → ⊥) → eqb b (byte_of k) ≡ false
-kind_test_fails k b o h = ne_eqb b (byte_of k) (λ e. h (ap kind_of e ∙ byte_kind k o))
+-- the code's test whether a byte is of a kind that one byte alone has
+kind_same : (k : Kind) (b : ℕ) → single k ≡ true → sameb the_type (kind_of b) k ≡ eqb b (byte_of k)
+kind_same k b o = go (eqb b (byte_of k)) refl
+  where
+    go : (t : Bool) → eqb b (byte_of k) ≡ t → sameb the_type (kind_of b) k ≡ t
+    go true e = true_same the_type _ _ (ap kind_of (eqb-true b (byte_of k) e) ∙ byte_kind k o)
+    go false e = false_same the_type tt _ _ (λ q. clash (kind_test k b o q) e)
+
+-- and whether it is a digit
+digit_same : (b : ℕ) → sameb the_type (kind_of b) Digit ≡ is_digit b
+digit_same b = go (is_digit b) refl
+  where
+    go : (t : Bool) → is_digit b ≡ t → sameb the_type (kind_of b) Digit ≡ t
+    go true e = true_same the_type _ _ (digit_kind b e)
+    go false e = false_same the_type tt _ _ (λ q. clash (kind_digit b q) e)
 
 -- ---- keys
 
@@ -172,36 +186,50 @@ unfoldable pub kind_at : List ℕ → Kind
 kind_at [] = Other
 kind_at (b ∷ u) = kind_of b
 
--- bytes of which the first has the kind of digits begin with a digit
-pub digit-next : (u : List ℕ) → kind_at u ≡ Digit → digit_next u ≡ true
-unfolding kind_at
-digit-next [] e = clash refl (ap named (sym e))
-digit-next (b ∷ u) e = kind_digit b e
-
--- others do not
-pub no_digit_next : (u : List ℕ) → (kind_at u ≡ Digit → ⊥) → digit_next u ≡ false
-unfolding kind_at
-no_digit_next [] h = refl
-no_digit_next (b ∷ u) h = failed (is_digit b) (λ e. h (digit_kind b e))
-
--- bytes of which the first has a kind that one byte alone has start with that byte
-pub starts_kind : (k : Kind) (u : List ℕ) → single k ≡ true → kind_at u ≡ k → starts_with (byte_of k ∷ []) u ≡ true
-unfolding kind_at starts_with
-starts_kind k [] o e = clash o (ap single (sym e))
-starts_kind k (b ∷ u) o e = rw (kind_test k b o e)
-
--- others do not
-pub starts_other : (k : Kind) (u : List ℕ) → single k ≡ true → (kind_at u ≡ k → ⊥) → starts_with (byte_of k ∷ []) u ≡ false
-unfolding kind_at starts_with
-starts_other k [] o h = refl
-starts_other k (b ∷ u) o h = rw (kind_test_fails k b o h)
-
 -- ---- at a cursor
 
--- at the end of the text there is no kind
-pub kind_end : (s : List ℕ) (at : ℕ) → length s ≤ at → kind_at (drop at s) ≡ Other
-unfolding kind_at
-kind_end s at h = rw (drop_of_length-le s h)
+-- so the code's test of the byte that is read at a cursor tells whether a certain byte is there
+pub same_starts : (k : Kind) (s : List ℕ) (at : ℕ) → single k ≡ true → sameb the_type (kind_of (get_or s at 0)) k ≡ starts_with (byte_of k ∷ []) (drop at s)
+unfolding starts_with
+same_starts k s at o = kind_same k (get_or s at 0) o ∙ by_below at (length s)
+    (λ h. rw (drop-cons s at 0 h) (sym (and-true (eqb (get_or s at 0) (byte_of k)))))
+    (λ h. rw (drop_of_length-le s h, get_or-eq_default s 0 h) (zero_fails k o))
+  where
+    zero_fails : (k : Kind) → single k ≡ true → eqb 0 (byte_of k) ≡ false
+    zero_fails Digit o = refl
+    zero_fails Plus o = refl
+    zero_fails Minus o = refl
+    zero_fails Colon o = refl
+    zero_fails Comma o = refl
+    zero_fails LineEnd o = refl
+    zero_fails Other o = clash o refl
+
+-- where a comparison by `!=` fails it is
+pub kind_holds : (k : Kind) (s : List ℕ) (at : ℕ) {b : ℕ} {found : Kind} {r : Bool} → single k ≡ true → b ≡ get_or s at 0 → found ≡ kind_of b
+    → r ≡ not (sameb the_type found k) → r ≡ false → starts_with (byte_of k ∷ []) (drop at s) ≡ true
+kind_holds k s at {b} {found} {r} o e f d h = sym (same_starts k s at o) ∙ ap (λ (x : ℕ). sameb the_type (kind_of x) k) (sym e)
+    ∙ ap (λ (x : Kind). sameb the_type x k) (sym f) ∙ not-false (sameb the_type found k) (sym d ∙ h)
+
+-- and where it does not it is not
+pub kind_fails : (k : Kind) (s : List ℕ) (at : ℕ) {b : ℕ} {found : Kind} {r : Bool} → single k ≡ true → b ≡ get_or s at 0 → found ≡ kind_of b
+    → r ≡ not (sameb the_type found k) → r ≡ true → starts_with (byte_of k ∷ []) (drop at s) ≡ false
+kind_fails k s at {b} {found} {r} o e f d h = sym (same_starts k s at o) ∙ ap (λ (x : ℕ). sameb the_type (kind_of x) k) (sym e)
+    ∙ ap (λ (x : Kind). sameb the_type x k) (sym f) ∙ not-true (sameb the_type found k) (sym d ∙ h)
+
+-- a comparison by `==` tells it
+pub kind_told : (k : Kind) (s : List ℕ) (at : ℕ) {b : ℕ} {found : Kind} {r : Bool} → single k ≡ true → b ≡ get_or s at 0 → found ≡ kind_of b
+    → r ≡ sameb the_type found k → starts_with (byte_of k ∷ []) (drop at s) ≡ r
+kind_told k s at {b} {found} {r} o e f d = sym (d ∙ ap (λ (x : Kind). sameb the_type x k) f ∙ ap (λ (x : ℕ). sameb the_type (kind_of x) k) e ∙ same_starts k s at o)
+
+-- such a byte is inside the text
+pub byte_inside : (b : ℕ) (s : List ℕ) (at : ℕ) → starts_with (b ∷ []) (drop at s) ≡ true → at < length s
+byte_inside b s at e = omega (arith, starts_length (b ∷ []) (drop at s) e, length-drop at s)
+
+-- and of whether a digit is there
+pub same_digit : (s : List ℕ) (at : ℕ) → sameb the_type (kind_of (get_or s at 0)) Digit ≡ digit_next (drop at s)
+same_digit s at = digit_same (get_or s at 0) ∙ by_below at (length s)
+    (λ h. rw (drop-cons s at 0 h))
+    (λ h. rw (drop_of_length-le s h, get_or-eq_default s 0 h))
 
 -- before it there is a byte, and past it 0 stands for one
 pub kind-at : (s : List ℕ) (at : ℕ) → kind_at (drop at s) ≡ kind_of (get_or s at 0)
@@ -213,14 +241,6 @@ kind-at s at = by_below at (length s)
 -- so the kind of the byte that is read at a cursor is that of the bytes there
 pub kind_read : {k : Kind} {b : ℕ} (s : List ℕ) (at : ℕ) → b ≡ get_or s at 0 → k ≡ kind_of b → k ≡ kind_at (drop at s)
 kind_read s at e f = f ∙ ap kind_of e ∙ sym (kind-at s at)
-
--- a byte of a kind that says which one it is, or that it is a digit, is inside the text
-pub kind_inside : (k : Kind) (s : List ℕ) (at : ℕ) → named k ≡ true → kind_at (drop at s) ≡ k → at < length s
-kind_inside k s at o e = go (leb (length s) at) refl
-  where
-    go : (b : Bool) → leb (length s) at ≡ b → at < length s
-    go true q = clash o (ap named (sym e ∙ kind_end s at (leb-true (length s) at q)))
-    go false q = leb-false (length s) at q
 
 -- at the end of the text there is no digit
 pub digit_end : (s : List ℕ) (at : ℕ) → length s ≤ at → digit_next (drop at s) ≡ false
@@ -248,23 +268,19 @@ pub byte_fails : (k b : ℕ) (u : List ℕ) → starts_with (k ∷ []) (b ∷ u)
 unfolding starts_with
 byte_fails k b u e = failed (eqb b k) (λ q. clash (rw q) e)
 
--- a key of no byte is everywhere, any other is not at the end
-pub starts_end : (ks : List ℕ) → starts_with ks [] ≡ eqb (length ks) 0
+-- the library's test of a key tells the same
+pub library_starts : (ks u : List ℕ) → list_starts eqb u ks ≡ starts_with ks u
 unfolding starts_with
-starts_end [] = refl
-starts_end (k ∷ ks) = sym (ne_eqb (suc (length ks)) 0 (omega arith))
+library_starts [] u = refl
+library_starts (k ∷ ks) [] = refl
+library_starts (k ∷ ks) (b ∷ u) = ap₂ ◌&&◌ (either_way (eqb b k) refl) (library_starts ks u)
+  where
+    either_way : (t : Bool) → eqb b k ≡ t → eqb k b ≡ t
+    either_way true e = eq-eqb k b (sym (eqb-true b k e))
+    either_way false e = ne_eqb k b (λ q. eqb-false b k e (sym q))
 
--- a key is compared byte by byte
-pub starts_next : (ks s : List ℕ) (at i : ℕ) → i < length ks → at + i < length s
-    → starts_with (drop i ks) (drop (at + i) s) ≡ ◌&&◌ (eqb (get_or s (at + i) 0) (get_or ks i 0)) (starts_with (drop (i + 1) ks) (drop (at + (i + 1)) s))
-unfolding starts_with
-starts_next ks s at i h l = rw (drop-cons ks i 0 h, drop-cons s (at + i) 0 l, add-one i, add-suc at i)
-
--- until it is passed
-pub starts_passed : (ks u : List ℕ) (i : ℕ) → length ks ≤ i → starts_with (drop i ks) u ≡ true
-unfolding starts_with
-starts_passed ks u i h = rw (drop_of_length-le ks h)
-
--- a longer one is not there
-pub starts_short : (ks u : List ℕ) → length u < length ks → starts_with ks u ≡ false
-starts_short ks u h = failed (starts_with ks u) (λ e. omega (arith, starts_length ks u e))
+-- at the rest of a text, of which nothing is left past its end
+pub library_key : (ks s : List ℕ) (at i : ℕ) → i ≡ min at (length s) → list_starts eqb (take (length s - i) (drop i s)) ks ≡ starts_with ks (drop at s)
+library_key ks s at i e = rw (take_all (length s - i) (drop i s) (omega (arith, length-drop i s)))
+    (library_starts ks (drop i s) ∙ ap (starts_with ks) (by_below at (length s) (λ h. ap (λ (j : ℕ). drop j s) (omega (arith, e)))
+    (λ h. drop_of_length-le s (omega (arith, e)) ∙ sym (drop_of_length-le s h))))

@@ -8,10 +8,11 @@ use lib.Dec.{eqb}
 use lib.ListN.{length, take, drop, length-append, length-drop}
 use lib.Seq.{append_snoc, take_at}
 use borrow.Author.Tests.{eqb-true, eqb-false}
-use Rattle.numerals.specs.declared.read.Numeral.TheVariants.{Number, Malformed}
+use Rattle.std.specs.Prelude.{Some, None}
+use Rattle.numerals.specs.declared.read.Found.{Found}
 use Rattle.numerals.specs.Bytes.{is_digit, digit_zero}
 use Rattle.numerals.specs.Decimal.{decimal, capped}
-use Rattle.numerals.specs.Parsing.{Parsed, parsed, malformed, digits_from, numeral_of, digit_next, cursor_of, numeral_answer}
+use Rattle.numerals.specs.Parsing.{Parsed, parsed, malformed, digits_from, numeral_of, digit_next, cursor_of, found_in, numeral_answer}
 use Rattle.numerals.proofs.Cases.{clash, by_below}
 use Rattle.numerals.proofs.Keys.{digit_range, is_digit_lem}
 use Rattle.numerals.proofs.Decimals.{decimal_digit, decimal_more, decimal_some}
@@ -135,18 +136,18 @@ decimal_next v rest = rw (decimal_first v).is (decimal_first v).digit
 
 -- ---- the program's answer
 
--- a numeral in the text s from the cursor `at` to the cursor `next`, whose value is told as v
-pub record NumeralFound (s : List ℕ) (at v next : ℕ) : Type 0 where
+-- a numeral in the text s from the cursor `at` on, which the program has as `it`
+pub record NumeralFound (s : List ℕ) (at : ℕ) (it : Found ℕ) : Type 0 where
   pub value : ℕ
-  pub is : numeral_of (drop at s) ≡ parsed value (drop next s)
-  pub told : v ≡ capped value
-  pub after : at < next
-  pub inside : next ≤ length s
+  pub is : numeral_of (drop at s) ≡ parsed value (drop it.next s)
+  pub told : it.value ≡ capped value
+  pub after : at < it.next
+  pub inside : it.next ≤ length s
 
 -- of what was read
-found : (s : List ℕ) (at w : ℕ) (rest : List ℕ) (v next : ℕ) → numeral_of (drop at s) ≡ parsed w rest → capped w ≡ v → cursor_of s rest ≡ next
-    → NumeralFound s at v next
-found s at w rest v next e p q = record {
+found : (s : List ℕ) (at w : ℕ) (rest : List ℕ) (it : Found ℕ) → numeral_of (drop at s) ≡ parsed w rest → capped w ≡ it.value → cursor_of s rest ≡ it.next
+    → NumeralFound s at it
+found s at w rest it e p q = record {
   value = w;
   is = e ∙ ap (parsed w) (sym (ap (λ (i : ℕ). drop i s) (sym q) ∙ cursor_rest s at (decimal w) rest spelled));
   told = sym p;
@@ -158,22 +159,20 @@ found s at w rest v next e p q = record {
     spelled = numeral_sound (drop at s) w rest e
 
 -- where the answer is a number, that numeral is there
-pub numeral_found : (s : List ℕ) (at v next : ℕ) → numeral_answer s (numeral_of (drop at s)) ≡ Number v next → NumeralFound s at v next
+pub numeral_found : (s : List ℕ) (at : ℕ) (it : Found ℕ) → numeral_answer s (numeral_of (drop at s)) ≡ Some it → NumeralFound s at it
 unfolding numeral_answer
-numeral_found s at v next e = go (numeral_of (drop at s)) refl e
+numeral_found s at it e = go (numeral_of (drop at s)) refl e
   where
-    go : (p : Parsed ℕ) → numeral_of (drop at s) ≡ p → numeral_answer s p ≡ Number v next → NumeralFound s at v next
-    go (parsed w rest) q f = found s at w rest v next q (cc) (cc)
-    go malformed q f = let z : ◌≡◌ {A = ℕ} 0 1 = cc in let y : ⊥ = omega arith in absurd y
+    go : (p : Parsed ℕ) → numeral_of (drop at s) ≡ p → numeral_answer s p ≡ Some it → NumeralFound s at it
+    go (parsed w rest) q f = let same : found_in s (capped w) rest ≡ it = cc in
+        found s at w rest it q (ap (λ (x : Found ℕ). x.value) same) (ap (λ (x : Found ℕ). x.next) same)
+    go malformed q f = cc
 
 -- where it is not, there is none
-pub numeral_none : (s : List ℕ) (at : ℕ) → numeral_answer s (numeral_of (drop at s)) ≡ Malformed → numeral_of (drop at s) ≡ malformed
+pub numeral_none : (s : List ℕ) (p : Parsed ℕ) → numeral_answer s p ≡ None → p ≡ malformed
 unfolding numeral_answer
-numeral_none s at e = go (numeral_of (drop at s)) refl e
-  where
-    go : (p : Parsed ℕ) → numeral_of (drop at s) ≡ p → numeral_answer s p ≡ Malformed → numeral_of (drop at s) ≡ malformed
-    go (parsed w rest) q f = let z : ◌≡◌ {A = ℕ} 0 1 = cc in let y : ⊥ = omega arith in absurd y
-    go malformed q f = q
+numeral_none s (parsed w rest) e = cc
+numeral_none s malformed e = refl
 
 -- the bytes of a numeral, as `&s[at..next]` lends them, spell its value
 pub numeral_run : (s : List ℕ) (at next v : ℕ) → numeral_of (drop at s) ≡ parsed v (drop next s) → at ≤ next → next ≤ length s

@@ -3,40 +3,38 @@ use mathlib.Core.Path.{◌≡◌, refl, sym, ◌∙◌, ap}
 use mathlib.Core.Bool.{Bool, true, false, cond}
 use mathlib.Core.List.{List, [], ◌∷◌, ◌++◌}
 use Prim.Native.Nat.{ℕ, zero, suc, ◌+◌, ◌/◌, ◌%◌, ◌≤◌, ◌<◌}
-use native.Mathlib.Numerals.{add-one}
 use native.Mathlib.Omega.{arith}
 use lib.Dec.{ltb, eqb}
-use lib.ListN.{length, get_or, drop, drop_of_length-le}
-use lib.Seq.{drop-cons}
+use lib.ListN.{length}
 use borrow.Author.Tests.{ltb-true, eqb-true, eqb-false, lt-ltb, le-ltb, eq-eqb, ne_eqb}
+use Rattle.std.specs.Prelude.{Some}
+use Rattle.std.proofs.Common.{Ordering, Less, Equal, Greater}
+use Rattle.std.specs.Ordering.{MatchOrdering, is_lt, is_some_and, nat_cmp, partial_ordering_then}
+use Rattle.std.specs.Cmp.Lexicographic.{slice_partial_cmp}
+use Rattle.std.proofs.lemmas.Cmp.{ranked}
 use Rattle.numerals.specs.Bytes.{digit_zero}
 use Rattle.numerals.specs.Decimal.{decimal}
 use Rattle.numerals.specs.Order.{earlier, smaller_numeral, Compared}
 use Rattle.numerals.proofs.Cases.{clash, by_below, by_order}
 use Rattle.numerals.proofs.Decimals.{decimal_digit, decimal_more, decimal_some, digit_width, more_width}
 
--- ---- at a place of two lists
+-- ---- the library's order
 
--- nothing is before the end of the other
-pub earlier_end : (xs : List ℕ) → earlier xs [] ≡ false
+-- of two lists of one length it is this one
+pub library_earlier : (xs ys : List ℕ) → length xs ≡ length ys → is_some_and is_lt (slice_partial_cmp (λ x y. Some (nat_cmp x y)) xs ys) ≡ earlier xs ys
 unfolding earlier
-earlier_end [] = refl
-earlier_end (x ∷ xs) = refl
-
--- nor past it
-pub earlier_past : (xs ys : List ℕ) (i : ℕ) → length ys ≤ i → earlier (drop i xs) (drop i ys) ≡ false
-earlier_past xs ys i h = rw (drop_of_length-le ys h) (earlier_end (drop i xs))
-
--- the end is before nothing
-pub earlier_passed : (xs ys : List ℕ) (i : ℕ) → length xs ≤ i → earlier (drop i xs) ys ≡ false
-unfolding earlier
-earlier_passed xs ys i h = rw (drop_of_length-le xs h)
-
--- the bytes at the place decide if they differ
-pub earlier_next : (xs ys : List ℕ) (i : ℕ) → i < length xs → i < length ys → earlier (drop i xs) (drop i ys)
-    ≡ cond (eqb (get_or xs i 0) (get_or ys i 0)) (earlier (drop (i + 1) xs) (drop (i + 1) ys)) (ltb (get_or xs i 0) (get_or ys i 0))
-unfolding earlier
-earlier_next xs ys i h l = rw (drop-cons xs i 0 h, drop-cons ys i 0 l, add-one i)
+library_earlier [] [] e = refl
+library_earlier [] (y ∷ ys) e = let z : ⊥ = omega arith in absurd z
+library_earlier (x ∷ xs) [] e = let z : ⊥ = omega arith in absurd z
+library_earlier (x ∷ xs) (y ∷ ys) e = go (nat_cmp x y) (ranked x y (nat_cmp x y) refl) (library_earlier xs ys (omega arith))
+  where
+    go : (o : Ordering) → MatchOrdering o (x < y) (x ≡ y) (y < x)
+        → is_some_and is_lt (slice_partial_cmp (λ x y. Some (nat_cmp x y)) xs ys) ≡ earlier xs ys
+        → is_some_and is_lt (partial_ordering_then (Some o) (slice_partial_cmp (λ x y. Some (nat_cmp x y)) xs ys))
+        ≡ cond (eqb x y) (earlier xs ys) (ltb x y)
+    go Less h ih = rw (ne_eqb x y (omega arith), lt-ltb x y h)
+    go Equal h ih = rw (eq-eqb x y h) ih
+    go Greater h ih = rw (ne_eqb x y (omega arith), le-ltb x y (omega arith))
 
 -- ---- the order of lists
 

@@ -1,5 +1,5 @@
 -- Bytes written into a buffer one after another: what each write leaves, and how two in a row are one. Assumes nothing.
-use mathlib.Core.Path.{◌≡◌, sym, ◌∙◌}
+use mathlib.Core.Path.{◌≡◌, refl, sym, ◌∙◌}
 use mathlib.Core.List.{List, [], ◌∷◌, ◌++◌, append_assoc, append-nil}
 use Prim.Native.Nat.{ℕ, suc, ◌+◌, ◌≤◌, ◌<◌}
 use native.Mathlib.Nat.{add-zero, zero-add, add_assoc}
@@ -7,6 +7,9 @@ use native.Mathlib.Numerals.{add-one}
 use native.Mathlib.Omega.{arith}
 use lib.ListN.{length, set, take, drop, length-append, length-set, take-append-drop}
 use lib.Seq.{length-take-le, drop-cons, append_snoc, take_at, drop_at, drop-drop, set_split, get_or-set_same, take-set-le, drop-set-lt}
+use borrow.Rule.Slice.PartMut.{put_mid}
+use Rattle.std.proofs.lemmas.List.Edits.{paste_all}
+use Rattle.std.proofs.lemmas.Slice.{put_mid-paste}
 use Rattle.numerals.specs.Writing.{splice, Spliced}
 
 -- ---- one write
@@ -20,6 +23,12 @@ splice_none out at = rw (add-zero at, append-nil (take at out)) (take-append-dro
 pub splice_byte : (out : List ℕ) (at b : ℕ) → at < length out → set out at b ≡ splice out at (b ∷ [])
 unfolding splice
 splice_byte out at b h = set_split out at b h ∙ sym (rw (add-one at) (append_snoc (take at out) b (drop (suc at) out)))
+
+-- bytes copied into a part of the buffer are a write
+pub splice_pasted : (out : List ℕ) (at k : ℕ) (xs ys : List ℕ) → ys ≡ xs → k ≡ length xs → put_mid at k out ys ≡ splice out at xs
+unfolding splice
+splice_pasted out at k xs ys e q = put_mid-paste at k out ys xs (length xs) e (sym q) refl ∙ paste_all out at xs (length xs) refl
+    ∙ sym (append_assoc (take at out) xs (drop (at + length xs) out))
 
 -- ---- a write at the start
 

@@ -1,7 +1,6 @@
 -- Reading from the start of a list of bytes: what is there, and the bytes that follow. Numerals have any size here.
-use Rattle.std.specs.Prelude.{Bool, true, false, cond, ◌&&◌, List, [], ◌∷◌, ℕ, ◌+◌, ◌-◌, ◌*◌, eqb, length}
-use Rattle.numerals.specs.declared.read.Numeral.{Numeral}
-use Rattle.numerals.specs.declared.read.Numeral.TheVariants.{Number, Malformed}
+use Rattle.std.specs.Prelude.{Bool, true, false, cond, ◌&&◌, Option, Some, None, List, [], ◌∷◌, ℕ, ◌+◌, ◌-◌, ◌*◌, eqb, length}
+use Rattle.numerals.specs.declared.read.Found.{Found}
 use Rattle.numerals.specs.Bytes.{is_digit, digit_zero}
 use Rattle.numerals.specs.Decimal.{capped}
 
@@ -49,7 +48,11 @@ numeral_of (b ∷ u) =
 abbrev pub cursor_of : List ℕ → List ℕ → ℕ
 cursor_of s u = length s - length u
 
+-- the value that was found in the text s before its last bytes u
+abbrev pub found_in : {A : Type 0} → List ℕ → A → List ℕ → Found A
+found_in s a u = record { value = a; next = cursor_of s u }
+
 -- the program's answer of a numeral in the text s
-unfoldable pub numeral_answer : List ℕ → Parsed ℕ → Numeral
-numeral_answer s (parsed v u) = Number (capped v) (cursor_of s u)
-numeral_answer s malformed = Malformed
+unfoldable pub numeral_answer : List ℕ → Parsed ℕ → Option (Found ℕ)
+numeral_answer s (parsed v u) = Some (found_in s (capped v) u)
+numeral_answer s malformed = None

@@ -3,27 +3,21 @@ ghost use Rattle.std.specs.Prelude.{◌≡◌, [], ◌∷◌, ◌+◌, ◌≤◌
 ghost use Rattle.numerals.specs.Decimal.{decimal, signed_decimal};
 ghost use Rattle.numerals.specs.Writing.{Spliced};
 
+// Kept: digits are written here and not by the library's Display: the clauses promise the bytes that stand in a lent output (`Spliced`), and how many, before there is any.
 // How many digits the numeral of `v` has.
 pub fn width(v: u64) -> usize
     ensures { result ≡ length (decimal v) }
 {
-    let mut k = 1;
-    let mut rest = v;
-    while 10 <= rest {
-        rest = rest / 10;
-        k = k + 1;
-    }
-    k
+    let above_one = v.checked_ilog10().unwrap_or(0);
+    above_one as usize + 1
 }
 
 // How many bytes the numeral of `c` has, with its sign.
 pub fn signed_width(c: i64) -> usize
     ensures { result ≡ length (signed_decimal c) }
 {
-    if c < 0 {
-        return 1 + width(integers::magnitude(c));
-    }
-    width(integers::magnitude(c))
+    let digits = width(integers::magnitude(c));
+    if c < 0 { 1 + digits } else { digits }
 }
 
 // One byte; answers the cursor after it.
@@ -40,11 +34,7 @@ pub fn put_text(out: &mut [u8], at: usize, text: &[u8]) -> usize
     requires { at + length text.now ≤ length out.old }
     ensures { Spliced out.old at text.now result out.new }
 {
-    let mut i = 0;
-    while i < text.len() {
-        out[at + i] = text[i];
-        i = i + 1;
-    }
+    out[at..at + text.len()].copy_from_slice(text);
     at + text.len()
 }
 
@@ -54,12 +44,10 @@ pub fn put_number(out: &mut [u8], at: usize, v: u64) -> usize
     ensures { Spliced out.old at (decimal v) result out.new }
 {
     let end = at + width(v);
-    let mut i = end;
     let mut rest = v;
-    while at < i {
-        i = i - 1;
+    for i in (at..end).rev() {
         out[i] = b'0' + (rest % 10) as u8;
-        rest = rest / 10;
+        rest /= 10;
     }
     end
 }
@@ -69,9 +57,6 @@ pub fn put_signed(out: &mut [u8], at: usize, c: i64) -> usize
     requires { at + length (signed_decimal c) ≤ length out.old }
     ensures { Spliced out.old at (signed_decimal c) result out.new }
 {
-    if c < 0 {
-        let digits = put_byte(out, at, b'-');
-        return put_number(out, digits, integers::magnitude(c));
-    }
-    put_number(out, at, integers::magnitude(c))
+    let digits = if c < 0 { put_byte(out, at, b'-') } else { at };
+    put_number(out, digits, integers::magnitude(c))
 }

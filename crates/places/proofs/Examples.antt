@@ -2,7 +2,7 @@
 -- Both ways: the place of the term, and the term at the place. Assumes nothing.
 use mathlib.Core.Path.{◌≡◌, refl}
 use mathlib.Core.Bool.{true, false}
-use Rattle.places.specs.declared.Place.TheVariants.{At, Nowhere}
+use Rattle.std.specs.Prelude.{Some, None}
 use Rattle.places.specs.Numbering.{block_start, place_of_one, place_of_pair, place_of_two, find_two, block_up_to, block_of, offset_of, is_one, higher_at, lower_at}
 
 -- ---- quantity 3: +3 is literal 4, and +1 is literal 0
@@ -36,17 +36,17 @@ unfolding place_of_one block_start
 ones = (refl, refl, refl, refl)
 
 -- +1+2, +1-2, -1+2, -1-2 have places 4 to 7
-twos : (find_two 0 2 ≡ At 4) × (find_two 0 3 ≡ At 5) × (find_two 1 2 ≡ At 6) × (find_two 1 3 ≡ At 7)
+twos : (find_two 0 2 ≡ Some 4) × (find_two 0 3 ≡ Some 5) × (find_two 1 2 ≡ Some 6) × (find_two 1 3 ≡ Some 7)
 unfolding find_two place_of_two place_of_pair block_start
 twos = (refl, refl, refl, refl)
 
 -- with the higher quantity first they have the same ones
-twos_turned : (find_two 2 0 ≡ At 4) × (find_two 3 0 ≡ At 5) × (find_two 2 1 ≡ At 6) × (find_two 3 1 ≡ At 7)
+twos_turned : (find_two 2 0 ≡ Some 4) × (find_two 3 0 ≡ Some 5) × (find_two 2 1 ≡ Some 6) × (find_two 3 1 ≡ Some 7)
 unfolding find_two place_of_two place_of_pair block_start
 twos_turned = (refl, refl, refl, refl)
 
 -- +1+1 and +1-1 have none
-none : (find_two 0 0 ≡ Nowhere) × (find_two 0 1 ≡ Nowhere)
+none : (find_two 0 0 ≡ None) × (find_two 0 1 ≡ None)
 unfolding find_two
 none = (refl, refl)
 

@@ -1,4 +1,3 @@
 -- The laws of the numbering that proofs above cite.
 pub mod Numbering
-mod Fits
 mod Examples

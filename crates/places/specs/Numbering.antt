@@ -1,8 +1,6 @@
 -- The numbering of terms (document 01, 'The table'): each term of one or two quantities has its place, counted from 0. Literals are codes:
 -- quantity q has 2(q - 1) with + and 2(q - 1) + 1 with -.
-use Rattle.std.specs.Prelude.{Bool, cond, ℕ, zero, suc, ◌+◌, ◌-◌, ◌*◌, ◌/◌, ◌%◌, leb, ltb, eqb}
-use Rattle.places.specs.declared.Place.{Place}
-use Rattle.places.specs.declared.Place.TheVariants.{At, Nowhere}
+use Rattle.std.specs.Prelude.{Bool, cond, ℕ, zero, suc, ◌+◌, ◌-◌, ◌*◌, ◌/◌, ◌%◌, leb, ltb, eqb, Option, Some, None}
 
 -- where the block of quantity j + 1 starts; so a table over n quantities has block_start n words
 unfoldable pub block_start : ℕ → ℕ
@@ -21,8 +19,8 @@ unfoldable pub place_of_two : ℕ → ℕ → ℕ
 place_of_two x y = cond (ltb x y) (place_of_pair x y) (place_of_pair y x)
 
 -- where the term of two literals stands; two of one quantity have no place
-unfoldable pub find_two : ℕ → ℕ → Place
-find_two x y = cond (eqb (x / 2) (y / 2)) Nowhere (At (place_of_two x y))
+unfoldable pub find_two : ℕ → ℕ → Option ℕ
+find_two x y = cond (eqb (x / 2) (y / 2)) None (Some (place_of_two x y))
 
 -- the largest j, up to the first number, whose block starts at the place k or before it
 unfoldable pub block_up_to : ℕ → ℕ → ℕ

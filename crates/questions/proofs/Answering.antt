@@ -10,7 +10,6 @@ use lib.IntN.{ℤ}
 use lib.Signed.{le_z, ◌≤ℤ◌}
 use Rattle.integers.proofs.Parts.{linear, le_z_true, le_le_z}
 use Rattle.words.specs.Change.{word_at}
-use Rattle.places.specs.declared.Place.TheVariants.{At}
 use Rattle.places.specs.Numbering.{block_start}
 use Rattle.rules.specs.declared.rule.Rule.{Rule}
 use Rattle.rules.specs.Meaning.{Assignment, Meets, bound_of}
@@ -25,9 +24,10 @@ use Rattle.tables.proofs.Values.{meets_at, at_meets}
 use Rattle.tightening.specs.Meaning.{TightTable}
 use Rattle.questions.specs.Questions.{answer_of}
 use Rattle.questions.specs.Promises.{Answers}
+use Rattle.std.specs.Prelude.{Some}
 
 -- an assignment meets a question exactly where it meets its bound, a doubled term's halved, on the term at its place
-pub at_question : (k : ℕ) (question : Rule) → find_place (halved_of question) ≡ At k → (σ : Assignment) → Meets σ (rule_at k (bound_of (halved_of question))) ↔ Meets σ question
+pub at_question : (k : ℕ) (question : Rule) → find_place (halved_of question) ≡ Some k → (σ : Assignment) → Meets σ (rule_at k (bound_of (halved_of question))) ↔ Meets σ question
 at_question k question e σ =
     rw (found_in_order (halved_of question) k e) (Iff.trans (in_order_meaning σ (halved_of question)) (halved_meaning σ question))
 
@@ -35,7 +35,7 @@ at_question k question e σ =
 met_larger : (k : ℕ) (c d : ℤ) (σ : Assignment) → c ≤ℤ d → Meets σ (rule_at k c) → Meets σ (rule_at k d)
 met_larger k c d σ h m = at_meets σ k d (omega (linear, h, meets_at σ k c m))
 
-module _ (n k : ℕ) (sheet tight : List ℤ) (question : Rule) (x : TightTable n (Satisfies n sheet) tight) (h : k < block_start n) (e : find_place (halved_of question) ≡ At k) where
+module _ (n k : ℕ) (sheet tight : List ℤ) (question : Rule) (x : TightTable n (Satisfies n sheet) tight) (h : k < block_start n) (e : find_place (halved_of question) ≡ Some k) where
   yes_means : answer_of (word_at tight k) question ≡ true → MetByAll (Satisfies n sheet) question
   yes_means y σ s =
       let p = both_true (has_rule (word_at tight k)) (le_z (word_at tight k) (bound_of (halved_of question))) y in

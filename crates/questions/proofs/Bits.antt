@@ -1,19 +1,21 @@
 -- The number of a list's answers: its bits are the answers, and there are no others. Assumes nothing.
-use mathlib.Core.Path.{◌≡◌, refl, ◌∙◌, ap}
+use mathlib.Core.Path.{◌≡◌, refl, sym, ◌∙◌, ap}
 use mathlib.Core.Bool.{Bool, true, false, cond}
 use mathlib.Core.List.{List}
 use Prim.Native.Nat.{ℕ, zero, suc, ◌+◌, ◌-◌, ◌*◌, ◌/◌, ◌%◌, ◌^◌, ◌≤◌, ◌<◌}
-use native.Mathlib.Nat.{add-mul-div_right, add-mul-mod_self_right}
+use native.Mathlib.Nat.{add-zero, add-mul-div_right, add-mul-mod_self_right}
 use native.Mathlib.Numerals.{add-one}
 use native.Mathlib.Omega.{arith}
 use lib.Dec.{ltb, eqb}
 use lib.IntN.{ℤ, pos}
 use lib.ListN.{length}
-use lib.Pow.{pow_pos, pow-add, high}
+use lib.Pow.{pow_mono, pow_pos, pow-add, high}
+use mir.Syntax.{w64}
+use mir.Val.{Fits}
 use borrow.Author.Tests.{ltb-true, ltb-false}
 use Rattle.rules.proofs.Sets.{past_hidden}
 use Rattle.words.specs.Change.{word_at}
-use Rattle.questions.specs.Questions.{answer_at, yes_up_to, is_yes}
+use Rattle.questions.specs.Questions.{max_questions, answer_at, yes_up_to, is_yes}
 use Rattle.questions.specs.Replies.{answer_values}
 
 -- ---- one bit more
@@ -84,6 +86,20 @@ module _ (t list : List ℤ) where
   -- and past them there is none
   pub yes_past : (m i : ℕ) → m ≤ i → is_yes (yes_up_to t list m) i ≡ false
   yes_past m i l = past_hidden m (yes_up_to t list m) (yes_below m) (suc i) (omega arith)
+
+-- the bit of the present question, as the shift makes it, put above those of the ones before it
+module _ (t list : List ℤ) (i k bits : ℕ) (few : i < max_questions) (at : k ≡ i) (e : bits ≡ yes_up_to t list i) where
+  shifted : (1 * 2 ^ k) % 2 ^ 64 ≡ 2 ^ i
+  shifted = rw at (omega (arith, pow_mono {i = suc i} {j = 64} few))
+
+  pub put_room : Fits w64 (bits + (1 * 2 ^ k) % 2 ^ 64)
+  put_room = rw (shifted, e) (record { fits = omega (arith, yes_below t list i, pow_mono {i = suc i} {j = 64} few) })
+
+  pub put_yes : true ≡ answer_at t list i → bits + (1 * 2 ^ k) % 2 ^ 64 ≡ yes_up_to t list (i + 1)
+  put_yes y = rw (shifted, e, yes_more t list i, ← y)
+
+  pub put_no : false ≡ answer_at t list i → bits ≡ yes_up_to t list (i + 1)
+  put_no y = rw (e, yes_more t list i, ← y) (sym (add-zero (yes_up_to t list i)))
 
 -- two tables that give the same answers give the same number
 pub yes_same : (t u list : List ℤ) (m : ℕ) → ((i : ℕ) → i < m → answer_at t list i ≡ answer_at u list i) → yes_up_to t list m ≡ yes_up_to u list m

@@ -12,18 +12,16 @@ use lib.IntN.{ℤ}
 use borrow.Author.Tests.{ltb-true, ltb-false}
 use Rattle.rules.specs.declared.rule.Rule.{Rule}
 use Rattle.rules.specs.declared.refusal.Refusal.TheVariants.{OutOfLimit, Cancelling}
-use Rattle.tables.specs.declared.given.Given.{Given}
-use Rattle.tables.specs.declared.given.Given.TheVariants.{Stated, Outside}
-use Rattle.tables.specs.declared.given.Given.TheVariants.{Vanishes}
-use Rattle.tables.specs.declared.reply.Reply.TheVariants.{Done, Refused}
 use Rattle.tables.specs.Tables.{cancels}
 use Rattle.tables.specs.Meaning.{Cancels}
-use Rattle.tables.specs.Given.{GivenWithin, given_within}
+use Rattle.tables.specs.Given.{Given, GivenWithin, given_within}
 use Rattle.tables.proofs.Tests.{clash, both_true, fails, not_so}
 use Rattle.tables.proofs.Giving.{within_test, cancels_test}
 use Rattle.questions.specs.Questions.{first_of, second_of, bound_word, question_at, questions_within, none_cancels}
 use Rattle.questions.specs.Meaning.{QuestionsWithin, NoneCancels}
 use Rattle.questions.specs.Inner.{QuestionGiven, list_checks}
+use Rattle.std.specs.Prelude.{Ok, Err}
+use Rattle.tables.specs.declared.given.Misstated.TheVariants.{Outside, Vanishes}
 
 -- a test of each below m, and one of m, is a test of each below m + 1
 all_more : {P : ℕ → Type 0} (m : ℕ) (a b : Bool) → ((a ≡ true) ↔ ((i : ℕ) → i < m → P i)) → ((b ≡ true) ↔ P m) → (◌&&◌ a b ≡ true) ↔ ((i : ℕ) → i < suc m → P i)
@@ -112,14 +110,14 @@ module _ (n : ℕ) (list : List ℤ) where
     next w = within_more n list i ∙ rw (c.within, (within_test n (first_of list i) (second_of list i) (bound_word list i)).1 w)
 
     -- it is +q-q,
-    pub checked_cancels : g ≡ Vanishes → Checked n list (i + 1) true
+    pub checked_cancels : g ≡ Err Vanishes → Checked n list (i + 1) true
     checked_cancels e = let w = q.cancelled.0 e in record {
       within = next w.0;
       flagged = none_more list i ∙ rw ((cancels_test (question_at list i)).1 w.1) (and-false (none_cancels list i));
     }
 
     -- or it is not
-    pub checked_stated : (r : Rule) → g ≡ Stated r → Checked n list (i + 1) flag
+    pub checked_stated : (r : Rule) → g ≡ Ok r → Checked n list (i + 1) flag
     checked_stated r e = let w = (q.stated r).0 e in record {
       within = next w.0;
       flagged = none_more list i ∙ rw (not_so (cancels_test (question_at list i)) w.1, c.flagged) (and-true (not flag));
@@ -127,15 +125,15 @@ module _ (n : ℕ) (list : List ℤ) where
 
   -- ---- the reply
 
-  pub reply_outside : (i m : ℕ) (g : Given) → i < m → QuestionGiven n list i g → g ≡ Outside → Refused (OutOfLimit 0) ≡ list_checks n list m
+  pub reply_outside : (i m : ℕ) (g : Given) → i < m → QuestionGiven n list i g → g ≡ Err Outside → Err (OutOfLimit 0) ≡ list_checks n list m
   unfolding list_checks
   reply_outside i m g h q e = rw (within_outside n list i m h (q.outside.0 e))
 
   -- with all of them behind
-  pub reply_cancels : (m : ℕ) → Checked n list m true → Refused (Cancelling 0) ≡ list_checks n list m
+  pub reply_cancels : (m : ℕ) → Checked n list m true → Err (Cancelling 0) ≡ list_checks n list m
   unfolding list_checks
   reply_cancels m c = rw (c.within, c.flagged)
 
-  pub reply_done : (m : ℕ) → Checked n list m false → Done ≡ list_checks n list m
+  pub reply_done : (m : ℕ) → Checked n list m false → Ok tt ≡ list_checks n list m
   unfolding list_checks
   reply_done m c = rw (c.within, c.flagged)

@@ -1,14 +1,11 @@
 -- What the functions inside ask and answer: for those who read the code.
-use Rattle.std.specs.Prelude.{◌≡◌, List, ℕ, ◌+◌, ◌*◌, ◌≤◌, ℤ, length}
+use Rattle.std.specs.Prelude.{◌≡◌, List, ℕ, ◌+◌, ◌*◌, ◌≤◌, ℤ, length, Ok}
 use Rattle.places.specs.Numbering.{block_start}
 use Rattle.rules.specs.declared.refusal.Refusal.TheVariants.{OutOfLimit, Cancelling}
 use Rattle.rules.specs.Limits.{max_quantities}
 use Rattle.rules.specs.Refusing.{passed, AllMet}
-use Rattle.tables.specs.declared.reply.Reply.{Reply}
-use Rattle.tables.specs.declared.reply.Reply.TheVariants.{Done}
-use Rattle.tables.specs.declared.given.Given.{Given}
-use Rattle.tables.specs.Replies.{check}
-use Rattle.tables.specs.Given.{GivenAs, GivenWithin}
+use Rattle.tables.specs.Replies.{Reply, check}
+use Rattle.tables.specs.Given.{Given, GivenAs, GivenWithin}
 use Rattle.tables.specs.Meaning.{NoneAbove, Cancels}
 use Rattle.questions.specs.Questions.{max_questions, first_of, second_of, bound_word, question_at, questions_within, none_cancels}
 use Rattle.questions.specs.Meaning.{QuestionsWithin, NoneCancels, ask_needs_then}
@@ -20,7 +17,7 @@ QuestionGiven n list i r = GivenAs n (first_of list i) (second_of list i) (bound
 
 -- the checks of the first m questions: 3, then 4
 unfoldable pub list_checks : ℕ → List ℤ → ℕ → Reply
-list_checks n list m = check (questions_within n list m) (OutOfLimit 0) (check (none_cancels list m) (Cancelling 0) Done)
+list_checks n list m = check (questions_within n list m) (OutOfLimit 0) (check (none_cancels list m) (Cancelling 0) (Ok tt))
 
 -- question i + 1 has a place in a table over n quantities
 pub record Answerable (n : ℕ) (tight list : List ℤ) (i : ℕ) : Type 0 where
@@ -46,5 +43,5 @@ pub record AskReady (n : ℕ) (t list : List ℤ) (w : ℕ) : Type 0 where
 
 -- the call's checks before 5: a refusal is the call's reply, and where they are done the needs are met
 pub record AskChecked (n : ℕ) (t list : List ℤ) (w : ℕ) (r : Reply) : Type 0 where
-  pub reply : r ≡ ask_checks n t list w Done
-  pub ready : r ≡ Done → AskReady n t list w
+  pub reply : r ≡ ask_checks n t list w (Ok tt)
+  pub ready : r ≡ Ok tt → AskReady n t list w

@@ -1,8 +1,7 @@
 -- What the call and the answer to one question promise: the reply and every lent word, for every input, and what yes and no mean.
-use Rattle.std.specs.Prelude.{Bool, true, false, ◌≡◌, ◌↔◌, List, ℕ, ◌≤◌, ◌<◌, ℤ, pos, length}
+use Rattle.std.specs.Prelude.{Bool, true, false, ◌≡◌, ◌↔◌, List, ℕ, ◌≤◌, ◌<◌, ℤ, pos, length, Some, Ok}
 use Rattle.words.specs.Change.{word_at}
 use Rattle.words.specs.Lent.{Lent}
-use Rattle.places.specs.declared.Place.TheVariants.{At}
 use Rattle.places.specs.Numbering.{block_start}
 use Rattle.rules.specs.declared.rule.Rule.{Rule}
 use Rattle.rules.specs.Refusal.{refused_as}
@@ -11,11 +10,10 @@ use Rattle.rules.specs.Steps.{halved_of}
 use Rattle.tables.specs.Places.{find_place}
 use Rattle.tables.specs.Meaning.{Satisfies, Unsatisfiable, MetByAll, Breaks}
 use Rattle.tightening.specs.Meaning.{TightTable}
-use Rattle.questions.specs.declared.reply.Asked.{Asked}
-use Rattle.questions.specs.declared.reply.Asked.TheVariants.{Answered}
+use Rattle.questions.specs.declared.reply.Answers.{Answers as AnswersGiven}
 use Rattle.questions.specs.Questions.{question_count, question_at, answer_of, word_for, is_yes}
 use Rattle.questions.specs.Meaning.{ask_needs_then, ask_needs}
-use Rattle.questions.specs.Replies.{asked_returned, asked_number}
+use Rattle.questions.specs.Replies.{Asked, asked_returned, asked_number}
 use Rattle.questions.specs.Asking.{ask_reply, changes_workspace}
 
 -- ---- one question
@@ -24,7 +22,7 @@ use Rattle.questions.specs.Asking.{ask_reply, changes_workspace}
 -- the sheet meets the question as written
 pub record Answers (word : ℤ) (question : Rule) (r : Bool) : Type 0 where
   pub reply : r ≡ answer_of word question
-  pub right : (n k : ℕ) (sheet tight : List ℤ) → TightTable n (Satisfies n sheet) tight → k < block_start n → find_place (halved_of question) ≡ At k → word ≡ word_at tight k
+  pub right : (n k : ℕ) (sheet tight : List ℤ) → TightTable n (Satisfies n sheet) tight → k < block_start n → find_place (halved_of question) ≡ Some k → word ≡ word_at tight k
       → (r ≡ true) ↔ MetByAll (Satisfies n sheet) question
 
 -- ---- a list of questions
@@ -53,4 +51,4 @@ pub record QuestionsAsked (n : ℕ) (table list workspace : List ℤ) (r : Asked
   pub none : AllMet (ask_needs_then n table list (length workspace) passed) → (asked_number r ≡ 5) ↔ Unsatisfiable n table
   pub lent : Lent (block_start n) (changes_workspace r) workspace workspace'
   pub told : asked_number r ≡ 0 → AnswersTold n table list (asked_returned r).values
-  pub answered : (count answers : ℕ) → r ≡ Answered count answers → ListAnswers n table list workspace' answers
+  pub answered : (answers : AnswersGiven) → r ≡ Ok answers → ListAnswers n table list workspace' answers.bits

@@ -1,10 +1,8 @@
 -- The questions of a list (document 02, [3]): rules as written, each of three words, first and second signed quantity, 0 for no second, and bound. And their answers from a tight table,
 -- which compute.
-use Rattle.std.specs.Prelude.{Bool, true, cond, not, ◌&&◌, List, ℕ, zero, suc, ◌+◌, ◌*◌, ◌/◌, ◌^◌, ℤ}
+use Rattle.std.specs.Prelude.{Bool, true, cond, not, ◌&&◌, List, ℕ, zero, suc, ◌+◌, ◌*◌, ◌/◌, ◌^◌, ℤ, Option, Some, None}
 use Rattle.std.specs.Int.Signed.{le_z}
 use Rattle.words.specs.Change.{word_at}
-use Rattle.places.specs.declared.Place.{Place}
-use Rattle.places.specs.declared.Place.TheVariants.{At, Nowhere}
 use Rattle.rules.specs.declared.rule.Rule.{Rule}
 use Rattle.rules.specs.Bits.{bit_at}
 use Rattle.rules.specs.Limits.{no_rule}
@@ -55,9 +53,9 @@ abbrev pub answer_of : ℤ → Rule → Bool
 answer_of word question = has_rule word && le_z word (bound_of (halved_of question))
 
 -- the word of a table at a place; where there is no place, none
-abbrev pub word_there : List ℤ → Place → ℤ
-word_there t (At k) = word_at t k
-word_there t Nowhere = no_rule
+abbrev pub word_there : List ℤ → Option ℕ → ℤ
+word_there t (Some k) = word_at t k
+word_there t None = no_rule
 
 -- the word that a question is answered from: that of its term, of a doubled one the term taken once
 abbrev pub word_for : List ℤ → Rule → ℤ

@@ -9,8 +9,5 @@ use rules::sheet::Sheet;
 pub fn answer(word: i64, question: Rule) -> bool
     ensures { Answers word question result }
 {
-    if word < Sheet::NO_RULE {
-        return word <= question.halved().bound();
-    }
-    false
+    word < Sheet::NO_RULE && word <= question.halved().bound()
 }

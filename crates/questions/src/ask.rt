@@ -1,12 +1,12 @@
 // The call: a list of questions put to one sheet.
+// Kept: the table, the list and the workspace stay parameters of their own: what may not change, as the clause of `ask` (`QuestionsAsked`) speaks of each, and the C interface lends each.
 ghost use Rattle.std.specs.Prelude.{length};
 ghost use Rattle.questions.specs.Inner.{AskReady};
 ghost use Rattle.questions.specs.Promises.{QuestionsAsked};
 
-use crate::reply::Asked;
+use crate::reply::{Answers, Asked};
 use crate::{check, list};
 use rules::refusal::Refusal;
-use tables::reply::Reply;
 use tightening::key;
 
 // Tightens the sheet once, in the workspace, with no quantity hidden, and answers every question from one word of the tight table; or 5 where no integers satisfy the sheet.
@@ -15,11 +15,12 @@ fn answer_list(n: usize, table: &[i64], questions: &[i64], workspace: &mut [i64]
     ensures { QuestionsAsked n table.now questions.now workspace.old result workspace.new }
 {
     if key::tighten_sheet(n, 0, table, workspace) {
-        return Asked::Refused(Refusal::NoAssignment);
+        return Err(Refusal::NoAssignment);
     }
-    let count = list::count(questions.len());
-    let answers = list::answer_all(n, workspace, questions, count);
-    Asked::Answered { count, answers }
+    Ok(Answers {
+        count: list::count(questions.len()),
+        bits: list::answer_all(n, workspace, questions),
+    })
 }
 
 // Answers each question of a list, three words each: whether every assignment of the sheet's table over `n` quantities meets it. The workspace needs 2n² words; where the questions are answered
@@ -27,9 +28,6 @@ fn answer_list(n: usize, table: &[i64], questions: &[i64], workspace: &mut [i64]
 pub fn ask(n: usize, table: &[i64], questions: &[i64], workspace: &mut [i64]) -> Asked
     ensures { QuestionsAsked n table.now questions.now workspace.old result workspace.new }
 {
-    let checked = check::check(n, table, questions, workspace.len());
-    match checked {
-        Reply::Refused(refusal) => Asked::Refused(refusal),
-        Reply::Done => answer_list(n, table, questions, workspace),
-    }
+    check::check(n, table, questions, workspace.len())?;
+    answer_list(n, table, questions, workspace)
 }

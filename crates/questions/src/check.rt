@@ -16,22 +16,19 @@ pub(crate) fn check(n: usize, table: &[i64], questions: &[i64], workspace: usize
     ensures { AskChecked n table.now questions.now workspace result }
 {
     if !table::serves(n, table.len()) {
-        return Reply::Refused(Refusal::Size);
+        return Err(Refusal::Size);
     }
     let count = list::count(questions.len());
-    if count < 1 {
-        return Reply::Refused(Refusal::ListSize);
-    }
-    if MOST_QUESTIONS < count {
-        return Reply::Refused(Refusal::ListSize);
+    if !(1..=MOST_QUESTIONS).contains(&count) {
+        return Err(Refusal::ListSize);
     }
     let needed = table::size(n);
     if workspace < needed {
-        return Reply::Refused(Refusal::TooShort { needed });
+        return Err(Refusal::TooShort { needed });
     }
     let most = paper::bound_limit(Paper::Sheet, n, 0);
     if !limit::is_table_in(table, needed, most) {
-        return Reply::Refused(Refusal::OutOfLimit { line: 0 });
+        return Err(Refusal::OutOfLimit { line: 0 });
     }
-    list::check(n, questions, count)
+    list::check(n, questions)
 }

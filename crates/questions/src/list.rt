@@ -1,90 +1,77 @@
 // A list of questions, three words each: first and second signed quantity, 0 for no second, and bound. Words past the last whole question are not looked at.
-ghost use Rattle.std.specs.Prelude.{◌≡◌, ◌+◌, ◌*◌, ◌≤◌, length};
+ghost use Rattle.std.specs.Prelude.{◌≡◌, ◌≤◌, length};
 ghost use Rattle.rules.specs.Limits.{max_quantities};
 ghost use Rattle.questions.specs.Questions.{question_count, answer_at, yes_up_to};
 ghost use Rattle.questions.specs.Inner.{QuestionGiven, list_checks, Answerable, AllAnswerable};
 
 use crate::answer;
-use places::Place;
 use rules::refusal::Refusal;
-use tables::given::Given;
+use tables::given::{Given, Misstated};
 use tables::reply::Reply;
 use tables::{given, place};
+
+// The words of a question.
+const WORDS: usize = 3;
 
 // The questions that a list of so many words has.
 pub(crate) fn count(words: usize) -> usize
     ensures { result ≡ question_count words }
 {
-    words / 3
+    words / WORDS
 }
 
-// Question `i + 1` of the list, as a rule on a sheet over `n` quantities.
-fn question(n: usize, questions: &[i64], i: usize) -> Given
-    requires { (n ≤ max_quantities) × (3 * i + 3 ≤ length questions.now) }
-    ensures { QuestionGiven n questions.now i result }
+// A question as a rule on a sheet over `n` quantities.
+fn rule_of(n: usize, question: &[i64]) -> Given
+    requires { (n ≤ max_quantities) × (3 ≤ length question.now) }
+    ensures { QuestionGiven n question.now 0 result }
 {
-    given::of_numbers(
-        n,
-        questions[3 * i],
-        questions[3 * i + 1],
-        questions[3 * i + 2],
-    )
+    given::of_numbers(n, question[0], question[1], question[2])
 }
 
-// The first `m` questions: 3 where one is outside the limits of a sheet's rule, then 4 where one is +q-q, each over all of them.
-pub(crate) fn check(n: usize, questions: &[i64], m: usize) -> Reply
-    requires { (n ≤ max_quantities) × (3 * m ≤ length questions.now) }
-    ensures { result ≡ list_checks n questions.now m }
+// The questions: 3 where one is outside the limits of a sheet's rule, then 4 where one is +q-q, each over all of them.
+pub(crate) fn check(n: usize, questions: &[i64]) -> Reply
+    requires { n ≤ max_quantities }
+    ensures { result ≡ list_checks n questions.now (question_count (length questions.now)) }
 {
+    // Kept: a flag, not `?` on each question: what may not change, as 3 in any question comes before 4 in one before it (`list_checks`).
     let mut cancels = false;
-    let mut i = 0;
-    while i < m {
-        let given = question(n, questions, i);
-        match given {
-            Given::Outside => {
-                return Reply::Refused(Refusal::OutOfLimit { line: 0 });
-            }
-            Given::Vanishes => {
-                cancels = true;
-            }
-            Given::Stated(_) => {}
+    for question in questions.chunks_exact(WORDS) {
+        match rule_of(n, question) {
+            Err(Misstated::Outside) => return Err(Refusal::OutOfLimit { line: 0 }),
+            Err(Misstated::Vanishes) => cancels = true,
+            Ok(_) => {}
         }
-        i = i + 1;
     }
     if cancels {
-        return Reply::Refused(Refusal::Cancelling { line: 0 });
+        return Err(Refusal::Cancelling { line: 0 });
     }
-    Reply::Done
+    Ok(())
 }
 
-// The answer to question `i + 1` by the word of its term in a tight table. Questions that passed the check are rules, and have a place.
-fn answer_at(n: usize, tight: &[i64], questions: &[i64], i: usize) -> bool
-    requires { Answerable n tight.now questions.now i }
-    ensures { result ≡ answer_at tight.now questions.now i }
+// The answer to a question by the word of its term in a tight table. Questions that passed the check are rules, and have a place.
+fn answer_to(n: usize, tight: &[i64], question: &[i64]) -> bool
+    requires { Answerable n tight.now question.now 0 }
+    ensures { result ≡ answer_at tight.now question.now 0 }
 {
-    let given = question(n, questions, i);
-    let Given::Stated(rule) = given else {
+    let Ok(rule) = rule_of(n, question) else {
         return false;
     };
-    let place = place::place_of(rule.halved());
-    let Place::At(k) = place else {
+    let Some(k) = place::place_of(rule.halved()) else {
         return false;
     };
     answer::answer(tight[k], rule)
 }
 
-// The answers to the first `m` questions as a number: bit i is that to question i + 1.
-pub(crate) fn answer_all(n: usize, tight: &[i64], questions: &[i64], m: usize) -> u64
-    requires { AllAnswerable n tight.now questions.now m }
-    ensures { result ≡ yes_up_to tight.now questions.now m }
+// The answers to the questions as a number: bit i is that to question i + 1.
+pub(crate) fn answer_all(n: usize, tight: &[i64], questions: &[i64]) -> u64
+    requires { AllAnswerable n tight.now questions.now (question_count (length questions.now)) }
+    ensures { result ≡ yes_up_to tight.now questions.now (question_count (length questions.now)) }
 {
-    let mut answers = 0;
-    let mut i = 0;
-    while i < m {
-        if answer_at(n, tight, questions, i) {
-            answers = answers + (1 << i);
+    let mut bits = 0;
+    for (i, question) in questions.chunks_exact(WORDS).enumerate() {
+        if answer_to(n, tight, question) {
+            bits += 1 << i;
         }
-        i = i + 1;
     }
-    answers
+    bits
 }

@@ -1,6 +1,7 @@
 -- Each way of checking a text: its size or its header is refused, or the lines of its rules decide. Assumes nothing.
-use mathlib.Core.Path.{◌≡◌, refl, sym, ◌∙◌, ap, ap₂}
+use mathlib.Core.Path.{◌≡◌, refl, sym, ◌∙◌, ap}
 use mathlib.Core.List.{List, ◌++◌}
+use Rattle.std.specs.Prelude.{Err}
 use Prim.Native.Nat.{ℕ, ◌+◌}
 use native.Mathlib.Omega.{arith}
 use lib.ListN.{length, drop, length-append, length-drop}
@@ -9,11 +10,9 @@ use Rattle.rules.specs.declared.refusal.Refusal.{Refusal}
 use Rattle.rules.specs.Limits.{max_quantities, bound_range, bound_limit, max_rules}
 use Rattle.lines.specs.Spelling.{Line, Written, quantities, hidden, rules, quantities_key, rules_key, line_text, all_within}
 use Rattle.lines.specs.Lines.{Judged, accepted, refused, never, between, count_line, hidden_line, count_judged, hidden_judged}
-use Rattle.rules.specs.Hidden.{set_of}
 use Rattle.lines.proofs.Spellings.{quantities_sound, hidden_sound, rules_sound}
 use Rattle.lines.proofs.Found.{by_accepted}
-use Rattle.reading.specs.declared.check.Checked.TheVariants.{Passed}
-use Rattle.reading.specs.declared.check.Checked.TheVariants.{Refused as Failed}
+use Rattle.reading.specs.declared.check.Passed.{Passed}
 use Rattle.reading.specs.Texts.{Contents, lines_text, header_text}
 use Rattle.reading.specs.Reading.{onward, rules_from, lines_from, check_text, check_header, checked_of, checked_rules}
 use Rattle.reading.proofs.Limits.{list_limit}
@@ -52,36 +51,39 @@ header_end c s u v w e d g =
 -- ---- each way of the check
 
 -- the size or the header is refused
-pub header_checked : (paper : Paper) (s : List ℕ) (f : Refusal) → check_header s ≡ refused f → Failed f ≡ checked_of (check_text paper s)
+pub header_checked : (paper : Paper) (s : List ℕ) (f : Refusal) → check_header s ≡ refused f → Err f ≡ checked_of (check_text paper s)
 unfolding check_text lines_from checked_of
 header_checked paper s f e = sym (ap checked_of (header_ends s _ f e))
 
 -- the lines of the rules decide, in whatever order they may be: as many are accepted as the header says
-module _ (s : List ℕ) (n set m body : ℕ) (h : HeaderFound s n set m body) where
-  pub lines_checked : (j : Judged (List Written)) → ((ws : List Written) (x : List ℕ) → j ≡ accepted ws x → length ws ≡ m)
-      → checked_rules n set m body j ≡ checked_of (onward j (λ rs. accepted (record { count = n; hiddens = h.members; written = rs })))
+module _ (s : List ℕ) (p : Passed) (h : HeaderFound s p) where
+  abbrev n : ℕ
+  n = p.quantities
+
+  pub lines_checked : (j : Judged (List Written)) → ((ws : List Written) (x : List ℕ) → j ≡ accepted ws x → length ws ≡ p.rules)
+      → checked_rules p j ≡ checked_of (onward j (λ rs. accepted (record { count = n; hiddens = h.members; written = rs })))
   unfolding onward checked_of checked_rules
-  lines_checked j count = rw h.told (go j refl)
+  lines_checked j count = go j refl
     where
       made : List Written → Contents
       made ws = record { count = n; hiddens = h.members; written = ws }
 
-      begins : (ws : List Written) → length ws ≡ m → body ≡ length (header_text (made ws))
+      begins : (ws : List Written) → length ws ≡ p.rules → p.body ≡ length (header_text (made ws))
       begins ws k =
-          omega (arith, header_end (made ws) s h.second h.third (drop body s) h.counts h.hides (rw k h.rules), length-drop body s, h.inside)
+          omega (arith, header_end (made ws) s h.second h.third (drop p.body s) h.counts h.hides (rw k h.rules), length-drop p.body s, h.inside)
 
-      go : (i : Judged (List Written)) → j ≡ i → checked_rules n (set_of h.members) m body i ≡ checked_of (onward i (λ rs. accepted (made rs)))
-      go (accepted ws x) q = let k : length ws ≡ m = count ws x q in ap₂ (Passed n (set_of h.members)) (sym k) (begins ws k)
+      go : (i : Judged (List Written)) → j ≡ i → checked_rules p i ≡ checked_of (onward i (λ rs. accepted (made rs)))
+      go (accepted ws x) q = let k = count ws x q in rw (← h.told, k, ← begins ws k)
       go (refused f) q = refl
 
   -- in any order
-  pub rules_checked : (paper : Paper) → checked_rules n set m body (rules_from n (bound_limit paper n set) m 4 (drop body s)) ≡ checked_of (check_text paper s)
+  pub rules_checked : (paper : Paper) → checked_rules p (rules_from n (bound_limit paper n p.hidden) p.rules 4 (drop p.body s)) ≡ checked_of (check_text paper s)
   unfolding check_text lines_from
-  rules_checked paper = rw (← limit, lines_checked (rules_from n range m 4 (drop body s)) (λ ws x q. (rules_count n range m 4 (drop body s) ws x q).0))
-      (sym (ap checked_of (header_goes s _ n set m body h)))
+  rules_checked paper = rw (← limit, lines_checked (rules_from n range p.rules 4 (drop p.body s)) (λ ws x q. (rules_count n range p.rules 4 (drop p.body s) ws x q).0))
+      (sym (ap checked_of (header_goes s _ p h)))
     where
       range : ℕ
       range = bound_range paper n (length h.members)
 
-      limit : range ≡ bound_limit paper n set
+      limit : range ≡ bound_limit paper n p.hidden
       limit = sym (list_limit paper n h.members h.increase h.within) ∙ ap (bound_limit paper n) (sym h.told)

@@ -12,9 +12,8 @@ use Rattle.rules.specs.declared.paper.Paper.TheVariants.{Sheet}
 use Rattle.rules.specs.declared.refusal.Refusal.TheVariants.{Size, Malformed, OutOfLimit}
 use Rattle.rules.specs.Refusal.{refused_as}
 use Rattle.lines.specs.Lines.{refused}
-use Rattle.reading.specs.declared.check.Checked.{Checked}
 use Rattle.reading.specs.Meaning.{LineFails, malformed_at, outside_at, cancels_at, FailsFor, Readable}
-use Rattle.reading.specs.Reading.{check_text, checked_returned}
+use Rattle.reading.specs.Reading.{Checked, check_text, checked_returned}
 use Rattle.reading.specs.Promises.{TextChecked}
 use Rattle.reading.proofs.Means.{text_means, small_check}
 use Rattle.reading.proofs.Frauds.{reading}

@@ -2,6 +2,7 @@
 use mathlib.Core.Path.{◌≡◌, refl, sym}
 use mathlib.Core.Bool.{Bool, true, false, cond, not, ◌&&◌, beq}
 use mathlib.Core.List.{List, [], ◌∷◌}
+use Rattle.std.specs.Prelude.{Ok}
 use Prim.Native.Nat.{ℕ, zero, suc, ◌+◌, ◌-◌, ◌*◌, ◌/◌, ◌<◌, ◌≤◌}
 use native.Mathlib.Omega.{arith}
 use lib.Dec.{leb, eqb}
@@ -16,7 +17,6 @@ use Rattle.rules.specs.declared.rule.Rule.TheVariants.{One, Two}
 use Rattle.rules.specs.Limits.{no_rule}
 use Rattle.rules.specs.Literal.{negated, literal_of, quantity_within}
 use Rattle.rules.specs.Steps.{is_none, rule_of, halved_of}
-use Rattle.tables.specs.declared.reply.Reply.TheVariants.{Done}
 use Rattle.tables.specs.Tables.{has_rule, rule_reply}
 use Rattle.tables.proofs.Lists.{AllAccepted}
 use Rattle.tables.proofs.Tests.{clash, both_true}
@@ -91,16 +91,16 @@ opposite_cancels false false p q h g e f = omega arith
 
 -- a rule of two literals that are not opposite
 two_accepted : (n limit x y : ℕ) (c : ℤ) → limit < cap → x / 2 < n → y / 2 < n → (y ≡ negated x → ⊥) → Within (pos limit) c
-    → rule_reply n (halved_of (Two x y c)) ≡ Done
+    → rule_reply n (halved_of (Two x y c)) ≡ Ok tt
 unfolding halved_of
 two_accepted n limit x y c below h g d w = go (eqb x y)
   where
-    go : (b : Bool) → rule_reply n (cond b (One x (half c)) (Two x y c)) ≡ Done
+    go : (b : Bool) → rule_reply n (cond b (One x (half c)) (Two x y c)) ≡ Ok tt
     go true = sym (one_inside n x (half c) true h (within_rule limit (half c) below (within_half w)))
     go false = sym (two_inside n x y c true false h g (within_rule limit c below w) (ne_eqb y (negated x) d))
 
 -- the rule that a fine line writes
-pub fine_accepted : (n limit : ℕ) (r : Written) → limit < cap → Fine n limit (rule r) → rule_reply n (halved_of (written_rule r)) ≡ Done
+pub fine_accepted : (n limit : ℕ) (r : Written) → limit < cap → Fine n limit (rule r) → rule_reply n (halved_of (written_rule r)) ≡ Ok tt
 unfolding line_within cancelling written_rule rule_of halved_of
 fine_accepted n limit (one x c) below f =
     let p = both_true (quantity_within n x.quantity) (leb (nat_abs c) limit) f.within in

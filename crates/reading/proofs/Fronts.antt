@@ -2,6 +2,7 @@
 use mathlib.Core.Path.{◌≡◌, refl, sym, ◌∙◌, ap}
 use mathlib.Core.Bool.{Bool, true, false, cond}
 use mathlib.Core.List.{List, [], ◌∷◌, ◌++◌}
+use Rattle.std.specs.Prelude.{Some, None, Ok}
 use Prim.Native.Nat.{ℕ, ◌/◌, ◌≤◌, ◌<◌}
 use native.Mathlib.Omega.{arith}
 use lib.Dec.{eqb}
@@ -11,13 +12,11 @@ use lib.Seq.{length-take-le, drop_at, set-append_left}
 use borrow.Author.Tests.{eqb-false}
 use Rattle.integers.specs.Bound.{smaller}
 use Rattle.words.specs.Change.{word_at, lowered}
-use Rattle.places.specs.declared.Place.TheVariants.{At, Nowhere}
 use Rattle.places.specs.Numbering.{block_start, find_two, place_of_two}
 use Rattle.rules.specs.declared.rule.Rule.{Rule}
 use Rattle.rules.specs.declared.rule.Rule.TheVariants.{One, Two, Nothing}
 use Rattle.rules.specs.Limits.{no_rule}
 use Rattle.rules.specs.Steps.{halved_of}
-use Rattle.tables.specs.declared.reply.Reply.TheVariants.{Done}
 use Rattle.tables.specs.Places.{find_place}
 use Rattle.tables.specs.Tables.{rule_reply, put_at, put_halved, put_rule, put_all, empty_table}
 use Rattle.tables.proofs.Places.{place_of, has_place_below}
@@ -35,13 +34,13 @@ lowered_front t v k w h = rw (get_or-append t v (pos 0) k h) (set-append_left t 
 
 module _ (n : ℕ) (t v : List ℤ) (l : block_start n ≤ length t) where
   -- an accepted rule has its place in the first part, or none
-  halved_front : (r : Rule) → rule_reply n r ≡ Done → put_halved (t ++ v) r ≡ put_halved t r ++ v
+  halved_front : (r : Rule) → rule_reply n r ≡ Ok tt → put_halved (t ++ v) r ≡ put_halved t r ++ v
   unfolding put_halved put_at find_place place_of find_two
   halved_front (One x c) e = lowered_front t v _ c (omega (arith, has_place_below n (One x c) (one_accepted n x c e).0))
   halved_front (Two x y c) e = go (eqb (x / 2) (y / 2)) refl
     where
       go : (b : Bool) → eqb (x / 2) (y / 2) ≡ b
-          → put_at (t ++ v) (cond b Nowhere (At (place_of_two x y))) c ≡ put_at t (cond b Nowhere (At (place_of_two x y))) c ++ v
+          → put_at (t ++ v) (cond b None (Some (place_of_two x y))) c ≡ put_at t (cond b None (Some (place_of_two x y))) c ++ v
       go true q = refl
       go false q =
           let a = two_accepted n x y c e in
@@ -50,12 +49,12 @@ module _ (n : ℕ) (t v : List ℤ) (l : block_start n ≤ length t) where
   halved_front (Nothing c) e = refl
 
 -- with its doubled term halved first
-put_front : (n : ℕ) (t v : List ℤ) (r : Rule) → block_start n ≤ length t → rule_reply n (halved_of r) ≡ Done → put_rule (t ++ v) r ≡ put_rule t r ++ v
+put_front : (n : ℕ) (t v : List ℤ) (r : Rule) → block_start n ≤ length t → rule_reply n (halved_of r) ≡ Ok tt → put_rule (t ++ v) r ≡ put_rule t r ++ v
 unfolding put_rule
 put_front n t v r l e = halved_front n t v l (halved_of r) e
 
 -- so the words past the first part stay
-pub put_past : (n : ℕ) (t : List ℤ) (r : Rule) → block_start n ≤ length t → rule_reply n (halved_of r) ≡ Done
+pub put_past : (n : ℕ) (t : List ℤ) (r : Rule) → block_start n ≤ length t → rule_reply n (halved_of r) ≡ Ok tt
     → drop (block_start n) (put_rule t r) ≡ drop (block_start n) t
 put_past n t r l e =
     ap (λ (x : List ℤ). drop (block_start n) (put_rule x r)) (sym (take-append-drop (block_start n) t))

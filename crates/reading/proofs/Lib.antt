@@ -24,6 +24,7 @@ pub mod Headers
 pub mod Fronts
 pub mod Filling
 pub mod FillingOnce
+pub mod Running
 pub mod ReadTexts
 pub mod Frauds
 pub mod Edges

@@ -2,6 +2,7 @@
 use mathlib.Core.Path.{◌≡◌, refl, sym, ◌∙◌, ap, subst₂}
 use mathlib.Core.List.{List, ◌++◌}
 use mathlib.Core.Logic.{◌↔◌}
+use Rattle.std.specs.Prelude.{Ok, Err}
 use Prim.Native.Nat.{ℕ, ◌<◌, ◌≤◌}
 use native.Mathlib.Omega.{arith}
 use lib.IntN.{ℤ, pos}
@@ -15,11 +16,9 @@ use Rattle.tables.specs.Tables.{table_of, smallest_at}
 use Rattle.tables.specs.Meaning.{Satisfies, MeetsAll}
 use Rattle.tables.proofs.Lists.{table_of_length, table_of_meaning, table_of_smallest}
 use Rattle.lines.specs.Spelling.{written_rules}
-use Rattle.reading.specs.declared.read.Reading.{Reading}
-use Rattle.reading.specs.declared.read.Reading.TheVariants.{Accepted, Refused}
 use Rattle.reading.specs.Texts.{Contents}
 use Rattle.reading.specs.Meaning.{Reads}
-use Rattle.reading.specs.Reading.{read_reply, filled, read_table, reading_number}
+use Rattle.reading.specs.Reading.{Reading, read_reply, filled, read_table, reading_number}
 use Rattle.reading.specs.Promises.{TableRead, ReadInto}
 use Rattle.reading.proofs.Means.{reads_check}
 use Rattle.reading.proofs.FineRules.{contents_accepted}
@@ -56,7 +55,7 @@ front_satisfied n a v σ e = (to, of)
     }
 
 -- the table stays where the text is refused
-pub reading_kept : (s : List ℕ) (t : List ℤ) (f : Refusal) → read_reply s (length t) ≡ Refused f → read_table s t ≡ t
+pub reading_kept : (s : List ℕ) (t : List ℤ) (f : Refusal) → read_reply s (length t) ≡ Err f → read_table s t ≡ t
 unfolding read_table
 reading_kept s t f e = rw e
 
@@ -91,8 +90,8 @@ module _ (s : List ℕ) (t : List ℤ) where
   kept h = go (read_reply s (length t)) refl h
     where
       go : (r : Reading) → read_reply s (length t) ≡ r → (reading_number r ≡ 0 → ⊥) → read_table s t ≡ t
-      go (Accepted n set) e h = absurd (h refl)
-      go (Refused f) e h = reading_kept s t f e
+      go (Ok sheet) e h = absurd (h refl)
+      go (Err f) e h = reading_kept s t f e
 
   -- all that reading into a table promises
   pub read_promised : (r : Reading) (t' : List ℤ) → r ≡ read_reply s (length t) → t' ≡ read_table s t → ReadInto s t r t'

@@ -2,6 +2,7 @@
 use mathlib.Core.Path.{◌≡◌, refl, ◌∙◌, ap, subst}
 use mathlib.Core.Bool.{cond}
 use mathlib.Core.List.{List}
+use Rattle.std.specs.Prelude.{Ok, Err}
 use Prim.Native.Nat.{ℕ, ◌≤◌, ◌<◌}
 use lib.IntN.{ℤ}
 use lib.ListN.{length}
@@ -13,13 +14,9 @@ use Rattle.rules.specs.declared.refusal.Refusal.TheVariants.{TooShort}
 use Rattle.rules.specs.Limits.{max_quantities}
 use Rattle.tables.specs.Tables.{table_size}
 use Rattle.lines.specs.Lines.{Judged, accepted, refused}
-use Rattle.reading.specs.declared.check.Checked.{Checked}
-use Rattle.reading.specs.declared.check.Checked.TheVariants.{Passed}
-use Rattle.reading.specs.declared.check.Checked.TheVariants.{Refused as Failed}
-use Rattle.reading.specs.declared.read.Reading.{Reading}
-use Rattle.reading.specs.declared.read.Reading.TheVariants.{Accepted, Refused}
+use Rattle.reading.specs.declared.check.Passed.{Passed}
 use Rattle.reading.specs.Texts.{Contents}
-use Rattle.reading.specs.Reading.{check_text, checked_of, reply_to, read_reply, filled, is_accepted, read_table, reply_after, table_after}
+use Rattle.reading.specs.Reading.{Checked, Reading, sheet_of, check_text, checked_of, reply_to, read_reply, filled, is_accepted, read_table, reply_after, table_after}
 use Rattle.reading.specs.Meaning.{Passes}
 use Rattle.reading.specs.Promises.{Vouched, CheckedRead, ReadInto}
 use Rattle.reading.proofs.CheckedTexts.{checked_passes}
@@ -29,31 +26,32 @@ use Rattle.reading.proofs.Headers.{passed_opened}
 -- ---- a text that was checked
 
 -- it was refused
-pub read_refused : (s : List ℕ) (t : List ℤ) (r : Checked) (f : Refusal) → r ≡ Failed f → CheckedRead s r t (Refused f) t
+pub read_refused : (s : List ℕ) (t : List ℤ) (r : Checked) (f : Refusal) → r ≡ Err f → CheckedRead s r t (Err f) t
 unfolding reply_after table_after
 read_refused s t r f q = record { reply = rw q; words = rw q }
 
-module _ (s : List ℕ) (r : Checked) (n set m body needed : ℕ) (q : r ≡ Passed n set m body) (v : Vouched s r) (k : needed ≡ table_size n) where
+module _ (s : List ℕ) (r : Checked) (p : Passed) (needed : ℕ) (q : r ≡ Ok p) (v : Vouched s r) (k : needed ≡ table_size p.quantities) where
   -- it passed
-  pub passes : Passes Sheet s n set m body
+  pub passes : Passes Sheet s p.quantities p.hidden p.rules p.body
   passes = subst (Vouched s) q v
 
   -- the words that are needed are those of the table
-  size_is : needed ≡ block_start n
+  size_is : needed ≡ block_start p.quantities
   unfolding table_size
-  size_is = let o = passed_opened Sheet s n set m body passes in k ∙ rw (le-leb 1 n o.some, le-leb n max_quantities o.most)
+  size_is = let o = passed_opened Sheet s p.quantities p.hidden p.rules p.body passes in
+      k ∙ rw (le-leb 1 p.quantities o.some, le-leb p.quantities max_quantities o.most)
 
   -- there is room
-  pub room : (words : ℕ) → needed ≤ words → block_start n ≤ words
+  pub room : (words : ℕ) → needed ≤ words → block_start p.quantities ≤ words
   room words l = rw (← size_is) l
 
   -- the table is too short
-  pub read_short : (t : List ℤ) → length t < needed → CheckedRead s r t (Refused (TooShort needed)) t
+  pub read_short : (t : List ℤ) → length t < needed → CheckedRead s r t (Err (TooShort needed)) t
   unfolding reply_after table_after
   read_short t l = record { reply = rw (q, ← size_is, lt-ltb (length t) needed l); words = rw (q, ← size_is, lt-ltb (length t) needed l) }
 
   -- it is filled
-  pub read_done : (t u : List ℤ) → needed ≤ length t → u ≡ filled (check_text Sheet s) t → CheckedRead s r t (Accepted n set) u
+  pub read_done : (t u : List ℤ) → needed ≤ length t → u ≡ filled (check_text Sheet s) t → CheckedRead s r t (Ok (sheet_of p.quantities p.hidden)) u
   unfolding reply_after table_after
   read_done t u l e = record { reply = rw (q, ← size_is, le-ltb (length t) needed l); words = rw (q, ← size_is, le-ltb (length t) needed l) e }
 
@@ -61,8 +59,8 @@ module _ (s : List ℕ) (r : Checked) (n set m body needed : ℕ) (q : r ≡ Pas
 
 -- a check that answers what the text writes may be relied on
 pub checked_vouched : (s : List ℕ) (r : Checked) → r ≡ checked_of (check_text Sheet s) → Vouched s r
-checked_vouched s (Passed n set m body) e = checked_passes Sheet s (Passed n set m body) e n set m body refl
-checked_vouched s (Failed f) e = tt
+checked_vouched s (Ok p) e = checked_passes Sheet s (Ok p) e p refl
+checked_vouched s (Err f) e = tt
 
 -- the reply by what the check has told is that by what the text writes
 pub reply_told : (words : ℕ) (j : Judged Contents) → reply_after words (checked_of j) ≡ reply_to words j

@@ -3,6 +3,7 @@
 use mathlib.Core.Path.{◌≡◌, ◌∙◌, ap}
 use mathlib.Core.List.{List, []}
 use mathlib.Core.Logic.{◌↔◌, ◌⊎◌, inl, inr}
+use Rattle.std.specs.Prelude.{Ok, Err}
 use Prim.Native.Nat.{ℕ, ◌<◌, ◌≤◌}
 use borrow.Author.Tests.{lt-ltb, le-ltb}
 use Rattle.places.specs.Numbering.{block_start}
@@ -14,10 +15,9 @@ use Rattle.rules.specs.Hidden.{hidden_in, set_of, is_listed}
 use Rattle.lines.specs.Lines.{Judged, accepted, refused}
 use Rattle.lines.specs.Spelling.{line_within}
 use Rattle.lines.proofs.SetMembers.{list_members}
-use Rattle.reading.specs.declared.read.Reading.TheVariants.{Accepted, Refused}
 use Rattle.reading.specs.Texts.{Contents}
 use Rattle.reading.specs.Meaning.{Reads, RefusedFor, AcceptedAs}
-use Rattle.reading.specs.Reading.{check_text, reply_to, read_reply}
+use Rattle.reading.specs.Reading.{sheet_of, check_text, reply_to, read_reply}
 use Rattle.reading.proofs.Means.{text_means, reads_check}
 use Rattle.reading.proofs.Answered.{ShortWith, AcceptedWith, refused_judged, accepted_judged}
 
@@ -33,16 +33,16 @@ module _ (s : List ℕ) (words : ℕ) where
   unfolding read_reply
   reply_checked j e = ap (reply_to words) e
 
-  pub reply_refused : (f : Refusal) → check_text Sheet s ≡ refused f → read_reply s words ≡ Refused f
+  pub reply_refused : (f : Refusal) → check_text Sheet s ≡ refused f → read_reply s words ≡ Err f
   unfolding reply_to
   reply_refused f e = reply_checked (refused f) e
 
   module _ (c : Contents) (p : Reads Sheet s c) where
-    pub reply_short : words < block_start c.count → read_reply s words ≡ Refused (TooShort (block_start c.count))
+    pub reply_short : words < block_start c.count → read_reply s words ≡ Err (TooShort (block_start c.count))
     unfolding reply_to
     reply_short h = reply_checked (accepted c []) (reads_check Sheet s c p) ∙ rw (lt-ltb words (block_start c.count) h)
 
-    pub reply_accepted : block_start c.count ≤ words → read_reply s words ≡ Accepted c.count (set_of c.hiddens)
+    pub reply_accepted : block_start c.count ≤ words → read_reply s words ≡ Ok (sheet_of c.count (set_of c.hiddens))
     unfolding reply_to
     reply_accepted h = reply_checked (accepted c []) (reads_check Sheet s c p) ∙ rw (le-ltb words (block_start c.count) h)
 
@@ -50,11 +50,11 @@ module _ (s : List ℕ) (words : ℕ) where
 
 module _ (s : List ℕ) (words : ℕ) where
   -- refused
-  pub reading_refused : (f : Refusal) → (read_reply s words ≡ Refused f) ↔ RefusedFor s words f
+  pub reading_refused : (f : Refusal) → (read_reply s words ≡ Err f) ↔ RefusedFor s words f
   unfolding read_reply
   reading_refused f = (λ e. why (told.0 e), λ h. told.1 (back h))
     where
-      told : (reply_to words (check_text Sheet s) ≡ Refused f) ↔ ((check_text Sheet s ≡ refused f) ⊎ ShortWith (check_text Sheet s) words f)
+      told : (reply_to words (check_text Sheet s) ≡ Err f) ↔ ((check_text Sheet s ≡ refused f) ⊎ ShortWith (check_text Sheet s) words f)
       told = refused_judged words (check_text Sheet s) f
 
       why : (check_text Sheet s ≡ refused f) ⊎ ShortWith (check_text Sheet s) words f → RefusedFor s words f
@@ -66,11 +66,11 @@ module _ (s : List ℕ) (words : ℕ) where
       back (inr (t, h)) = inr (record { contents = t.contents; rest = []; is = reads_check Sheet s t.contents t.reads; short = h })
 
   -- accepted
-  pub reading_accepted : (n set : ℕ) → (read_reply s words ≡ Accepted n set) ↔ AcceptedAs s words n set
+  pub reading_accepted : (n set : ℕ) → (read_reply s words ≡ Ok (sheet_of n set)) ↔ AcceptedAs s words n set
   unfolding read_reply
   reading_accepted n set = (λ e. why (told.0 e), λ h. told.1 (back h))
     where
-      told : (reply_to words (check_text Sheet s) ≡ Accepted n set) ↔ AcceptedWith (check_text Sheet s) words n set
+      told : (reply_to words (check_text Sheet s) ≡ Ok (sheet_of n set)) ↔ AcceptedWith (check_text Sheet s) words n set
       told = accepted_judged words (check_text Sheet s) n set
 
       why : AcceptedWith (check_text Sheet s) words n set → AcceptedAs s words n set

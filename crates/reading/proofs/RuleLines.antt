@@ -1,6 +1,7 @@
 -- The rule lines of a text, one after the other. Assumes nothing.
 use mathlib.Core.Path.{◌≡◌, refl, sym, ◌∙◌, ap}
 use mathlib.Core.List.{List, [], ◌∷◌}
+use Rattle.std.specs.Prelude.{Ok, Err}
 use Prim.Native.Nat.{ℕ, zero, suc, ◌+◌, ◌-◌, ◌≤◌, ◌<◌}
 use native.Mathlib.Omega.{arith}
 use lib.ListN.{length, drop, drop_of_length-le}
@@ -9,8 +10,7 @@ use Rattle.rules.specs.declared.refusal.Refusal.{Refusal}
 use Rattle.rules.specs.declared.refusal.Refusal.TheVariants.{Malformed}
 use Rattle.lines.specs.Spelling.{Written}
 use Rattle.lines.specs.Lines.{Judged, accepted, refused, rule_judged}
-use Rattle.reading.specs.declared.check.Checked.TheVariants.{Passed}
-use Rattle.reading.specs.declared.check.Checked.TheVariants.{Refused as Failed}
+use Rattle.reading.specs.declared.check.Passed.{Passed}
 use Rattle.reading.specs.Reading.{onward, rules_from, checked_rules}
 
 -- ---- one line after another
@@ -67,33 +67,33 @@ module _ (n limit m i : ℕ) (u : List ℕ) (h : i < m) where
 -- ---- what the checker has of it
 
 -- which rules there are does not matter to it
-pub checked_more : (n set m body : ℕ) (w : Written) (j : Judged (List Written))
-    → checked_rules n set m body (onward j (λ rs. accepted (w ∷ rs))) ≡ checked_rules n set m body j
+pub checked_more : (header : Passed) (w : Written) (j : Judged (List Written))
+    → checked_rules header (onward j (λ rs. accepted (w ∷ rs))) ≡ checked_rules header j
 unfolding onward checked_rules
-checked_more n set m body w (accepted rs u) = refl
-checked_more n set m body w (refused f) = refl
+checked_more header w (accepted rs u) = refl
+checked_more header w (refused f) = refl
 
-module _ (n set limit m body i : ℕ) where
+module _ (header : Passed) (n limit m i : ℕ) where
   -- a line that is refused ends it
   pub checked_ends : (u : List ℕ) (f : Refusal) → i < m → rule_judged n limit (i + 4) u ≡ refused f
-      → checked_rules n set m body (rules_from n limit (m - i) (i + 4) u) ≡ Failed f
+      → checked_rules header (rules_from n limit (m - i) (i + 4) u) ≡ Err f
   unfolding checked_rules
   checked_ends u f h e = rw (rules_ends n limit m i u h f e)
 
   -- after one that is accepted the others decide
   pub checked_goes : (u : List ℕ) (w : Written) (v : List ℕ) → i < m → rule_judged n limit (i + 4) u ≡ accepted w v
-      → checked_rules n set m body (rules_from n limit (m - i) (i + 4) u) ≡ checked_rules n set m body (rules_from n limit (m - (i + 1)) (i + 1 + 4) v)
-  checked_goes u w v h e = rw (rules_goes n limit m i u h w v e) (checked_more n set m body w (rules_from n limit (m - (i + 1)) (i + 1 + 4) v))
+      → checked_rules header (rules_from n limit (m - i) (i + 4) u) ≡ checked_rules header (rules_from n limit (m - (i + 1)) (i + 1 + 4) v)
+  checked_goes u w v h e = rw (rules_goes n limit m i u h w v e) (checked_more header w (rules_from n limit (m - (i + 1)) (i + 1 + 4) v))
 
   -- bytes after the last line refuse it
   pub checked_over : (s : List ℕ) (at : ℕ) → i ≤ m → m ≤ i → at < length s
-      → checked_rules n set m body (rules_from n limit (m - i) (i + 4) (drop at s)) ≡ Failed (Malformed (m + 4))
+      → checked_rules header (rules_from n limit (m - i) (i + 4) (drop at s)) ≡ Err (Malformed (m + 4))
   unfolding rules_from checked_rules
-  checked_over s at h l k = rw (none_left m i l, drop-cons s at 0 k) (ap (λ (j : ℕ). Failed (Malformed (j + 4))) (omega arith))
+  checked_over s at h l k = rw (none_left m i l, drop-cons s at 0 k) (ap (λ (j : ℕ). Err (Malformed (j + 4))) (omega arith))
 
   -- where nothing follows, all is read
   pub checked_done : (s : List ℕ) (at : ℕ) → m ≤ i → length s ≤ at
-      → checked_rules n set m body (rules_from n limit (m - i) (i + 4) (drop at s)) ≡ Passed n set m body
+      → checked_rules header (rules_from n limit (m - i) (i + 4) (drop at s)) ≡ Ok header
   unfolding rules_from checked_rules
   checked_done s at l k = rw (none_left m i l, drop_of_length-le s k)
 

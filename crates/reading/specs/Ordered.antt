@@ -1,7 +1,5 @@
 -- Rule lines read in place order (document 02, [5]), with the place that a rule may not be before. These are steps, which compute.
-use Rattle.std.specs.Prelude.{Bool, true, false, cond, List, [], ◌∷◌, ℕ, zero, suc, leb, ltb}
-use Rattle.places.specs.declared.Place.{Place}
-use Rattle.places.specs.declared.Place.TheVariants.{At, Nowhere}
+use Rattle.std.specs.Prelude.{Bool, true, false, cond, Option, Some, None, List, [], ◌∷◌, ℕ, zero, suc, leb, ltb}
 use Rattle.places.specs.Numbering.{place_of_one, place_of_pair}
 use Rattle.rules.specs.declared.refusal.Refusal.TheVariants.{Malformed, NotCanonical}
 use Rattle.rules.specs.declared.rule.Rule.{Rule}
@@ -12,15 +10,15 @@ use Rattle.lines.specs.Lines.{Judged, accepted, refused, rule_judged}
 use Rattle.reading.specs.Reading.{onward, rules_from}
 
 -- where a rule's term stands that is of one quantity, or of two with the lower one first; any other rule has no place here
-unfoldable pub canonical_place : Rule → Place
-canonical_place (One x c) = At (place_of_one x)
-canonical_place (Two x y c) = cond (ltb (quantity_of x) (quantity_of y)) (At (place_of_pair x y)) Nowhere
-canonical_place (Nothing c) = Nowhere
+unfoldable pub canonical_place : Rule → Option ℕ
+canonical_place (One x c) = Some (place_of_one x)
+canonical_place (Two x y c) = cond (ltb (quantity_of x) (quantity_of y)) (Some (place_of_pair x y)) None
+canonical_place (Nothing c) = None
 
 -- what follows a rule at a place, which may not be before the least one; else 9 at this line
-unfoldable pub from_place : {A : Type 0} → ℕ → ℕ → Place → (ℕ → Judged A) → Judged A
-from_place least line (At k) next = cond (leb least k) (next k) (refused (NotCanonical line))
-from_place least line Nowhere next = refused (NotCanonical line)
+unfoldable pub from_place : {A : Type 0} → ℕ → ℕ → Option ℕ → (ℕ → Judged A) → Judged A
+from_place least line (Some k) next = cond (leb least k) (next k) (refused (NotCanonical line))
+from_place least line None next = refused (NotCanonical line)
 
 -- so many rule lines, from the line of this number on, the first rule's place being the least one or after it and each other's after that of the one before; and then nothing more
 unfoldable pub ordered_from : ℕ → ℕ → ℕ → ℕ → ℕ → List ℕ → Judged (List Written)

@@ -1,5 +1,5 @@
 -- What the functions promise: the reply and every word, for every list of bytes, and what they mean by spellings.
-use Rattle.std.specs.Prelude.{◌≡◌, Bool, ◌↔◌, List, [], ◌∷◌, ◌++◌, ℕ, ◌<◌, ◌≤◌, ℤ, pos, length, drop}
+use Rattle.std.specs.Prelude.{◌≡◌, Bool, Ok, Err, ◌↔◌, List, [], ◌∷◌, ◌++◌, ℕ, ◌<◌, ◌≤◌, ℤ, pos, length, drop}
 use Rattle.words.specs.Change.{word_at}
 use Rattle.places.specs.Numbering.{block_start}
 use Rattle.rules.specs.declared.paper.Paper.{Paper}
@@ -11,16 +11,13 @@ use Rattle.rules.specs.Meaning.{Assignment}
 use Rattle.tables.specs.Tables.{empty_table, put_all, table_of, smallest_at}
 use Rattle.tables.specs.Meaning.{Satisfies, MeetsAll}
 use Rattle.lines.specs.Spelling.{Written, written_rules}
-use Rattle.lines.specs.Lines.{accepted}
-use Rattle.reading.specs.declared.check.Checked.{Checked}
-use Rattle.reading.specs.declared.check.Checked.TheVariants.{Passed}
-use Rattle.reading.specs.declared.check.Checked.TheVariants.{Refused as Failed}
-use Rattle.reading.specs.declared.read.Reading.{Reading}
+use Rattle.lines.specs.Lines.{Judged, accepted}
+use Rattle.reading.specs.declared.check.Passed.{Passed}
 use Rattle.reading.specs.Texts.{Contents}
 use Rattle.reading.specs.Meaning.{Reads, FailsFor, Passes, RefusedFor, AcceptedAs}
 use Rattle.reading.specs.Ordered.{lines_by}
 use Rattle.reading.specs.Reading.{filled as fill}
-use Rattle.reading.specs.Reading.{check_text, checked_of, checked_rules, read_reply, read_table, reply_after, table_after, text_accepted, checked_returned, reading_returned, reading_number}
+use Rattle.reading.specs.Reading.{Checked, Reading, check_text, checked_of, checked_rules, read_reply, read_table, reply_after, table_after, text_accepted, checked_returned, reading_returned, reading_number}
 
 -- a text checked: refused exactly for these reasons, and passed exactly where it is spelled so, as it is returned
 pub record TextChecked (paper : Paper) (s : List ℕ) (r : Checked) : Type 0 where
@@ -29,25 +26,29 @@ pub record TextChecked (paper : Paper) (s : List ℕ) (r : Checked) : Type 0 whe
   pub passed : (n set m body : ℕ)
       → (checked_returned r ≡ record { number = 0; values = pos n ∷ pos set ∷ pos m ∷ pos body ∷ [] }) ↔ Passes paper s n set m body
 
--- so many rule lines checked, in place order or in any. A table that is long enough is filled with their rules where all are accepted, and else its first 2n² words are free; a shorter one stays. No
+-- the rule lines of a text, by its header
+abbrev pub judged_rules : Bool → Passed → ℕ → List ℕ → Judged (List Written)
+judged_rules ordered header limit s = lines_by ordered header.quantities limit 0 header.rules 4 (drop header.body s)
+
+-- the rule lines of a text checked, in place order or in any. A table that is long enough is filled with their rules where all are accepted, and else its first 2n² words are free; a shorter one stays. No
 -- other word changes
-pub record RulesFilled (ordered : Bool) (n set limit m body : ℕ) (s : List ℕ) (before : List ℤ) (r : Checked) (after : List ℤ) : Type 0 where
-  pub reply : r ≡ checked_rules n set m body (lines_by ordered n limit 0 m 4 (drop body s))
-  pub filled : block_start n ≤ length before → (rs : List Written) → lines_by ordered n limit 0 m 4 (drop body s) ≡ accepted rs []
-      → after ≡ put_all (empty_table n ++ drop (block_start n) before) (written_rules rs)
-  pub short : length before < block_start n → after ≡ before
-  pub rest : drop (block_start n) after ≡ drop (block_start n) before
+pub record RulesFilled (ordered : Bool) (header : Passed) (limit : ℕ) (s : List ℕ) (before : List ℤ) (r : Checked) (after : List ℤ) : Type 0 where
+  pub reply : r ≡ checked_rules header (judged_rules ordered header limit s)
+  pub filled : block_start header.quantities ≤ length before → (rs : List Written) → judged_rules ordered header limit s ≡ accepted rs []
+      → after ≡ put_all (empty_table header.quantities ++ drop (block_start header.quantities) before) (written_rules rs)
+  pub short : length before < block_start header.quantities → after ≡ before
+  pub rest : drop (block_start header.quantities) after ≡ drop (block_start header.quantities) before
 
 -- a check's answer is true of a text: where it passed, the text is fine as a sheet, with what is answered. Nothing is asked of a refusal
 abbrev pub Vouched : List ℕ → Checked → Type 0
-Vouched s (Passed n set m body) = Passes Sheet s n set m body
-Vouched s (Failed f) = Unit {0}
+Vouched s (Ok p) = Passes Sheet s p.quantities p.hidden p.rules p.body
+Vouched s (Err f) = Unit {0}
 
 -- a text checked, and a table that is long enough for its n filled where it passed, a shorter one left. Where it is refused, the words that the largest table has are free; words past them stay
 pub record TextFilled (paper : Paper) (s : List ℕ) (table : List ℤ) (r : Checked) (table' : List ℤ) : Type 0 where
   pub checked : TextChecked paper s r
-  pub filled : (n set m body : ℕ) → r ≡ Passed n set m body → block_start n ≤ length table → table' ≡ fill (check_text paper s) table
-  pub short : (n set m body : ℕ) → r ≡ Passed n set m body → length table < block_start n → table' ≡ table
+  pub filled : (p : Passed) → r ≡ Ok p → block_start p.quantities ≤ length table → table' ≡ fill (check_text paper s) table
+  pub short : (p : Passed) → r ≡ Ok p → length table < block_start p.quantities → table' ≡ table
   pub rest : drop (block_start max_quantities) table' ≡ drop (block_start max_quantities) table
 
 -- a table holds what contents write: at each place the smallest bound that rules have there, in whatever order they stand; so what satisfies it meets the rules

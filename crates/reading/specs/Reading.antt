@@ -1,9 +1,11 @@
 -- Reading a text: its lines from the first, then the table (document 01, 'Returned to the caller').
-use Rattle.std.specs.Prelude.{Bool, true, false, cond, List, [], ◌∷◌, ◌++◌, ℕ, zero, suc, ltb, ℤ, pos, length, drop}
+use Rattle.std.specs.Prelude.{Bool, true, false, cond, Result, Ok, Err, List, [], ◌∷◌, ◌++◌, ℕ, zero, suc, ltb, ℤ, pos, length, drop}
 use Rattle.places.specs.Numbering.{block_start}
 use Rattle.rules.specs.declared.paper.Paper.{Paper}
-use Rattle.rules.specs.declared.paper.Paper.TheVariants.{Sheet}
+use Rattle.rules.specs.declared.paper.Paper.TheVariants.{Sheet as OfSheet}
+use Rattle.rules.specs.declared.refusal.Refusal.{Refusal}
 use Rattle.rules.specs.declared.refusal.Refusal.TheVariants.{Size, Malformed, TooShort}
+use Rattle.rules.specs.declared.sheet.Sheet.{Sheet}
 use Rattle.rules.specs.Hidden.{set_of}
 use Rattle.rules.specs.Limits.{max_quantities, bound_range, max_rules, max_text}
 use Rattle.rules.specs.Refusal.{Returned, refused_as, refusal_value}
@@ -11,12 +13,20 @@ use Rattle.tables.specs.Tables.{table_of}
 use Rattle.numerals.specs.Parsing.{cursor_of}
 use Rattle.lines.specs.Spelling.{Written, quantities_key, rules_key, written_rules}
 use Rattle.lines.specs.Lines.{Judged, accepted, refused, count_judged, hidden_judged, rule_judged}
-use Rattle.reading.specs.declared.check.Checked.{Checked}
-use Rattle.reading.specs.declared.check.Checked.TheVariants.{Passed}
-use Rattle.reading.specs.declared.check.Checked.TheVariants.{Refused as Failed}
-use Rattle.reading.specs.declared.read.Reading.{Reading}
-use Rattle.reading.specs.declared.read.Reading.TheVariants.{Accepted, Refused}
+use Rattle.reading.specs.declared.check.Passed.{Passed}
 use Rattle.reading.specs.Texts.{Contents, header_text}
+
+-- what a check answers: what the text's header writes and where its rule lines begin, or the refusal
+abbrev pub Checked : Type 0
+Checked = Result Passed Refusal
+
+-- what reading into a table answers: n and the hidden set, or the refusal
+abbrev pub Reading : Type 0
+Reading = Result Sheet Refusal
+
+-- a sheet's n and hidden set
+abbrev pub sheet_of : ℕ → ℕ → Sheet
+sheet_of n set = record { quantities = n; hidden = set }
 
 -- a line's answer taken apart: what follows goes on with its value, or its refusal ends the reading
 unfoldable pub onward : {A B : Type 0} → Judged A → (A → List ℕ → Judged B) → Judged B
@@ -61,29 +71,30 @@ check_header s =
 
 -- of a header n, the hidden set, the number of rules, and the cursor after it; or the refusal
 unfoldable pub header_of : List ℕ → Judged Header → Checked
-header_of s (accepted h u) = Passed h.count (set_of h.hiddens) h.rules (cursor_of s u)
-header_of s (refused r) = Failed r
+header_of s (accepted h u) = Ok (record { quantities = h.count; hidden = set_of h.hiddens; rules = h.rules; body = cursor_of s u })
+header_of s (refused r) = Err r
 
 -- of a text n, the hidden set, the number of rules, and the cursor at which the rule lines begin; or the refusal
 unfoldable pub checked_of : Judged Contents → Checked
-checked_of (accepted c u) = Passed c.count (set_of c.hiddens) (length c.written) (length (header_text c))
-checked_of (refused r) = Failed r
+checked_of (accepted c u) =
+    Ok (record { quantities = c.count; hidden = set_of c.hiddens; rules = length c.written; body = length (header_text c) })
+checked_of (refused r) = Err r
 
 -- of rule lines, where the header is read, the same; or their refusal
-unfoldable pub checked_rules : ℕ → ℕ → ℕ → ℕ → Judged (List Written) → Checked
-checked_rules n set m body (accepted rs u) = Passed n set m body
-checked_rules n set m body (refused r) = Failed r
+unfoldable pub checked_rules : Passed → Judged (List Written) → Checked
+checked_rules header (accepted rs u) = Ok header
+checked_rules header (refused r) = Err r
 
 -- ---- a sheet into a table
 
 -- the reply of reading into a table of so many words: the last check is its length
 unfoldable pub reply_to : ℕ → Judged Contents → Reading
 reply_to words (accepted c u) =
-    cond (ltb words (block_start c.count)) (Refused (TooShort (block_start c.count))) (Accepted c.count (set_of c.hiddens))
-reply_to words (refused r) = Refused r
+    cond (ltb words (block_start c.count)) (Err (TooShort (block_start c.count))) (Ok (sheet_of c.count (set_of c.hiddens)))
+reply_to words (refused r) = Err r
 
 unfoldable pub read_reply : List ℕ → ℕ → Reading
-read_reply s words = reply_to words (check_text Sheet s)
+read_reply s words = reply_to words (check_text OfSheet s)
 
 -- the table of a text's rules, put in one after the other; words past it stay
 unfoldable pub filled : Judged Contents → List ℤ → List ℤ
@@ -92,20 +103,21 @@ filled (refused r) t = t
 
 -- the reply is no refusal
 abbrev pub is_accepted : Reading → Bool
-is_accepted (Accepted n set) = true
-is_accepted (Refused r) = false
+is_accepted (Ok sheet) = true
+is_accepted (Err f) = false
 
 -- the table afterwards
 unfoldable pub read_table : List ℕ → List ℤ → List ℤ
-read_table s t = cond (is_accepted (read_reply s (length t))) (filled (check_text Sheet s) t) t
+read_table s t = cond (is_accepted (read_reply s (length t))) (filled (check_text OfSheet s) t) t
 
 -- the reply and the table where the text was checked before: by what the check has answered; the rules are those of the text
 unfoldable pub reply_after : ℕ → Checked → Reading
-reply_after words (Passed n set m body) = cond (ltb words (block_start n)) (Refused (TooShort (block_start n))) (Accepted n set)
-reply_after words (Failed r) = Refused r
+reply_after words (Ok p) =
+    cond (ltb words (block_start p.quantities)) (Err (TooShort (block_start p.quantities))) (Ok (sheet_of p.quantities p.hidden))
+reply_after words (Err f) = Err f
 
 unfoldable pub table_after : List ℕ → Checked → List ℤ → List ℤ
-table_after s r t = cond (is_accepted (reply_after (length t) r)) (filled (check_text Sheet s) t) t
+table_after s r t = cond (is_accepted (reply_after (length t) r)) (filled (check_text OfSheet s) t) t
 
 -- ---- as it is returned (document 01, 'Returned to the caller')
 
@@ -114,18 +126,18 @@ abbrev pub text_accepted : ℕ → ℕ → Returned
 text_accepted n set = record { number = 0; values = pos n ∷ pos set ∷ [] }
 
 abbrev pub reading_returned : Reading → Returned
-reading_returned (Accepted n set) = text_accepted n set
-reading_returned (Refused f) = refused_as f
+reading_returned (Ok sheet) = text_accepted sheet.quantities sheet.hidden
+reading_returned (Err f) = refused_as f
 
 abbrev pub reading_number : Reading → ℕ
 reading_number r = (reading_returned r).number
 
 -- a refusal's line or length as one number, 0 where there is none
 abbrev pub reading_value : Reading → ℕ
-reading_value (Accepted n set) = 0
-reading_value (Refused f) = refusal_value f
+reading_value (Ok sheet) = 0
+reading_value (Err f) = refusal_value f
 
 -- of a text that is checked: beside 0 stand n, the hidden set, the number of rules and the cursor at which their lines begin
 abbrev pub checked_returned : Checked → Returned
-checked_returned (Passed n set m body) = record { number = 0; values = pos n ∷ pos set ∷ pos m ∷ pos body ∷ [] }
-checked_returned (Failed f) = refused_as f
+checked_returned (Ok p) = record { number = 0; values = pos p.quantities ∷ pos p.hidden ∷ pos p.rules ∷ pos p.body ∷ [] }
+checked_returned (Err f) = refused_as f

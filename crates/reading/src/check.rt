@@ -1,4 +1,5 @@
 // A text checked: its size, then its lines from the first. Each line is read once, and a table that is at hand is filled meanwhile.
+// Kept: each line's answer is taken apart by let .. else and its refusal returned, where `?` would do as well: a rule of the project, document 01, 'The form to use in each place' (docs/DECISIONS.md, 'Forms of document 01').
 ghost use Rattle.std.specs.Prelude.{◌≡◌, ◌≤◌, ◌<◌};
 ghost use Rattle.numerals.specs.Decimal.{cap};
 ghost use Rattle.rules.specs.Limits.{max_quantities, max_rules};
@@ -6,9 +7,7 @@ ghost use Rattle.reading.specs.Reading.{check_header, header_of};
 ghost use Rattle.reading.specs.Promises.{RulesFilled, TextChecked, TextFilled};
 
 use crate::order;
-use lines::answer::Answer;
-use lines::{answer, count, hidden, rule};
-use places::Place;
+use lines::{count, hidden, rule};
 use rules::hidden::Set;
 use rules::paper;
 use rules::paper::Paper;
@@ -16,77 +15,63 @@ use rules::refusal::Refusal;
 use rules::sheet::Sheet;
 use tables::table;
 
-#[derive(Clone, Copy)]
-pub enum Checked {
-    // n, the hidden set, the number of rules, and the cursor at which their lines begin
-    Passed {
-        quantities: usize,
-        hidden: Set,
-        rules: usize,
-        body: usize,
-    },
-    Refused {
-        refusal: Refusal,
-    },
+// What the header of a text that passes writes, and where its rule lines begin.
+#[derive(Clone, Copy, PartialEq, Eq, Debug)]
+pub struct Passed {
+    pub quantities: usize,
+    pub hidden: Set,
+    // how many rules there are
+    pub rules: usize,
+    // the cursor at which their lines begin
+    pub body: usize,
 }
 
-// Checks the lines of `count` rules from the cursor `body` on, the first being line 4, and that nothing follows them; where they are to be `ordered`, also that each rule is in place order after the
-// one before. `n` and `hidden` go into the answer. A table that is long enough is filled with the rules meanwhile, and its words are free where a line is refused; a shorter one stays.
-// One loop serves both readings, since a second caller of the line's reader would keep it from being compiled into the loop.
+pub type Checked = Result<Passed, Refusal>;
+
+// Checks the rule lines of a text by its header, the first being line 4, and that nothing follows them; where they are to be `ordered`, also that each rule is in place order after the one before.
+// The header is handed back. A table that is long enough is filled with the rules meanwhile, and its words are free where a line is refused; a shorter one stays.
+// Kept: the flag `ordered`. One loop serves both readings, since a second caller of the line's reader would keep it from being compiled into the loop, which is slower.
 pub fn check_rules(
     s: &[u8],
     ordered: bool,
-    n: usize,
-    hidden: Set,
+    header: Passed,
     limit: u64,
-    count: usize,
-    body: usize,
     table: &mut [i64],
 ) -> Checked
-    requires { (1 ≤ n) × (n ≤ max_quantities) × (limit < cap) × (count ≤ max_rules) }
-    ensures { RulesFilled ordered n hidden limit count body s.now table.old result table.new }
+    requires { (1 ≤ header.quantities) × (header.quantities ≤ max_quantities) × (limit < cap) × (header.rules ≤ max_rules) }
+    ensures { RulesFilled ordered header limit s.now table.old result table.new }
 {
+    let n = header.quantities;
     let fills = table::size(n) <= table.len();
+    // neither call on the table refuses: it is long enough, and each rule is in its limits
     if fills {
-        table::empty(n, table);
+        let _ = table::empty(n, table);
     }
-    let mut at = body;
+    let mut at = header.body;
     // the place of the rule before, where they are to be in order and there is one
-    let mut last = 0;
-    let mut i = 0;
-    while i < count {
-        let got = rule::rule_line(s, at, n, limit, i + 4);
-        let Answer::Rule { rule, next } = got else {
-            return Checked::Refused {
-                refusal: answer::refusal(got),
-            };
+    let mut last = None;
+    for i in 0..header.rules {
+        let line = rule::rule_line(s, at, n, limit, i + 4);
+        let Ok(got) = line else {
+            return Err(line.unwrap_err());
         };
         if ordered {
-            let place = order::place_after(i, last, rule);
-            let Place::At(k) = place else {
-                return Checked::Refused {
-                    refusal: Refusal::NotCanonical { line: i + 4 },
-                };
-            };
-            last = k;
+            let place = order::place_after(last, got.value).ok_or(Refusal::NotCanonical {
+                line: i + 4,
+            })?;
+            last = Some(place);
         }
         if fills {
-            table::put(n, table, rule);
+            let _ = table::put(n, table, got.value);
         }
-        at = next;
-        i = i + 1;
+        at = got.next;
     }
     if at < s.len() {
-        return Checked::Refused {
-            refusal: Refusal::Malformed { line: count + 4 },
-        };
+        return Err(Refusal::Malformed {
+            line: header.rules + 4,
+        });
     }
-    Checked::Passed {
-        quantities: n,
-        hidden,
-        rules: count,
-        body,
-    }
+    Ok(header)
 }
 
 // Checks a text's size and the three lines of its header, whatever follows them; the cursor in the answer is that of the first rule line.
@@ -95,46 +80,26 @@ pub fn check_header(s: &[u8]) -> Checked
     ensures { result ≡ header_of s.now (check_header s.now) }
 {
     if Sheet::MAX_TEXT < s.len() {
-        return Checked::Refused {
-            refusal: Refusal::Size,
-        };
+        return Err(Refusal::Size);
     }
     let first = count::count_line(s, 0, b"quantities=", 1, Sheet::MAX_QUANTITIES, 1);
-    let Answer::Count {
-        value: n,
-        next: second_at,
-    } = first
-    else {
-        return Checked::Refused {
-            refusal: answer::refusal(first),
-        };
+    let Ok(quantities) = first else {
+        return Err(first.unwrap_err());
     };
-    let second = hidden::hidden_line(s, second_at, n, 2);
-    let Answer::Hidden {
-        set,
-        next: third_at,
-    } = second
-    else {
-        return Checked::Refused {
-            refusal: answer::refusal(second),
-        };
+    let second = hidden::hidden_line(s, quantities.next, quantities.value, 2);
+    let Ok(hidden) = second else {
+        return Err(second.unwrap_err());
     };
-    let third = count::count_line(s, third_at, b"rules=", 0, Sheet::MAX_RULES, 3);
-    let Answer::Count {
-        value: count,
-        next: body,
-    } = third
-    else {
-        return Checked::Refused {
-            refusal: answer::refusal(third),
-        };
+    let third = count::count_line(s, hidden.next, b"rules=", 0, Sheet::MAX_RULES, 3);
+    let Ok(rules) = third else {
+        return Err(third.unwrap_err());
     };
-    Checked::Passed {
-        quantities: n,
-        hidden: set,
-        rules: count,
-        body,
-    }
+    Ok(Passed {
+        quantities: quantities.value,
+        hidden: hidden.value,
+        rules: rules.value,
+        body: rules.next,
+    })
 }
 
 // Checks a text, taken as a sheet or a script: its size, the three lines of its header, then its rules, whose bounds the header limits. A table that is long enough for its n is filled
@@ -142,18 +107,9 @@ pub fn check_header(s: &[u8]) -> Checked
 pub fn check_filling(s: &[u8], paper: Paper, table: &mut [i64]) -> Checked
     ensures { TextFilled paper s.now table.old result table.new }
 {
-    let header = check_header(s);
-    let Checked::Passed {
-        quantities,
-        hidden,
-        rules,
-        body,
-    } = header
-    else {
-        return header;
-    };
-    let limit = paper::bound_limit(paper, quantities, hidden) as u64;
-    check_rules(s, false, quantities, hidden, limit, rules, body, table)
+    let header = check_header(s)?;
+    let limit = paper::bound_limit(paper, header.quantities, header.hidden) as u64;
+    check_rules(s, false, header, limit, table)
 }
 
 // Checks a text and fills no table.

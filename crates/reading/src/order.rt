@@ -3,41 +3,28 @@ ghost use Rattle.std.specs.Prelude.{◌≡◌};
 ghost use Rattle.reading.specs.Ordered.{canonical_place};
 ghost use Rattle.reading.specs.Inner.{place_after};
 
-use places::Place;
 use rules::rule::Rule;
 
 // Where a rule's term stands that is of one quantity, or of two with the lower one first; any other rule, as one with a doubled term, has no place here.
-fn canonical_place(rule: Rule) -> Place
+#[tactic(auto, using(crate::proofs::OrderedLines::lower_found), unfolding(crate::specs::Ordered::canonical_place))]
+fn canonical_place(rule: Rule) -> Option<usize>
     ensures { result ≡ canonical_place rule }
 {
     match rule {
-        Rule::One { literal, bound: _ } => Place::At(places::of_one(literal)),
-        Rule::Two {
-            first,
-            second,
-            bound: _,
-        } => {
-            if second / 2 <= first / 2 {
-                return Place::Nowhere;
-            }
-            places::of_two(first, second)
-        }
-        Rule::Nothing { bound: _ } => Place::Nowhere,
+        Rule::One { literal, .. } => Some(places::of_one(literal)),
+        Rule::Two { first, second, .. } if first / 2 < second / 2 => places::of_two(first, second),
+        Rule::Two { .. } | Rule::Nothing { .. } => None,
     }
 }
 
-// The place of the next rule after `i` others, of which the last stands at `last`; none where it is not after that one, or the rule has no place here.
-pub(crate) fn place_after(i: usize, last: usize, rule: Rule) -> Place
-    ensures { result ≡ place_after i last rule }
+// The place of the next rule, the place of the last one before it being given where there is one; none where it is not after that one, or the rule has no place here.
+#[tactic(auto, unfolding(crate::specs::Inner::not_before))]
+pub(crate) fn place_after(last: Option<usize>, rule: Rule) -> Option<usize>
+    ensures { result ≡ place_after last rule }
 {
-    let place = canonical_place(rule);
-    let Place::At(k) = place else {
-        return Place::Nowhere;
-    };
-    if 0 < i {
-        if k <= last {
-            return Place::Nowhere;
-        }
+    let place = canonical_place(rule)?;
+    if last.is_some_and(|before| place <= before) {
+        return None;
     }
-    Place::At(k)
+    Some(place)
 }

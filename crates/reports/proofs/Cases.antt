@@ -1,5 +1,6 @@
 -- Document 01's starred cases as texts: what *key* and *mark* print for them, which Starred.antt has in one table. Every case is computed by the definitions that the
 -- contracts cite. (All other cases are stored for the programs: tests/key, tests/mark, `cases`, `worked`.) Assumes nothing.
+use Rattle.std.specs.Prelude.{Ok, Err}
 use mathlib.Core.Path.{◌≡◌, refl, ◌∙◌}
 use mathlib.Core.Bool.{true, false, cond}
 use mathlib.Core.List.{List, [], ◌∷◌, ◌++◌}
@@ -35,9 +36,7 @@ use Rattle.reading.specs.Texts.{Contents, lines_text, header_text, sheet_text}
 use Rattle.reading.specs.Meaning.{rules_of}
 use Rattle.reading.specs.Reading.{onward, rules_from, lines_from, check_text}
 use Rattle.writing.specs.Writing.{written_of, rules_at, hidden_from, written_text, count_text}
-use Rattle.scripts.specs.declared.reply.TextMarking.{TextMarking}
-use Rattle.scripts.specs.declared.reply.TextMarking.TheVariants.{Marked, Refused}
-use Rattle.scripts.specs.Replies.{texts_returned}
+use Rattle.scripts.specs.Replies.{TextMarking, marked, texts_returned}
 use Rattle.scripts.specs.Marking.{room_checks, pair_checks, pair_reply, texts_reply}
 use Rattle.scripts.specs.Meaning.{own_lengths, set_in, AcceptedPair}
 use Rattle.reports.specs.Refusals.{refusal_text}
@@ -65,8 +64,8 @@ reply_for c = texts_reply (bytes c.sheet) (bytes c.script) (own_lengths max_quan
 
 -- the line of the assignment, which comes last where there is one
 abbrev pub shown_line : TextMarking → List ℤ → List ℕ
-shown_line (Marked n v) values = cond (is_shown v) (values_text (take n values)) []
-shown_line (Refused p f) values = []
+shown_line (Ok m) values = cond (is_shown m.verdict) (values_text (take m.quantities values)) []
+shown_line (Err r) values = []
 
 -- both texts give just that, whatever assignment shows it
 abbrev pub MarkPasses : MarkCase → Type 0
@@ -227,6 +226,6 @@ pub largest_passes : KeyPasses largest
 largest_passes = largest_found ∙ largest_spelled
 
 -- handed in as the script of its sheet it is equal, though no sheet may state its bound (document 02, request 1)
-pub largest_own : texts_reply (bytes largest.sheet) (bytes largest.printed) (own_lengths max_quantities) ≡ Marked 3 Equal
+pub largest_own : texts_reply (bytes largest.sheet) (bytes largest.printed) (own_lengths max_quantities) ≡ marked 3 Equal
 unfolding reckoning
 largest_own = refl

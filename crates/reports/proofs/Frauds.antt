@@ -11,7 +11,6 @@ use lib.IntN.{ℤ}
 use lib.ListN.{length, get_or, take, drop, length-append}
 use lib.Seq.{take-append_seam}
 use borrow.Author.Tests.{eqb-false}
-use Rattle.words.specs.Change.{word_at}
 use Rattle.numerals.specs.Bytes.{bytes}
 use Rattle.numerals.proofs.Decimals.{signed_some}
 use Rattle.rules.specs.declared.paper.Paper.TheVariants.{Sheet, Script}
@@ -24,18 +23,16 @@ use Rattle.lines.specs.Spelling.{written_rule, written_rules}
 use Rattle.reading.specs.Meaning.{rules_of}
 use Rattle.reading.proofs.Frauds.{contents_a}
 use Rattle.marking.specs.declared.verdict.Verdict.TheVariants.{Equal, Loose}
-use Rattle.scripts.specs.declared.reply.TextMarking.{TextMarking}
-use Rattle.scripts.specs.declared.reply.TextMarking.TheVariants.{Marked}
-use Rattle.scripts.specs.Replies.{texts_returned, is_text_marked, text_counts}
+use Rattle.scripts.specs.Replies.{TextMarking, marked, texts_returned, is_text_marked, text_counts}
 use Rattle.scripts.proofs.Judging.{accepted_reads}
 use Rattle.reports.specs.Reports.{key_report}
-use Rattle.reports.specs.Marks.{word_text, integers_text, values_text, verdict_text, mark_text}
+use Rattle.reports.specs.Marks.{word_text, further_text, integers_text, values_text, verdict_text, mark_text}
 use Rattle.reports.specs.Meaning.{KeyText, PrintedKey}
 use Rattle.reports.specs.Promises.{KeyTextMade, KeyPrinted, MarkPrinted}
 use Rattle.reports.proofs.PrintedReplies.{verdict_same}
 use Rattle.reports.proofs.KeyTexts.{key_told}
 use Rattle.reports.proofs.Reports.{key_made}
-use Rattle.reports.proofs.MarkTexts.{later_more_length, integers_length, values_length}
+use Rattle.reports.proofs.MarkTexts.{values_length}
 use Rattle.reports.proofs.Cases.{KeyCase, KeyPasses, shown_line, sheet_a, wide, narrow, halved_below, one_half, seen_late, unpaired}
 use Rattle.reports.proofs.Starred.{starred_pass}
 use Rattle.reports.proofs.Shown.{
@@ -155,7 +152,7 @@ equal_printed p e =
 -- the assignment has an integer for each of the three quantities
 pub three_integers : {out : List ℕ} {end : ℕ} {out' : List ℕ} (p : WidePrinted out end out') → 3 ≤ length p.values
 three_integers p =
-    let e : p.reply ≡ Marked 3 (Loose sum_rule) = p.judged.reply ∙ wide_loose in
+    let e : p.reply ≡ marked 3 (Loose sum_rule) = p.judged.reply ∙ wide_loose in
     let t = p.judged.accepted.0 (ap is_text_marked e) in
     let shown = ((p.judged.judged t).means.loose sum_rule (ap texts_returned e)).1 in
     let c : 3 ∷ [] ≡ t.of_sheet.count ∷ [] = sym (ap text_counts e) ∙ p.judged.counts t in
@@ -164,16 +161,11 @@ three_integers p =
 
 -- three integers joined by commas have at least five bytes
 three_long : (values : List ℤ) → 3 ≤ length values → 5 ≤ length (integers_text (take 3 values))
-three_long values h =
-    omega (
-      arith,
-      integers_length 3 values (omega arith) (omega arith),
-      later_more_length 2 values (omega arith) (omega arith),
-      later_more_length 1 values (omega arith) (omega arith),
-      signed_some (word_at values 0),
-      signed_some (word_at values 1),
-      signed_some (word_at values 2),
-    )
+unfolding integers_text further_text
+three_long [] h = omega arith
+three_long (a ∷ []) h = omega arith
+three_long (a ∷ b ∷ []) h = omega arith
+three_long (a ∷ b ∷ c ∷ values) h = simp length-append (omega (arith, signed_some a, signed_some b, signed_some c))
 
 -- a single 4 in the assignment's line
 pub four_alone : {out : List ℕ} {end : ℕ} {out' : List ℕ} → WidePrinted out end out' → take end out' ≡ bytes "verdict=loose\nrule=+1+3:5\nvalues=4\n" → ⊥

@@ -1,5 +1,6 @@
 -- What *mark* prints for two texts is what its contract promises: the text of the reply, which tells the refusal and its paper, or the verdict and what it
 -- means. Assumes nothing.
+use Rattle.std.specs.Prelude.{Ok, Err}
 use mathlib.Core.Path.{◌≡◌, refl, sym, ◌∙◌, ap}
 use mathlib.Core.List.{List, [], ◌++◌}
 use mathlib.Core.Logic.{◌↔◌}
@@ -15,13 +16,12 @@ use Rattle.rules.specs.Refusal.{refusal_number}
 use Rattle.tables.proofs.Tests.{clash}
 use Rattle.numerals.specs.Writing.{Spliced}
 use Rattle.numerals.proofs.Splices.{splice_start}
-use Rattle.marking.specs.declared.verdict.Verdict.{Verdict}
 use Rattle.marking.specs.declared.verdict.Verdict.TheVariants.{Equal}
 use Rattle.scripts.specs.declared.room.Lengths.{Lengths}
 use Rattle.scripts.specs.declared.reply.Subject.{Subject}
-use Rattle.scripts.specs.declared.reply.TextMarking.{TextMarking}
-use Rattle.scripts.specs.declared.reply.TextMarking.TheVariants.{Marked, Refused}
-use Rattle.scripts.specs.Replies.{text_number, is_text_marked, text_counts}
+use Rattle.scripts.specs.declared.reply.Marked.{Marked}
+use Rattle.scripts.specs.declared.reply.PaperRefusal.{PaperRefusal}
+use Rattle.scripts.specs.Replies.{TextMarking, text_number, is_text_marked, text_counts}
 use Rattle.scripts.specs.Meaning.{AcceptedPair, RefusedPair, OwnKeyText, own_lengths}
 use Rattle.scripts.specs.Promises.{TextsJudged, MarkedInOwnRoom}
 use Rattle.scripts.proofs.Sheets.{fine_table}
@@ -37,12 +37,12 @@ use Rattle.reports.proofs.MarkRoom.{accepted_room}
 -- ---- the text of a reply
 
 -- of a verdict
-pub reply_marked : {n : ℕ} {v : Verdict} {r : TextMarking} (values : List ℤ) → r ≡ Marked n v → mark_text r values ≡ verdict_text v (take n values)
+pub reply_marked : {m : Marked} {r : TextMarking} (values : List ℤ) → r ≡ Ok m → mark_text r values ≡ verdict_text m.verdict (take m.quantities values)
 unfolding mark_text
 reply_marked values e = rw e
 
 -- of a refusal
-pub reply_refused : {p : Subject} {f : Refusal} {r : TextMarking} (values : List ℤ) → r ≡ Refused p f → mark_text r values ≡ refused_mark_text p f
+pub reply_refused : {x : PaperRefusal} {r : TextMarking} (values : List ℤ) → r ≡ Err x → mark_text r values ≡ refused_mark_text x.paper x.refusal
 unfolding mark_text
 reply_refused values e = rw e
 
@@ -68,18 +68,18 @@ module _ {sheet script : List ℕ} {lent : Lengths} {r : TextMarking} {values : 
   verdict_printed t enough = go r refl
     where
       go : (s : TextMarking) → r ≡ s → VerdictText t (mark_text r values)
-      go (Marked n v) e =
+      go (Ok m) e =
           let c = j.counts t in
           let d = ap text_counts e in
-          let size : n ≡ t.of_sheet.count = cc in
+          let size : m.quantities ≡ t.of_sheet.count = cc in
           record {
-            verdict = v;
+            verdict = m.verdict;
             values = take t.of_sheet.count values;
             size = length-take-le t.of_sheet.count values enough;
             spelled = rw (← size) (reply_marked values e);
             judged = judged_firsts t _ values enough (rw e at (j.judged t));
           }
-      go (Refused p f) e = clash (j.accepted.1 t) (ap is_text_marked e)
+      go (Err x) e = clash (j.accepted.1 t) (ap is_text_marked e)
 
 -- a sheet's own key is equal, with nothing after it
 own_printed : {sheet script : List ℕ} {r : TextMarking} {values : List ℤ} → TextsJudged sheet script (own_lengths max_quantities) r values → OwnKeyText sheet script

@@ -1,4 +1,5 @@
 -- How long a verdict's or a refusal's text is at most where two texts are marked, for which *mark* lends room enough. Assumes nothing.
+use Rattle.std.specs.Prelude.{Ok, Err}
 use mathlib.Core.Path.{◌≡◌, refl, ap, subst}
 use mathlib.Core.Bool.{false}
 use mathlib.Core.List.{List}
@@ -30,9 +31,9 @@ use Rattle.writing.specs.Promises.{max_line}
 use Rattle.scripts.specs.declared.room.Lengths.{Lengths}
 use Rattle.scripts.specs.declared.reply.Subject.{Subject}
 use Rattle.scripts.specs.declared.reply.Subject.TheVariants.{Sheet as OfSheet, Script as OfScript, Both as OfBoth}
-use Rattle.scripts.specs.declared.reply.TextMarking.{TextMarking}
-use Rattle.scripts.specs.declared.reply.TextMarking.TheVariants.{Marked, Refused}
-use Rattle.scripts.specs.Replies.{texts_returned, text_subjects, is_text_marked, text_counts}
+use Rattle.scripts.specs.declared.reply.Marked.{Marked}
+use Rattle.scripts.specs.declared.reply.PaperRefusal.{PaperRefusal}
+use Rattle.scripts.specs.Replies.{TextMarking, marked, texts_returned, text_subjects, is_text_marked, text_counts}
 use Rattle.scripts.specs.Meaning.{set_in, table_in, Matches, pair_needs, AcceptedPair, RefusedPair, own_lengths}
 use Rattle.scripts.specs.Promises.{MarkedInOwnRoom}
 use Rattle.scripts.proofs.Sheets.{FineTable, FineSheet, fine_table, key_like}
@@ -111,15 +112,15 @@ accepted_room t = t.met.1.1.1.0
 
 module _ {sheet script : List ℕ} {before : List ℤ} {r : TextMarking} {values : List ℤ} (m : MarkedInOwnRoom sheet script before r values) where
   -- both texts are accepted
-  both_accepted : (n : ℕ) (v : Verdict) → r ≡ Marked n v → AcceptedPair sheet script (own_lengths (length before))
+  both_accepted : (n : ℕ) (v : Verdict) → r ≡ marked n v → AcceptedPair sheet script (own_lengths (length before))
   both_accepted n v e = m.judged.accepted.0 (ap is_text_marked e)
 
   -- the n beside a verdict is the sheet's
-  counted : {n : ℕ} {v : Verdict} (t : AcceptedPair sheet script (own_lengths (length before))) → r ≡ Marked n v → n ≡ t.of_sheet.count
+  counted : {n : ℕ} {v : Verdict} (t : AcceptedPair sheet script (own_lengths (length before))) → r ≡ marked n v → n ≡ t.of_sheet.count
   counted t e = let c = m.judged.counts t in let d = ap text_counts e in cc
 
   -- what follows the first line of a verdict
-  carried_short : (n : ℕ) (v : Verdict) → r ≡ Marked n v → length (carried_text v (take n values)) ≤ max_line + max_values
+  carried_short : (n : ℕ) (v : Verdict) → r ≡ marked n v → length (carried_text v (take n values)) ≤ max_line + max_values
   carried_short n Equal e = omega arith
   carried_short n (Loose rule) e =
       let t = both_accepted n (Loose rule) e in
@@ -138,15 +139,19 @@ module _ {sheet script : List ℕ} {before : List ℤ} {r : TextMarking} {values
       rw q (shown_short t.of_sheet.count rule values s.most line x.1.range)
 
   -- a verdict's n is no more than the words of the assignment, and there is room for its text
-  pub verdict_room : length before ≡ max_quantities → (n : ℕ) (v : Verdict) → r ≡ Marked n v
-      → (n ≤ length values) × (length (verdict_text v (take n values)) ≤ mark_room)
-  verdict_room s n v e =
-      let t = both_accepted n v e in
-      let q = counted t e in
-      (omega (arith, s, m.written.size, accepted_room t), omega (arith, verdict_length {v = v} (take n values) refl, first_line v, carried_short n v e))
+  pub verdict_room : length before ≡ max_quantities → {x : Marked} → r ≡ Ok x
+      → (x.quantities ≤ length values) × (length (verdict_text x.verdict (take x.quantities values)) ≤ mark_room)
+  verdict_room s {x} e =
+      let v = x.verdict in
+      let t = both_accepted x.quantities v e in
+      let q = counted t e in (
+        omega (arith, s, m.written.size, accepted_room t),
+        omega (arith, verdict_length {v = v} (take x.quantities values) refl, first_line v, carried_short x.quantities v e),
+      )
 
   -- there is room for a refusal's text
-  pub refusal_room : (p : Subject) (f : Refusal) → r ≡ Refused p f → length (refused_mark_text p f) ≤ mark_room
-  refusal_room p f e =
-      let line = refusal-line sheet script (own_lengths (length before)) p f ((m.judged.refused p f).0 (ap texts_returned e, ap text_subjects e)) in
-      omega (arith, refused_short p f (omega (arith, line)))
+  pub refusal_room : {x : PaperRefusal} → r ≡ Err x → length (refused_mark_text x.paper x.refusal) ≤ mark_room
+  refusal_room {x} e =
+      let line = refusal-line sheet script (own_lengths (length before)) x.paper x.refusal
+      ((m.judged.refused x.paper x.refusal).0 (ap texts_returned e, ap text_subjects e)) in
+      omega (arith, refused_short x.paper x.refusal (omega (arith, line)))

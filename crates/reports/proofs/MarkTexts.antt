@@ -1,14 +1,13 @@
 -- What *mark* prints, by the parts that are written one after the other, and how long it is at most. Assumes nothing.
 use mathlib.Core.Path.{◌≡◌, refl, sym, ◌∙◌, ap}
-use mathlib.Core.Bool.{Bool, true, false}
 use mathlib.Core.List.{List, [], ◌∷◌, ◌++◌, append_assoc, append-nil}
 use Prim.Native.Nat.{ℕ, zero, suc, ◌+◌, ◌*◌, ◌^◌, ◌≤◌, ◌<◌}
+use native.Mathlib.Numerals.{add-one}
 use native.Mathlib.Omega.{arith}
-use lib.Dec.{eqb}
 use lib.IntN.{ℤ, pos}
 use lib.ListN.{length, take, drop, length-append}
 use lib.Seq.{take-suc}
-use borrow.Author.Tests.{eqb-true, eqb-false}
+use Rattle.std.proofs.lemmas.List.{take-append-drop}
 use Rattle.integers.proofs.Within.{within_word}
 use Rattle.words.specs.Change.{word_at}
 use Rattle.places.specs.Numbering.{block_start}
@@ -67,59 +66,39 @@ further_append [] t = refl
 further_append (v ∷ s) t =
     rw (further_append s t) (ap (λ (u : List ℕ). comma ∷ u) (sym (append_assoc (signed_decimal v) (further_text s) (further_text t))))
 
--- the integers of the first k words, the first apart, each after a comma
-abbrev pub later_text : ℕ → List ℤ → List ℕ
-later_text k t = further_text (drop 1 (take k t))
-
--- of one word there are none
-pub later_none : (t : List ℤ) → later_text 1 t ≡ []
-unfolding further_text
-later_none [] = refl
-later_none (v ∷ t) = refl
-
 -- one word more is one comma and one numeral more
-pub later_more : (k : ℕ) (t : List ℤ) → 1 ≤ k → k < length t → later_text (suc k) t ≡ later_text k t ++ comma ∷ [] ++ signed_decimal (word_at t k)
+pub further_more : (k : ℕ) (t : List ℤ) → k < length t → further_text (take (k + 1) t) ≡ further_text (take k t) ++ comma ∷ [] ++ signed_decimal (word_at t k)
 unfolding further_text
-later_more zero t h l = let z : ⊥ = omega arith in absurd z
-later_more (suc k) [] h l = let z : ⊥ = omega arith in absurd z
-later_more (suc k) (v ∷ t) h l =
-    ap further_text (take-suc t k (pos 0) (omega arith))
-    ∙ further_append (take k t) (word_at t k ∷ [])
-    ∙ rw (append-nil (signed_decimal (word_at t k))) (simp append_assoc)
+further_more k t h =
+    rw (add-one k, take-suc t k (pos 0) h)
+    (further_append (take k t) (word_at t k ∷ []) ∙ rw (append-nil (signed_decimal (word_at t k))) (simp append_assoc))
 
--- how much longer that is
-pub later_more_length : (k : ℕ) (t : List ℤ) → 1 ≤ k → k < length t
-    → length (later_text (suc k) t) ≡ length (later_text k t) + 1 + length (signed_decimal (word_at t k))
-later_more_length k t h l = rw (later_more k t h l) (simp length-append)
-
--- those of fewer words are no longer
-pub later_longer : (k n : ℕ) (t : List ℤ) → 1 ≤ k → k ≤ n → n ≤ length t → length (later_text k t) ≤ length (later_text n t)
-later_longer k zero t h g l = let z : ⊥ = omega arith in absurd z
-later_longer k (suc n) t h g l = go (eqb k (suc n)) refl (λ m. later_longer k n t h m (omega arith))
-  where
-    go : (b : Bool) → eqb k (suc n) ≡ b → (k ≤ n → length (later_text k t) ≤ length (later_text n t))
-        → length (later_text k t) ≤ length (later_text (suc n) t)
-    go true e f = rw (eqb-true k (suc n) e) (omega arith)
-    go false e f =
-        let m : k ≤ n = omega (arith, eqb-false k (suc n) e) in
-        omega (arith, later_more_length n t (omega arith) l, f m)
+-- so many words and one more are no longer than all
+pub further_room : (k : ℕ) (t : List ℤ) → k < length t → length (further_text (take k t)) + 1 + length (signed_decimal (word_at t k)) ≤ length (further_text t)
+further_room k t h =
+    let more = ap (λ (u : List ℕ). length u) (further_more k t h) in
+    let all = ap (λ (u : List ℤ). length (further_text u)) (sym (take-append-drop (k + 1) t)) ∙ ap (λ (u : List ℕ). length u) (further_append (take (k + 1) t) (drop (k + 1) t)) in
+    omega (arith, simp length-append at more, simp length-append at all)
 
 -- no words, no text
-pub integers_none : (t : List ℤ) → integers_text (take 0 t) ≡ []
+pub integers_none : (s : List ℤ) → length s ≡ 0 → integers_text s ≡ []
 unfolding integers_text
-integers_none t = refl
+integers_none [] e = refl
+integers_none (v ∷ s) e = absurd (omega arith)
 
--- the first word's numeral, and then those of the words after it
-pub integers-text : (k : ℕ) (t : List ℤ) → 1 ≤ k → 1 ≤ length t → integers_text (take k t) ≡ signed_decimal (word_at t 0) ++ later_text k t
+-- the first word's numeral, and then the others
+pub integers-text : {v : ℤ} {s t : List ℤ} → s ≡ v ∷ t → integers_text s ≡ signed_decimal v ++ further_text t
 unfolding integers_text
-integers-text zero t h l = let z : ⊥ = omega arith in absurd z
-integers-text (suc k) [] h l = let z : ⊥ = omega arith in absurd z
-integers-text (suc k) (v ∷ t) h l = refl
+integers-text e = rw e
 
--- the length of that
-pub integers_length : (k : ℕ) (t : List ℤ) → 1 ≤ k → 1 ≤ length t
-    → length (integers_text (take k t)) ≡ length (signed_decimal (word_at t 0)) + length (later_text k t)
-integers_length k t h l = rw (integers-text k t h l) (length-append (signed_decimal (word_at t 0)) (later_text k t))
+-- their length
+pub integers_length : {v : ℤ} {s t : List ℤ} → s ≡ v ∷ t → length (integers_text s) ≡ length (signed_decimal v) + length (further_text t)
+integers_length {v} {s} {t} e = rw (integers-text e) (length-append (signed_decimal v) (further_text t))
+
+-- none after the first are written
+pub further_none : (t : List ℤ) → further_text (take 0 t) ≡ []
+unfolding further_text
+further_none t = refl
 
 -- ---- the assignment's line, and what follows the first line of loose and tight
 

@@ -1,5 +1,6 @@
 -- What is printed tells the reply: a refusal's text its number, its line and, for *mark*, its paper; a verdict's text its number; and no text of a key or a
 -- verdict is a refusal's. Assumes nothing.
+use Rattle.std.specs.Prelude.{Ok, Err}
 use mathlib.Core.Path.{◌≡◌, refl, sym, ◌∙◌, ap}
 use mathlib.Core.Bool.{true, cond}
 use mathlib.Core.Logic.{inl, inr}
@@ -28,9 +29,7 @@ use Rattle.marking.specs.Verdicts.{verdict_number}
 use Rattle.writing.specs.Writing.{written_text, count_text}
 use Rattle.scripts.specs.declared.reply.Subject.{Subject}
 use Rattle.scripts.specs.declared.reply.Subject.TheVariants.{Sheet, Script, Both}
-use Rattle.scripts.specs.declared.reply.TextMarking.{TextMarking}
-use Rattle.scripts.specs.declared.reply.TextMarking.TheVariants.{Marked, Refused}
-use Rattle.scripts.specs.Replies.{text_number, is_text_marked}
+use Rattle.scripts.specs.Replies.{TextMarking, refused_for, text_number, is_text_marked}
 use Rattle.reports.specs.Refusals.{refused_key, line_key, where_text, refusal_text}
 use Rattle.reports.specs.Marks.{word_text, verdict_text, paper_key, paper_name, refused_mark_text, mark_text}
 
@@ -141,13 +140,13 @@ verdict_unlike v s p f e = let z : ◌≡◌ {A = ℕ} 118 114 = ap (λ (u : Lis
 
 -- a refusal's text is printed for that refusal alone
 pub refusal_told : (r : TextMarking) (values : List ℤ) (p : Subject) (f : Refusal) → (text_number r ≡ 6 → ⊥) → mark_text r values ≡ refused_mark_text p f
-    → r ≡ Refused p f
+    → r ≡ refused_for p f
 unfolding mark_text
-refusal_told (Marked n v) values p f h e = absurd (verdict_unlike v _ p f e)
-refusal_told (Refused q g) values p f h e = let d = refused_same q p g f h e in rw (d.0, d.1)
+refusal_told (Ok m) values p f h e = absurd (verdict_unlike m.verdict _ p f e)
+refusal_told (Err x) values p f h e = let d = refused_same x.paper p x.refusal f h e in rw (← d.0, ← d.1)
 
 -- a verdict's for no refusal
 pub verdict_told : (r : TextMarking) (values : List ℤ) (v : Verdict) (s : List ℤ) → mark_text r values ≡ verdict_text v s → is_text_marked r ≡ true
 unfolding mark_text
-verdict_told (Marked n w) values v s e = refl
-verdict_told (Refused p f) values v s e = absurd (verdict_unlike v s p f (sym e))
+verdict_told (Ok m) values v s e = refl
+verdict_told (Err x) values v s e = absurd (verdict_unlike v s x.paper x.refusal (sym e))

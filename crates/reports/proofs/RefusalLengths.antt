@@ -15,7 +15,8 @@ use Rattle.rules.proofs.Refusals.{refusal_below}
 use Rattle.lines.specs.Spelling.{Written, line_within}
 use Rattle.reading.specs.Texts.{rule_lines}
 use Rattle.reading.specs.Meaning.{Opening, start, counted, headed, ruled, lines_of, count_of, limit_at, AllFine, AtMost, Reaches, malformed_at, outside_at, cancels_at, FailsFor}
-use Rattle.writing.proofs.Texts.{count_length}
+use Rattle.numerals.specs.Decimal.{decimal}
+use Rattle.writing.specs.Writing.{count_text}
 use Rattle.reports.specs.Refusals.{refused_key, line_key, number_text, where_text, refusal_text}
 
 -- ---- the line of a refusal
@@ -45,6 +46,11 @@ refused_line paper s f (inr (l, outside_at line m e)) = omega (arith, ap refusal
 refused_line paper s f (inr (l, cancels_at line m e)) = omega (arith, ap refusal_line e, reached_line m.reached)
 
 -- ---- its text
+
+-- a line of a key and a number
+count_length : (key : List ℕ) (v : ℕ) → length (count_text key v) ≡ length key + length (decimal v) + 1
+unfolding count_text
+count_length key v = simp length-append (omega arith)
 
 -- the text of a refusal has the two lines
 pub refusal_parts : (f : Refusal) → length (refusal_text f) ≡ length (number_text f) + length (where_text f)

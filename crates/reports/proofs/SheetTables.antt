@@ -1,4 +1,5 @@
 -- What reading a text into the largest table leaves: a sheet's table where it is accepted; where not, the refusal is the text's own. Assumes nothing.
+use Rattle.std.specs.Prelude.{Ok, Err}
 use mathlib.Core.Path.{◌≡◌, sym, ◌∙◌, ap}
 use mathlib.Core.List.{List, ◌++◌}
 use mathlib.Core.Logic.{⊎_elim}
@@ -8,17 +9,16 @@ use lib.IntN.{ℤ}
 use lib.ListN.{length, take, drop, length-append}
 use lib.Seq.{take_at}
 use Rattle.places.specs.Numbering.{block_start}
-use Rattle.rules.specs.declared.paper.Paper.TheVariants.{Sheet}
+use Rattle.rules.specs.declared.paper.Paper.TheVariants.{Sheet as OfSheet}
 use Rattle.rules.specs.declared.refusal.Refusal.{Refusal}
+use Rattle.rules.specs.declared.sheet.Sheet.{Sheet}
 use Rattle.rules.specs.Hidden.{set_of}
 use Rattle.rules.specs.Limits.{max_quantities}
 use Rattle.tables.specs.Tables.{table_size}
 use Rattle.tables.proofs.Sizes.{small_start, size_whole}
-use Rattle.reading.specs.declared.read.Reading.{Reading}
-use Rattle.reading.specs.declared.read.Reading.TheVariants.{Accepted, Refused}
 use Rattle.reading.specs.Texts.{Contents}
 use Rattle.reading.specs.Meaning.{Reads, Readable, FailsFor}
-use Rattle.reading.specs.Reading.{reading_returned}
+use Rattle.reading.specs.Reading.{Reading, reading_returned}
 use Rattle.reading.specs.Promises.{ReadInto}
 use Rattle.reports.specs.Reports.{table_report, key_report}
 use Rattle.reports.specs.Inner.{SheetTable}
@@ -31,19 +31,19 @@ use Rattle.reports.proofs.Reports.{report_accepted}
 -- a text accepted, its first m words being those of its table
 pub record FrontRead (s : List ℕ) (n set m : ℕ) (table : List ℤ) : Type 0 where
   pub contents : Contents
-  pub reads : Reads Sheet s contents
+  pub reads : Reads OfSheet s contents
   pub counts : n ≡ contents.count
   pub hides : set ≡ set_of contents.hiddens
   pub enough : m ≤ length table
   pub first : take m table ≡ table_in contents
 
 -- as reading leaves it
-pub table_read : {s : List ℕ} {t t' : List ℤ} {r : Reading} {n set : ℕ} {m : ℕ} → ReadInto s t r t' → r ≡ Accepted n set → m ≡ table_size n
-    → FrontRead s n set m t'
-table_read {s} {t} {t'} {r} {n} {set} {m} i e z =
-    let a = (i.accepted n set).0 (ap reading_returned e) in
+pub table_read : {s : List ℕ} {t t' : List ℤ} {r : Reading} {x : Sheet} {m : ℕ} → ReadInto s t r t' → r ≡ Ok x → m ≡ table_size x.quantities
+    → FrontRead s x.quantities x.hidden m t'
+table_read {s} {t} {t'} {r} {x} {m} i e z =
+    let a = (i.accepted x.quantities x.hidden).0 (ap reading_returned e) in
     let c = a.contents in
-    let f = fine_table Sheet c a.reads.spelled.fine in
+    let f = fine_table OfSheet c a.reads.spelled.fine in
     let rest = drop (block_start c.count) t in
     let size : m ≡ length (table_in c) = z ∙ ap table_size a.counts ∙ size_whole c.count f.most ∙ sym f.size in
     let words : t' ≡ table_in c ++ rest = (i.read c a.reads a.enough).filled in
@@ -67,10 +67,10 @@ report_table {s} a = report_accepted s a.contents a.reads ∙ rw (a.counts, a.hi
 -- ---- refused
 
 -- the table is long enough, so it is for the text itself
-pub text_fails : {s : List ℕ} {t t' : List ℤ} {r : Reading} {f : Refusal} → ReadInto s t r t' → r ≡ Refused f
-    → 2 * (max_quantities * max_quantities) ≤ length t → FailsFor Sheet s f
+pub text_fails : {s : List ℕ} {t t' : List ℤ} {r : Reading} {f : Refusal} → ReadInto s t r t' → r ≡ Err f
+    → 2 * (max_quantities * max_quantities) ≤ length t → FailsFor OfSheet s f
 text_fails {s} {t} {t'} {r} {f} i e h = ⊎_elim (λ a. a) (λ b. ⊎_elim (λ x. absurd (x.0 (long b.0))) (λ x. absurd x.1) b.1)
     ((i.refused f).0 (ap reading_returned e))
   where
-    long : (b : Readable Sheet s) → block_start b.contents.count ≤ length t
-    long b = let c = b.contents in omega (arith, small_start c.count (fine_table Sheet c b.reads.spelled.fine).most)
+    long : (b : Readable OfSheet s) → block_start b.contents.count ≤ length t
+    long b = let c = b.contents in omega (arith, small_start c.count (fine_table OfSheet c b.reads.spelled.fine).most)

@@ -31,8 +31,7 @@ use Rattle.reading.specs.Meaning.{Reads, rules_of}
 use Rattle.reading.specs.Reading.{check_text}
 use Rattle.reading.proofs.Means.{reads_same}
 use Rattle.reading.proofs.Frauds.{contents_a}
-use Rattle.scripts.specs.declared.reply.TextMarking.TheVariants.{Marked}
-use Rattle.scripts.specs.Replies.{texts_returned}
+use Rattle.scripts.specs.Replies.{marked, texts_returned}
 use Rattle.scripts.proofs.Judging.{accepted_reads}
 use Rattle.reports.proofs.Cases.{MayShow, sheet_a, wide, narrow, reply_for, reckoning}
 
@@ -89,7 +88,7 @@ abbrev pub sum_rule : Rule
 sum_rule = rule_of (pos 1) (pos 3) (pos 5)
 
 -- is the one that the verdict carries
-pub wide_loose : reply_for wide ≡ Marked 3 (Loose sum_rule)
+pub wide_loose : reply_for wide ≡ marked 3 (Loose sum_rule)
 unfolding reckoning
 wide_loose = refl
 
@@ -123,7 +122,7 @@ abbrev pub low_rule : Rule
 low_rule = rule_of (pos 1) (pos 0) (pos 2)
 
 -- is the one that the verdict carries
-pub narrow_tight : reply_for narrow ≡ Marked 3 (Tight low_rule)
+pub narrow_tight : reply_for narrow ≡ marked 3 (Tight low_rule)
 unfolding reckoning
 narrow_tight = refl
 

@@ -1,4 +1,5 @@
 -- What the tight key call and the writer answer for a sheet's table: the call refuses with 5 alone, and its key can be written. Assumes nothing.
+use Rattle.std.specs.Prelude.{Ok, Err}
 use mathlib.Core.Path.{◌≡◌, refl, sym, ◌∙◌, ap}
 use mathlib.Core.Bool.{Bool, true, false, not}
 use mathlib.Core.List.{List}
@@ -11,24 +12,19 @@ use Rattle.rules.specs.declared.refusal.Refusal.{Refusal}
 use Rattle.rules.specs.declared.refusal.Refusal.TheVariants.{NoAssignment}
 use Rattle.rules.specs.Hidden.{hidden_in, set_within}
 use Rattle.rules.specs.Limits.{max_quantities}
-use Rattle.tables.specs.declared.reply.Reply.{Reply}
-use Rattle.tables.specs.declared.reply.Reply.TheVariants.{Done, Refused}
 use Rattle.tables.specs.Tables.{serves}
 use Rattle.tables.proofs.Sizes.{small_start, long_serves}
 use Rattle.tables.proofs.Tests.{refused_done}
-use Rattle.tables.specs.Replies.{check}
+use Rattle.tables.specs.Replies.{Reply, check}
 use Rattle.keys.specs.Keys.{refuted}
 use Rattle.tightening.specs.Tightening.{tight_key_of}
 use Rattle.tightening.specs.Promises.{TightKeyed}
 use Rattle.keys.proofs.Promised.{key_late}
 use Rattle.numerals.specs.Writing.{Spliced}
 use Rattle.numerals.proofs.Splices.{splice_start}
-use Rattle.writing.specs.declared.write.Writing.{Writing}
-use Rattle.writing.specs.declared.write.Writing.TheVariants.{Text}
-use Rattle.writing.specs.declared.write.Writing.TheVariants.{Refused as Writing-as-Refused}
-use Rattle.writing.specs.Writing.{written_text, writing_number}
+use Rattle.writing.specs.Writing.{Writing, written_text, writing_number}
 use Rattle.writing.specs.Promises.{max_written, TextWritten}
-use Rattle.writing.proofs.Promised.{reply_text, refused_text, text_same, number_output}
+use Rattle.writing.proofs.Promised.{reply_text, number_output}
 use Rattle.reports.specs.Refusals.{refusal_text}
 use Rattle.reports.specs.Reports.{table_report}
 use Rattle.reports.specs.Inner.{SheetTable}
@@ -43,17 +39,13 @@ use Rattle.reports.proofs.TightTexts.{tight_in, tight_room}
 module _ {n set : ℕ} {t : List ℤ} {out : List ℕ} {r : Writing} {out' : List ℕ} (w : TextWritten n set t out r out')
     (p : (serves n (length t) ≡ true) × (set_within n set ≡ true)) (h : length (written_text n set t) ≤ length out) where
   -- the reply is the text's length
-  replied : r ≡ Text (length (written_text n set t))
+  pub replied : r ≡ Ok (length (written_text n set t))
   replied = w.reply ∙ sym (reply_text n set t (length out) (length (written_text n set t)) p.0 p.1 refl h)
 
-  -- it is not refused
-  pub never_refused : (f : Refusal) → r ≡ Writing-as-Refused f → ⊥
-  never_refused f e = refused_text (sym e ∙ replied)
-
   -- its text stands at the start
-  pub text_spliced : (m : ℕ) → r ≡ Text m → Spliced out 0 (written_text n set t) m out'
+  pub text_spliced : (m : ℕ) → m ≡ length (written_text n set t) → Spliced out 0 (written_text n set t) m out'
   text_spliced m e = record {
-    cursor = omega (arith, text_same (sym e ∙ replied));
+    cursor = omega arith;
     buffer = w.bytes ∙ number_output n set t out (ap writing_number (sym w.reply ∙ replied)) ∙ sym (splice_start out (written_text n set t));
   }
 
@@ -72,38 +64,38 @@ module _ {n set : ℕ} {t w : List ℤ} {r : Reply} {t' w' : List ℤ} (k : Tigh
   fine = fine_table Sheet s.contents s.fine
 
   -- its checks before 5 pass
-  replied_key : r ≡ check (not (refuted n t)) NoAssignment Done
+  replied_key : r ≡ check (not (refuted n t)) NoAssignment (Ok tt)
   replied_key =
       let c = s.contents in
       k.keyed.reply ∙ rw (s.counts, s.hides, s.holds)
       (key_late c.count (set_in c) (table_in c) (length w)
       (table_sized Sheet c fine, (omega (arith, small_start c.count fine.most), ((fine.range, fine.bounds), tt))))
 
-  decided : (b : Bool) → check (not b) NoAssignment Done ≡ Done → b ≡ false
+  decided : (b : Bool) → check (not b) NoAssignment (Ok tt) ≡ Ok tt → b ≡ false
   decided true e = absurd (refused_done e)
   decided false e = refl
 
-  refused_five : (b : Bool) (f : Refusal) → check (not b) NoAssignment Done ≡ Refused f → (b ≡ true) × (f ≡ NoAssignment)
+  refused_five : (b : Bool) (f : Refusal) → check (not b) NoAssignment (Ok tt) ≡ Err f → (b ≡ true) × (f ≡ NoAssignment)
   refused_five true f e = (refl, cc)
   refused_five false f e = absurd (refused_done (sym e))
 
   -- done: the table is the key
-  keyed : r ≡ Done → t' ≡ tight_key_of (hidden_in set) n t
+  keyed : r ≡ Ok tt → t' ≡ tight_key_of (hidden_in set) n t
   keyed e = k.keyed.words ∙ rw e
 
   -- which can be written
-  pub key_serves : r ≡ Done → (serves n (length t') ≡ true) × (set_within n set ≡ true)
+  pub key_serves : r ≡ Ok tt → (serves n (length t') ≡ true) × (set_within n set ≡ true)
   key_serves e =
       let c = s.contents in
       rw (keyed e, s.counts, s.hides, s.holds)
       (long_serves c.count (length (tight_in c)) fine.some fine.most (tight_room c fine), fine.range)
 
   -- and its text is what is printed
-  pub report_done : r ≡ Done → table_report n set t ≡ written_text n set t'
+  pub report_done : r ≡ Ok tt → table_report n set t ≡ written_text n set t'
   unfolding table_report
   report_done e = rw (decided (refuted n t) (sym replied_key ∙ e), keyed e)
 
   -- refused: what is printed is the refusal
-  pub report_refusal : (f : Refusal) → r ≡ Refused f → table_report n set t ≡ refusal_text f
+  pub report_refusal : (f : Refusal) → r ≡ Err f → table_report n set t ≡ refusal_text f
   unfolding table_report
   report_refusal f e = let d = refused_five (refuted n t) f (sym replied_key ∙ e) in rw (d.0, d.1)

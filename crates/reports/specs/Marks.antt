@@ -1,5 +1,5 @@
 -- What the program *mark* prints for two texts (document 01, 'Programs and host'): the verdict, with its rule and the assignment that shows it, or the refusal.
-use Rattle.std.specs.Prelude.{List, [], ◌∷◌, ◌++◌, ℕ, ℤ, take}
+use Rattle.std.specs.Prelude.{List, [], ◌∷◌, ◌++◌, ℕ, ℤ, take, Ok, Err}
 use Rattle.numerals.specs.Bytes.{bytes, newline, comma}
 use Rattle.numerals.specs.Decimal.{signed_decimal}
 use Rattle.rules.specs.declared.rule.Rule.{Rule}
@@ -9,8 +9,7 @@ use Rattle.marking.specs.declared.verdict.Verdict.TheVariants.{Equal, Loose, Tig
 use Rattle.writing.specs.Writing.{rule_line_text}
 use Rattle.scripts.specs.declared.reply.Subject.{Subject}
 use Rattle.scripts.specs.declared.reply.Subject.TheVariants.{Sheet, Script, Both}
-use Rattle.scripts.specs.declared.reply.TextMarking.{TextMarking}
-use Rattle.scripts.specs.declared.reply.TextMarking.TheVariants.{Marked, Refused}
+use Rattle.scripts.specs.Replies.{TextMarking}
 use Rattle.reports.specs.Refusals.{number_text, where_text}
 
 -- the keys
@@ -74,5 +73,5 @@ refused_mark_text p f = number_text f ++ (word_text paper_key (paper_name p) ++ 
 
 -- ---- of a reply and the words of the assignment, of which the first n are printed
 unfoldable pub mark_text : TextMarking → List ℤ → List ℕ
-mark_text (Marked n v) values = verdict_text v (take n values)
-mark_text (Refused p f) values = refused_mark_text p f
+mark_text (Ok m) values = verdict_text m.verdict (take m.quantities values)
+mark_text (Err r) values = refused_mark_text r.paper r.refusal

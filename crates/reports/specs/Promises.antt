@@ -21,8 +21,7 @@ use Rattle.writing.specs.Writing.{table_rules}
 use Rattle.writing.specs.Promises.{PastLimit, RefusedPast}
 use Rattle.scripts.specs.declared.room.Lengths.{Lengths}
 use Rattle.scripts.specs.declared.reply.Subject.{Subject}
-use Rattle.scripts.specs.declared.reply.TextMarking.{TextMarking}
-use Rattle.scripts.specs.declared.reply.TextMarking.TheVariants.{Marked}
+use Rattle.scripts.specs.Replies.{TextMarking, marked}
 use Rattle.scripts.specs.Promises.{TextsJudged}
 use Rattle.scripts.specs.Meaning.{set_in, AcceptedPair, RefusedPair, Room, OwnKeyText, own_lengths}
 use Rattle.scripts.specs.Marking.{texts_reply}
@@ -69,7 +68,7 @@ pub record KeyPrinted (s : List ℕ) (out : List ℕ) (end : ℕ) (out' : List �
   -- where all its bounds lie in a script's range it is one of the sheet's own keys, and marking it against its sheet, with words enough lent, replies equal
   pub own_key : (k : PrintedKey s (take end out')) → BoundsWithin Script k.contents.count (set_in k.contents) k.is.key → OwnKeyText s (take end out')
   pub own_script : (k : PrintedKey s (take end out')) → BoundsWithin Script k.contents.count (set_in k.contents) k.is.key
-      → (lent : Lengths) → Room k.contents.count lent → texts_reply s (take end out') lent ≡ Marked k.contents.count Equal
+      → (lent : Lengths) → Room k.contents.count lent → texts_reply s (take end out') lent ≡ marked k.contents.count Equal
 
 -- ---- *mark*
 

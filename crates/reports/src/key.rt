@@ -11,14 +11,11 @@ ghost use Rattle.reports.specs.Inner.{SheetTable};
 
 use crate::{refusal, room};
 use reading::read;
-use reading::read::Reading;
 use rules::hidden::Set;
 use rules::sheet::Sheet;
-use tables::reply::Reply;
 use tables::table;
 use tightening::key;
 use writing::write;
-use writing::write::Writing;
 
 // Bytes enough for whatever is printed.
 pub const ROOM: usize = room::HEADER + room::RULE_LINE * Sheet::MAX_RULES;
@@ -29,11 +26,7 @@ fn print_text(n: usize, hidden: Set, table: &[i64], out: &mut [u8]) -> usize
     requires table_in_bounds { length (written_text n hidden table.now) ≤ length out.old }
     ensures { Spliced out.old 0 (written_text n hidden table.now) result out.new }
 {
-    let written = write::write(n, hidden, table, out);
-    let Writing::Text { length } = written else {
-        return 0;
-    };
-    length
+    write::write(n, hidden, table, out).unwrap_or(0)
 }
 
 // Writes the tightest key of a sheet's table as its text, or the refusal of its call, at the start of the output; answers the length.
@@ -43,10 +36,9 @@ fn print_table(n: usize, hidden: Set, table: &mut [i64], out: &mut [u8]) -> usiz
 {
     let mut words = [0; table::LARGEST];
     let workspace: &mut [i64] = &mut words;
-    let reply = key::tight_key(n, hidden, table, workspace);
-    match reply {
-        Reply::Done => print_text(n, hidden, table, out),
-        Reply::Refused(r) => refusal::put_refusal(out, r),
+    match key::tight_key(n, hidden, table, workspace) {
+        Ok(()) => print_text(n, hidden, table, out),
+        Err(reason) => refusal::put_refusal(out, reason),
     }
 }
 
@@ -56,12 +48,11 @@ pub fn print_key(text: &[u8], out: &mut [u8; ROOM]) -> usize
 {
     let mut words = [0; table::LARGEST];
     let table: &mut [i64] = &mut words;
-    let reading = read::read(text, table);
-    match reading {
-        Reading::Accepted { quantities, hidden } => {
+    match read::read(text, table) {
+        Ok(Sheet { quantities, hidden }) => {
             let m = table::size(quantities);
             print_table(quantities, hidden, &mut table[..m], out)
         }
-        Reading::Refused { refusal } => refusal::put_refusal(out, refusal),
+        Err(refusal) => refusal::put_refusal(out, refusal),
     }
 }

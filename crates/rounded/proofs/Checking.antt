@@ -16,11 +16,10 @@ use Rattle.rules.specs.declared.refusal.Refusal.TheVariants.{Size, OutOfLimit, N
 use Rattle.rules.specs.Hidden.{set_within}
 use Rattle.rules.specs.Limits.{max_quantities}
 use Rattle.rules.specs.Refusing.{passed, AllMet}
-use Rattle.tables.specs.declared.reply.Reply.{Reply}
-use Rattle.tables.specs.declared.reply.Reply.TheVariants.{Done, Refused}
+use Rattle.std.specs.Prelude.{Ok, Err}
+use Rattle.tables.specs.Replies.{Reply, check}
 use Rattle.tables.specs.Tables.{table_size, serves}
-use Rattle.tables.specs.Replies.{check}
-use Rattle.tables.proofs.Tests.{both_true, refused_done}
+use Rattle.tables.proofs.Tests.{both_true}
 use Rattle.tables.proofs.Sizes.{serves_sized, serves_tells, size_known}
 use Rattle.tables.proofs.Refusing.{Tied, tied_done, tied_more, Before, before_none, before_more}
 use Rattle.marks.specs.Bytes.{marks_in, MarksWithin}
@@ -56,7 +55,7 @@ short_marks n m l d h = go (leb 1 n && leb n max_quantities) (rw d at h)
     go false g = let z : l < 0 = g in let y : ⊥ = omega arith in absurd y
 
 module _ (n set : ℕ) (t : List ℤ) (marks : List ℕ) (w : ℕ) where
-  pub marks_short : length marks < block_start n → (next : Reply) → marked_key_checks n set t marks w next ≡ Refused Size
+  pub marks_short : length marks < block_start n → (next : Reply) → marked_key_checks n set t marks w next ≡ Err Size
   unfolding marked_key_checks
   marks_short h next = rw (lt-leb (block_start n) (length marks) h, and-false (serves n (length t)))
 
@@ -93,31 +92,30 @@ module _ (n set : ℕ) (t : List ℤ) (marks : List ℕ) (w : ℕ) where
 
   -- ---- the function that makes the checks
 
-  marked_stops : (f : Refusal) → Refused f ≡ marked_key_checks n set t marks w Done → MarkedKeyChecked n set t marks w (Refused f)
-  marked_stops f e = record { reply = e; passes = λ d. absurd (refused_done d); words = λ d. absurd (refused_done d) }
+  marked_stops : (f : Refusal) → Err f ≡ marked_key_checks n set t marks w (Ok tt) → MarkedKeyChecked n set t marks w (Err f)
+  marked_stops f e = record { reply = e; passes = λ d. cc; words = λ d. cc }
 
-  pub checked_short : (m : ℕ) → m ≡ table_size n → length marks < m → MarkedKeyChecked n set t marks w (Refused Size)
-  checked_short m d h = marked_stops Size (sym (marks_short (short_marks n m (length marks) d h) Done))
+  pub checked_short : (m : ℕ) → m ≡ table_size n → length marks < m → MarkedKeyChecked n set t marks w (Err Size)
+  checked_short m d h = marked_stops Size (sym (marks_short (short_marks n m (length marks) d h) (Ok tt)))
 
   module _ (m : ℕ) (d : m ≡ table_size n) (h : m ≤ length marks) where
-    pub checked_before : (r : Reply) (f : Refusal) → KeyChecked n set t w r → r ≡ Refused f → MarkedKeyChecked n set t marks w r
-    checked_before r f c e =
-        rw e (marked_stops f (sym (marks_sized m d h Done ∙ (checks_before n set t w).stands f (sym c.reply ∙ e) _)))
+    pub checked_before : (f : Refusal) → KeyChecked n set t w (Err f) → MarkedKeyChecked n set t marks w (Err f)
+    checked_before f c = marked_stops f (sym (marks_sized m d h (Ok tt) ∙ (checks_before n set t w).stands f (sym c.reply) _))
 
-    module _ (c : KeyChecked n set t w Done) where
+    module _ (c : KeyChecked n set t w (Ok tt)) where
       met : AllMet (key_needs_then n set t w passed)
       met = c.passes refl
 
-      past : marked_key_checks n set t marks w Done ≡ check (marks_in (block_start n) marks) (OutOfLimit 0) Done
-      past = marks_sized m d h Done ∙ (checks_before n set t w).goes_on (sym c.reply) _
+      past : marked_key_checks n set t marks w (Ok tt) ≡ check (marks_in (block_start n) marks) (OutOfLimit 0) (Ok tt)
+      past = marks_sized m d h (Ok tt) ∙ (checks_before n set t w).goes_on (sym c.reply) _
 
       size : m ≡ block_start n
       size = size_known n m met.0.most d
 
-      pub checked_marks : (b : Bool) → b ≡ marks_in m marks → b ≡ false → MarkedKeyChecked n set t marks w (Refused (OutOfLimit 0))
+      pub checked_marks : (b : Bool) → b ≡ marks_in m marks → b ≡ false → MarkedKeyChecked n set t marks w (Err (OutOfLimit 0))
       checked_marks b e f = marked_stops (OutOfLimit 0) (sym (past ∙ rw (← size, ← e, f)))
 
-      pub checked_done : (b : Bool) → b ≡ marks_in m marks → b ≡ true → MarkedKeyChecked n set t marks w Done
+      pub checked_done : (b : Bool) → b ≡ marks_in m marks → b ≡ true → MarkedKeyChecked n set t marks w (Ok tt)
       checked_done b e f = record {
         reply = sym (past ∙ rw (← size, ← e, f));
         passes = λ x. (met.0, (omega (arith, size), (met.1.0, ((met.1.1.0, marks_within (block_start n) marks (rw (← size, ← e) f)), Prim.tt))));
@@ -137,14 +135,14 @@ module _ (n set : ℕ) (t : List ℤ) (marks : List ℕ) (w : ℕ) where
       numbers_checked next = check (set_within n set && bounds_in_limit Sheet n set t && marks_in (block_start n) marks) (OutOfLimit 0) next
 
   -- a refusal of the checks is the call's
-  pub marked_stands : (r : Reply) (f : Refusal) → r ≡ marked_key_checks n set t marks w Done → r ≡ Refused f → r ≡ marked_key_reply n set t marks w
+  pub marked_stands : (f : Refusal) → Err f ≡ marked_key_checks n set t marks w (Ok tt) → Err f ≡ marked_key_reply n set t marks w
   unfolding marked_key_reply
-  marked_stands r f e d = d ∙ sym (marked_before.stands f (sym e ∙ d) _)
+  marked_stands f e = sym (marked_before.stands f (sym e) _)
 
   -- marks that are enough, and 0 or 1, change no reply
   pub reply_unmarked : block_start n ≤ length marks → MarksWithin (block_start n) marks → marked_key_reply n set t marks w ≡ key_reply n set t w
   unfolding marked_key_reply key_reply
-  reply_unmarked h b = marks_enough h (check (not (refuted n t)) NoAssignment Done) ∙ rw (within_marks (block_start n) marks b)
+  reply_unmarked h b = marks_enough h (check (not (refuted n t)) NoAssignment (Ok tt)) ∙ rw (within_marks (block_start n) marks b)
 
   -- the needs of the call are those of the key call
   pub needs_unmarked : AllMet (marked_key_needs_then n set t marks w passed) → AllMet (key_needs_then n set t w passed)

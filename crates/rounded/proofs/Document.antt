@@ -11,7 +11,7 @@ use lib.Signed.{≤ℤ_refl}
 use borrow.Author.Tests.{lt-ltb, le-ltb, eq-eqb, ne_eqb}
 use Rattle.integers.specs.Bound.{half, odd}
 use Rattle.words.specs.Change.{word_at}
-use Rattle.places.specs.declared.Place.TheVariants.{At, Nowhere}
+use Rattle.std.specs.Prelude.{Option, Some, None}
 use Rattle.places.specs.Numbering.{block_start, place_of_one, place_of_pair, place_of_two, is_one, higher_at, lower_at}
 use Rattle.places.proofs.Numbering.{one_below, pair_below, one_is_one, one_higher, pair_is_one, pair_higher, pair_lower, at_one, at_lower, at_pair, at_below}
 use Rattle.rules.specs.declared.rule.Rule.{Rule}
@@ -68,10 +68,10 @@ rule_left places z t k = go (is_one k) refl
         (sym (pair_second places (lower_at k) (higher_at k) o ∙ ap places (at_pair k e)))
 
 -- a place is one number, and what stands nowhere has none
-at_same : (a k : ℕ) → At a ≡ At k → a ≡ k
+at_same : (a k : ℕ) → ◌≡◌ {A = Option ℕ} (Some a) (Some k) → a ≡ k
 at_same a k e = cc
 
-nowhere_at : (k : ℕ) → Nowhere ≡ At k → ⊥
+nowhere_at : (k : ℕ) → ◌≡◌ {A = Option ℕ} None (Some k) → ⊥
 nowhere_at k e = let z : ◌≡◌ {A = ℕ} 0 1 = cc in omega arith
 
 -- ---- the rules that meet at the place of one literal, and of two
@@ -152,7 +152,7 @@ module _ (j : ℕ) (places : ℕ → Marked) where
       go false = two_before (pair_marked places (2 * j)) (pair_marked places (2 * j + 1)) unruled unruled (lower_at k) (higher_at k) (places k)
 
   -- an unmarked sum whose bound is that of its place leaves the place unmarked: one of x with +q and -q alone,
-  plus_clear : (x k : ℕ) → At (place_of_one x) ≡ At k → holds (pair_marked places (2 * j) x) ≡ true → holds (lone_marked places (2 * j + 1)) ≡ true
+  plus_clear : (x k : ℕ) → Some (place_of_one x) ≡ Some k → holds (pair_marked places (2 * j) x) ≡ true → holds (lone_marked places (2 * j + 1)) ≡ true
       → (pair_marked places (2 * j) x).mark ≡ false → (lone_marked places (2 * j + 1)).mark ≡ false
       → (sums_at k).bound ≡ (pair_marked places (2 * j) x).bound +ℤ (lone_marked places (2 * j + 1)).bound → (sums_at k).mark ≡ false
   plus_clear x k e f g u v q =
@@ -160,7 +160,7 @@ module _ (j : ℕ) (places : ℕ → Marked) where
       rw (← s, sums_one x) (sum_clear (pair_marked places (2 * j) x) (lone_marked places (2 * j + 1)) _ (one_plus _ _ _ _ x _ f g) u v (rw (← s, sums_one x) at q))
 
   -- of x with -q and +q alone,
-  minus_clear : (x k : ℕ) → At (place_of_one x) ≡ At k → holds (lone_marked places (2 * j)) ≡ true → holds (pair_marked places (2 * j + 1) x) ≡ true
+  minus_clear : (x k : ℕ) → Some (place_of_one x) ≡ Some k → holds (lone_marked places (2 * j)) ≡ true → holds (pair_marked places (2 * j + 1) x) ≡ true
       → (lone_marked places (2 * j)).mark ≡ false → (pair_marked places (2 * j + 1) x).mark ≡ false
       → (sums_at k).bound ≡ (lone_marked places (2 * j)).bound +ℤ (pair_marked places (2 * j + 1) x).bound → (sums_at k).mark ≡ false
   minus_clear x k e f g u v q =
@@ -169,7 +169,7 @@ module _ (j : ℕ) (places : ℕ → Marked) where
       (rw (← s, sums_one x, +ℤ_comm (lone_marked places (2 * j)).bound (pair_marked places (2 * j + 1) x).bound) at q))
 
   -- of x with +q and x with -q, halved,
-  alike_clear : (x k : ℕ) → At (place_of_one x) ≡ At k → holds (pair_marked places (2 * j) x) ≡ true → holds (pair_marked places (2 * j + 1) x) ≡ true
+  alike_clear : (x k : ℕ) → Some (place_of_one x) ≡ Some k → holds (pair_marked places (2 * j) x) ≡ true → holds (pair_marked places (2 * j + 1) x) ≡ true
       → (pair_marked places (2 * j) x).mark ≡ false → (pair_marked places (2 * j + 1) x).mark ≡ false
       → odd ((pair_marked places (2 * j) x).bound +ℤ (pair_marked places (2 * j + 1) x).bound) ≡ false
       → (sums_at k).bound ≡ half ((pair_marked places (2 * j) x).bound +ℤ (pair_marked places (2 * j + 1) x).bound) → (sums_at k).mark ≡ false
@@ -178,7 +178,7 @@ module _ (j : ℕ) (places : ℕ → Marked) where
       rw (← s, sums_one x) (half_clear (pair_marked places (2 * j) x) (pair_marked places (2 * j + 1) x) _ (one-half _ _ _ _ x _ f g) u v o (rw (← s, sums_one x) at q))
 
   -- of x with +q and y with -q, x the lower one,
-  lower_clear : (x y k : ℕ) → x / 2 < y / 2 → At (place_of_pair x y) ≡ At k → holds (pair_marked places (2 * j) x) ≡ true → holds (pair_marked places (2 * j + 1) y) ≡ true
+  lower_clear : (x y k : ℕ) → x / 2 < y / 2 → Some (place_of_pair x y) ≡ Some k → holds (pair_marked places (2 * j) x) ≡ true → holds (pair_marked places (2 * j + 1) y) ≡ true
       → (pair_marked places (2 * j) x).mark ≡ false → (pair_marked places (2 * j + 1) y).mark ≡ false
       → (sums_at k).bound ≡ (pair_marked places (2 * j) x).bound +ℤ (pair_marked places (2 * j + 1) y).bound → (sums_at k).mark ≡ false
   lower_clear x y k o e f g u v q =
@@ -187,7 +187,7 @@ module _ (j : ℕ) (places : ℕ → Marked) where
       (two_lower (pair_marked places (2 * j)) (pair_marked places (2 * j + 1)) unruled unruled x y _ f g) u v (rw (← s, sums_two x y o) at q))
 
   -- or the higher one
-  upper_clear : (x y k : ℕ) → x / 2 < y / 2 → At (place_of_pair x y) ≡ At k → holds (pair_marked places (2 * j) y) ≡ true → holds (pair_marked places (2 * j + 1) x) ≡ true
+  upper_clear : (x y k : ℕ) → x / 2 < y / 2 → Some (place_of_pair x y) ≡ Some k → holds (pair_marked places (2 * j) y) ≡ true → holds (pair_marked places (2 * j + 1) x) ≡ true
       → (pair_marked places (2 * j) y).mark ≡ false → (pair_marked places (2 * j + 1) x).mark ≡ false
       → (sums_at k).bound ≡ (pair_marked places (2 * j) y).bound +ℤ (pair_marked places (2 * j + 1) x).bound → (sums_at k).mark ≡ false
   upper_clear x y k o e f g u v q =
@@ -205,11 +205,11 @@ module _ (j : ℕ) (places : ℕ → Marked) where
   -- and there is no other sum
   sum_unmarks : (a b : Partner) → holds (plus_left a) ≡ true → holds (minus_left b) ≡ true → (plus_left a).mark ≡ false → (minus_left b).mark ≡ false
       → sum_loses_half a b ((plus_left a).bound +ℤ (minus_left b).bound) ≡ false
-      → (k : ℕ) → find_place (rest_rule a b ((plus_left a).bound +ℤ (minus_left b).bound)) ≡ At k
+      → (k : ℕ) → find_place (rest_rule a b ((plus_left a).bound +ℤ (minus_left b).bound)) ≡ Some k
       → (sums_at k).bound ≡ bound_of (rest_rule a b ((plus_left a).bound +ℤ (minus_left b).bound)) → (sums_at k).mark ≡ false
   unfolding rest_rule sum_loses_half find_place
   sum_unmarks (With x) (With y) f g u v o k e q =
-      rest_cases (λ (r : Rule). find_place r ≡ At k → (sums_at k).bound ≡ bound_of r → (sums_at k).mark ≡ false) x y
+      rest_cases (λ (r : Rule). find_place r ≡ Some k → (sums_at k).bound ≡ bound_of r → (sums_at k).mark ≡ false) x y
       ((pair_marked places (2 * j) x).bound +ℤ (pair_marked places (2 * j + 1) y).bound)
       (λ r e q. absurd (nowhere_at k e))
       (λ r e q. alike_clear x k e f (rw (← r) at g) u (rw (← r) at v) (rw (← r, eq-eqb x x refl) at o) (rw (← r) at q))
@@ -241,7 +241,7 @@ module _ (n j : ℕ) (places : ℕ → Marked) (t : List ℤ) (l : block_start n
   -- the unmarked sum of two rules of which a and b are left
   unmarked_sum : (a b : Partner) (c d : ℤ) → Left n (2 * j) t a c → Left n (2 * j + 1) t b d
       → (left_marked places (2 * j) a).mark ≡ false → (left_marked places (2 * j + 1) b).mark ≡ false → sum_loses_half a b (c +ℤ d) ≡ false
-      → (u : Rule) → rest_rule a b (c +ℤ d) ≡ u → (k : ℕ) → find_place u ≡ At k → UnmarkedSum n j t (λ i. (places i).mark) k (bound_of u)
+      → (u : Rule) → rest_rule a b (c +ℤ d) ≡ u → (k : ℕ) → find_place u ≡ Some k → UnmarkedSum n j t (λ i. (places i).mark) k (bound_of u)
   unmarked_sum a b c d f g p m e u is k place =
       let r = left_place n (2 * j) t a c l (omega arith) f in
       let s = left_place n (2 * j + 1) t b d l (omega arith) g in record {

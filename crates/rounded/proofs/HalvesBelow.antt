@@ -4,14 +4,22 @@ use mathlib.Core.Bool.{Bool, true, false, ◌&&◌, ◌||◌}
 use mathlib.Core.List.{List}
 use Prim.Native.Nat.{ℕ, suc, ◌+◌, ◌-◌, ◌*◌, ◌/◌, ◌≤◌, ◌<◌}
 use native.Mathlib.Numerals.{add-one}
-use native.Mathlib.Nat.{mul-le-mul}
 use native.Mathlib.Omega.{arith}
-use lib.IntN.{ℤ}
+use lib.IntN.{ℤ, ◌+ℤ◌}
+use mir.Syntax.{w64}
+use mir.Val.{SFits}
+use Rattle.integers.specs.Bound.{half}
+use Rattle.integers.proofs.Parts.{parts_add, parts_half, word_to, word_of}
 use Rattle.words.specs.Change.{word_at}
 use Rattle.places.specs.Numbering.{block_start, place_of_one}
 use Rattle.places.proofs.Numbering.{block_start_mono, block_start_suc}
-use Rattle.rules.specs.Limits.{max_quantities}
 use Rattle.rounded.specs.Inner.{halves_below, any_halves_below}
+
+-- the sum of two halves of words is a word
+pub halves_fit : (a b : ℤ) → SFits w64 a → SFits w64 b → SFits w64 (half a +ℤ half b)
+halves_fit a b f g = word_of
+    (omega (arith, word_to f, word_to g, parts_half a, parts_half b, parts_add (half a) (half b)))
+    (omega (arith, word_to f, word_to g, parts_half a, parts_half b, parts_add (half a) (half b)))
 
 -- the places of a quantity alone are the first of its block
 plus_place : (i : ℕ) → place_of_one (2 * i) ≡ 2 * (i * i)
@@ -22,10 +30,7 @@ minus_place : (i : ℕ) → place_of_one (2 * i + 1) ≡ 2 * (i * i) + 1
 unfolding place_of_one block_start
 minus_place i = let e : (2 * i + 1) / 2 ≡ i = omega arith in rw e (omega arith)
 
--- which starts at a small number, and has room for both in the table
-pub block_most : (n i : ℕ) → n ≤ max_quantities → i < n → 2 * (i * i) ≤ 4096
-block_most n i h g = let l : i ≤ 32 = omega arith in omega (arith, mul-le-mul l l)
-
+-- which has room for both in the table
 pub block_room : (n i : ℕ) → i < n → 2 * (i * i) + 4 * i + 2 ≤ block_start n
 unfolding block_start
 block_room n i g = omega (arith, block_start_mono {a = suc i} {b = n} g, block_start_suc i, start i)

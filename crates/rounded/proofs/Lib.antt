@@ -17,7 +17,6 @@ pub mod Masking
 pub mod BesideStep
 pub mod BesideKey
 pub mod BesideMarks
-pub mod Telling
 pub mod BesideHidden
 pub mod Checking
 pub mod Making

@@ -37,10 +37,6 @@ use Rattle.rounded.proofs.Same.{SamePlaces, same_places, marked_same}
 pub limit_last : (n set : ℕ) (t : List ℤ) (marks : List ℕ) (w : ℕ) → AllMet (marked_key_needs_then n set t marks w passed) → suc (bound_limit Sheet n set) * 2 ^ n < 2 ^ 62
 limit_last n set t marks w p = rw (← add-one (bound_limit Sheet n set)) (limit_doubled n set p.0.most)
 
--- a call keeps the length of what it is lent
-pub room_kept : (m l k : ℕ) → k ≡ l → m ≤ l → m ≤ k
-room_kept m l k e h = omega arith
-
 module _ (n set m : ℕ) (t : List ℤ) (marks : List ℕ) (w u : List ℤ) (kept : List ℕ) (p : AllMet (marked_key_needs_then n set t marks (length w) passed)) (d : m ≡ table_size n)
     (e : u ≡ change m (copying t) w) (room : block_start n ≤ length kept) where
   whole : m ≡ block_start n

@@ -15,10 +15,9 @@ use Rattle.rules.specs.declared.refusal.Refusal.TheVariants.{NoAssignment}
 use Rattle.rules.specs.Hidden.{hidden_in}
 use Rattle.rules.specs.Refusing.{passed, AllMet}
 use Rattle.rules.proofs.Refusals.{refusal-number}
-use Rattle.tables.specs.declared.reply.Reply.{Reply}
-use Rattle.tables.specs.declared.reply.Reply.TheVariants.{Done, Refused}
+use Rattle.std.specs.Prelude.{Ok, Err}
+use Rattle.tables.specs.Replies.{Reply, reply_number}
 use Rattle.tables.specs.Meaning.{Satisfiable, NoneAbove}
-use Rattle.tables.specs.Replies.{reply_number}
 use Rattle.tables.specs.Tables.{has_rule}
 use Rattle.tables.proofs.Refusing.{tied_decided}
 use Rattle.marks.specs.Marks.{marked_of}
@@ -61,12 +60,12 @@ marks_made n set t marks key marks' room above e f s a = record {
     bare k h r =
         keeps_bare (hidden_in set) n n (marked_of t marks) (omega arith) (start_below n t marks above) (start_bare n t marks) k h (rw (bounds k h) r)
 
-not_done : (r : Reply) (f : Refusal) → r ≡ Refused f → reply_number r ≡ 0 → ⊥
+not_done : (r : Reply) (f : Refusal) → r ≡ Err f → reply_number r ≡ 0 → ⊥
 not_done r f d e = refusal-number f (rw d at e)
 
 module _ (n set : ℕ) (t : List ℤ) (marks : List ℕ) (w w' : List ℤ) where
   -- refused by a check, with table and marks as they were
-  pub marked_refused : (r : Reply) (f : Refusal) → r ≡ marked_key_reply n set t marks (length w) → r ≡ Refused f → Lent (block_start n) (frees_workspace r) w w'
+  pub marked_refused : (r : Reply) (f : Refusal) → r ≡ marked_key_reply n set t marks (length w) → r ≡ Err f → Lent (block_start n) (frees_workspace r) w w'
       → MarkedKeyed n set t marks w r t marks w'
   marked_refused r f e d l = record {
     reply = e;
@@ -107,15 +106,15 @@ module _ (n set : ℕ) (t : List ℤ) (marks : List ℕ) (w w' : List ℤ) where
     plain : (r : Bool) → MarkedKeyTried n set t marks w r t' marks' w' → KeyTried key_of n set t w r t' w'
     plain r d = record { reply = d.reply; words = d.words; lent = d.lent }
 
-    pub marked_five : MarkedKeyTried n set t marks w true t' marks' w' → MarkedKeyed n set t marks w (Refused NoAssignment) t' marks' w'
+    pub marked_five : MarkedKeyTried n set t marks w true t' marks' w' → MarkedKeyed n set t marks w (Err NoAssignment) t' marks' w'
     marked_five d =
-        beside_key (Refused NoAssignment) (key_five key_of KeyMade n set t w w' t' met (plain true d)) (λ c. absurd (not_done (Refused NoAssignment) NoAssignment refl c))
+        beside_key (Err NoAssignment) (key_five key_of KeyMade n set t w w' t' met (plain true d)) (λ c. absurd (not_done (Err NoAssignment) NoAssignment refl c))
         (λ c. d.kept refl)
 
-    pub marked_made : NoneAbove (block_start n) t → MarkedKeyTried n set t marks w false t' marks' w' → MarkedKeyed n set t marks w Done t' marks' w'
+    pub marked_made : NoneAbove (block_start n) t → MarkedKeyTried n set t marks w false t' marks' w' → MarkedKeyed n set t marks w (Ok tt) t' marks' w'
     marked_made a d =
-        beside_key Done done (λ c. marks_made n set t marks t' marks' p.0.room a d.words (key_fits n set t (length w) met) (done.made refl).some (d.marked refl))
+        beside_key (Ok tt) done (λ c. marks_made n set t marks t' marks' p.0.room a d.words (key_fits n set t (length w) met) (done.made refl).some (d.marked refl))
         (λ c. absurd (c refl))
       where
-        done : Keyed n set t w Done t' w'
+        done : Keyed n set t w (Ok tt) t' w'
         done = plain_done n set t w t' w' met (plain false d)

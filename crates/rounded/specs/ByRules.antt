@@ -1,9 +1,8 @@
 -- Hiding with marks in document 02's own words ([6]), by sums of rules. Hiding.antt says the same place by place. Which sums there are, and which bounds they leave, is `elimination`'s ByRules; here is which of the rules that
 -- are left are marked.
-use Rattle.std.specs.Prelude.{Bool, true, false, ◌&&◌, List, ◌↔◌, ◌⊎◌, ◌≡◌, ℕ, suc, ◌+◌, ◌*◌, ◌<◌, eqb, ℤ, ◌+ℤ◌}
+use Rattle.std.specs.Prelude.{Bool, true, false, ◌&&◌, List, ◌↔◌, ◌⊎◌, ◌≡◌, ℕ, suc, ◌+◌, ◌*◌, ◌<◌, eqb, ℤ, ◌+ℤ◌, Some}
 use Rattle.integers.specs.Bound.{odd}
 use Rattle.words.specs.Change.{word_at}
-use Rattle.places.specs.declared.Place.TheVariants.{At}
 use Rattle.places.specs.Numbering.{block_start}
 use Rattle.rules.specs.declared.rule.Rule.{Rule}
 use Rattle.rules.specs.declared.rule.Partner.{Partner}
@@ -27,7 +26,7 @@ sum_loses_half Absent q s = false
 pub record UnmarkedSum (n j : ℕ) (t : List ℤ) (marks : ℕ → Bool) (k : ℕ) (w : ℤ) : Type 0 where
   pub sum : Rule
   pub is : IsSum n j t sum
-  pub place : find_place sum ≡ At k
+  pub place : find_place sum ≡ Some k
   pub bound : w ≡ bound_of sum
   pub plus_unmarked : marks is.with_plus.place ≡ false
   pub minus_unmarked : marks is.with_minus.place ≡ false

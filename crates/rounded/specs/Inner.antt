@@ -1,5 +1,5 @@
 -- What the functions inside ask and answer; no promise of the call rests on it.
-use Rattle.std.specs.Prelude.{Bool, true, false, cond, ◌&&◌, ◌||◌, ◌≡◌, List, ℕ, zero, suc, ◌+◌, ◌*◌, ◌≤◌, ◌<◌, ◌-◌, ◌^◌, ℤ, pos, ◌+ℤ◌, length, drop}
+use Rattle.std.specs.Prelude.{Bool, true, false, cond, ◌&&◌, ◌||◌, ◌≡◌, List, ℕ, zero, suc, ◌+◌, ◌*◌, ◌≤◌, ◌<◌, ◌-◌, ◌^◌, ℤ, pos, ◌+ℤ◌, length, drop, Ok}
 use Rattle.std.specs.Int.Signed.{lt_z}
 use Rattle.integers.specs.Bound.{half, bit, Within}
 use Rattle.words.specs.Change.{word_at}
@@ -7,8 +7,7 @@ use Rattle.words.specs.Lent.{Lent}
 use Rattle.places.specs.Numbering.{block_start, is_one}
 use Rattle.rules.specs.Hidden.{hidden_in, member_count}
 use Rattle.rules.specs.Limits.{max_quantities, no_rule}
-use Rattle.tables.specs.declared.reply.Reply.{Reply}
-use Rattle.tables.specs.declared.reply.Reply.TheVariants.{Done}
+use Rattle.tables.specs.Replies.{Reply}
 use Rattle.tables.specs.Meaning.{WordsWithin, NoneAbove}
 use Rattle.tables.specs.Tables.{has_rule}
 use Rattle.rules.specs.Refusing.{passed, AllMet}
@@ -103,7 +102,7 @@ pub record MarkedKeyTried (n set : ℕ) (table : List ℤ) (marks : List ℕ) (w
 
 -- the checks before 5: a refusal is the call's reply, and where they are done the needs are met
 pub record MarkedKeyChecked (n set : ℕ) (t : List ℤ) (marks : List ℕ) (w : ℕ) (r : Reply) : Type 0 where
-  pub reply : r ≡ marked_key_checks n set t marks w Done
-  pub passes : r ≡ Done → AllMet (marked_key_needs_then n set t marks w passed)
+  pub reply : r ≡ marked_key_checks n set t marks w (Ok tt)
+  pub passes : r ≡ Ok tt → AllMet (marked_key_needs_then n set t marks w passed)
   -- every word was looked at, and a word of 64 bits is not above the no-rule word
-  pub words : r ≡ Done → NoneAbove (block_start n) t
+  pub words : r ≡ Ok tt → NoneAbove (block_start n) t

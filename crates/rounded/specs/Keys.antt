@@ -1,13 +1,11 @@
 -- The reply of the key call with marks (document 02, [6]).
-use Rattle.std.specs.Prelude.{not, ◌&&◌, List, ℕ, leb, ℤ, length}
+use Rattle.std.specs.Prelude.{not, ◌&&◌, List, ℕ, leb, ℤ, length, Ok}
 use Rattle.places.specs.Numbering.{block_start}
 use Rattle.rules.specs.declared.paper.Paper.TheVariants.{Sheet}
 use Rattle.rules.specs.declared.refusal.Refusal.TheVariants.{Size, OutOfLimit, NoAssignment, TooShort}
 use Rattle.rules.specs.Hidden.{set_within}
-use Rattle.tables.specs.declared.reply.Reply.{Reply}
-use Rattle.tables.specs.declared.reply.Reply.TheVariants.{Done}
+use Rattle.tables.specs.Replies.{Reply, check}
 use Rattle.tables.specs.Tables.{serves}
-use Rattle.tables.specs.Replies.{check}
 use Rattle.marks.specs.Bytes.{marks_in}
 use Rattle.keys.specs.Keys.{bounds_in_limit, refuted}
 
@@ -20,4 +18,4 @@ marked_key_checks n set t marks workspace next =
 
 -- and 5
 unfoldable pub marked_key_reply : ℕ → ℕ → List ℤ → List ℕ → ℕ → Reply
-marked_key_reply n set t marks workspace = marked_key_checks n set t marks workspace (check (not (refuted n t)) NoAssignment Done)
+marked_key_reply n set t marks workspace = marked_key_checks n set t marks workspace (check (not (refuted n t)) NoAssignment (Ok tt))

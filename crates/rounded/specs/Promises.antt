@@ -6,8 +6,7 @@ use Rattle.places.specs.Numbering.{block_start}
 use Rattle.rules.specs.Refusal.{refused_as}
 use Rattle.rules.specs.Refusing.{passed, AllMet, DecidedBy}
 use Rattle.rules.specs.Hidden.{hidden_in}
-use Rattle.tables.specs.declared.reply.Reply.{Reply}
-use Rattle.tables.specs.Replies.{is_done, reply_returned, reply_number}
+use Rattle.tables.specs.Replies.{Reply, is_done, reply_returned, reply_number}
 use Rattle.tables.specs.Meaning.{Unsatisfiable}
 use Rattle.tables.specs.Tables.{has_rule}
 use Rattle.marks.specs.Marks.{byte_at, marked_of}

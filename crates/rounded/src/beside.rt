@@ -17,17 +17,13 @@ fn mask(m: usize, table: &[i64], marks: &[u8], copy: &mut [i64])
     requires { (m ≤ length table.now) × (m ≤ length marks.now) × (m ≤ length copy.old) × WordsWithin m (pos (2 ^ 61)) table.now }
     ensures { Masked m table.now marks.now copy.old copy.new }
 {
-    let mut i = 0;
-    while i < m {
+    for i in 0..m {
         let w = table[i];
-        let mut doubled = Sheet::NO_RULE;
-        if w < Sheet::NO_RULE {
-            if marks[i] != 1 {
-                doubled = w + w;
-            }
-        }
-        copy[i] = doubled;
-        i = i + 1;
+        copy[i] = if w < Sheet::NO_RULE && marks[i] != 1 {
+            w + w
+        } else {
+            Sheet::NO_RULE
+        };
     }
 }
 
@@ -36,10 +32,7 @@ fn is_marked(w: i64, beside: i64) -> bool
     requires { DoubleFits w }
     ensures { result ≡ beside_mark w beside }
 {
-    if w < Sheet::NO_RULE {
-        return beside != w + w;
-    }
-    false
+    w < Sheet::NO_RULE && beside != w + w
 }
 
 // Marks each of the first `m` rules whose doubled bound does not stand beside it.
@@ -47,14 +40,8 @@ fn compare(m: usize, table: &[i64], copy: &[i64], marks: &mut [u8])
     requires { (m ≤ length table.now) × (m ≤ length copy.now) × (m ≤ length marks.old) × WordsWithin m (pos (2 ^ 62 - 1)) table.now }
     ensures { ComparedBeside m table.now copy.now marks.old marks.new }
 {
-    let mut i = 0;
-    while i < m {
-        let mut mark = 0;
-        if is_marked(table[i], copy[i]) {
-            mark = 1;
-        }
-        marks[i] = mark;
-        i = i + 1;
+    for i in 0..m {
+        marks[i] = u8::from(is_marked(table[i], copy[i]));
     }
 }
 

@@ -15,17 +15,11 @@ use rules::sheet::Sheet;
 use tables::table;
 
 // Whether the halves of two words that are rules add to less than 0.
+#[tactic(auto, using(crate::proofs::HalvesBelow::halves_fit), unfolding(crate::specs::Inner::halves_below))]
 fn are_halves_below(p: i64, m: i64) -> bool
     ensures { result ≡ halves_below p m }
 {
-    if p < Sheet::NO_RULE {
-        if m < Sheet::NO_RULE {
-            let first = integers::halve(p);
-            let second = integers::halve(m);
-            return first.half + second.half < 0;
-        }
-    }
-    false
+    p < Sheet::NO_RULE && m < Sheet::NO_RULE && integers::halved(p) + integers::halved(m) < 0
 }
 
 // Whether that is so of +q and -q for a quantity q of the set. While bounds are doubled a bare sum of two marked ones is 1 too large, so this is asked beside.
@@ -33,14 +27,10 @@ fn is_any_below(n: usize, set: Set, table: &[i64]) -> bool
     requires { (n ≤ max_quantities) × (block_start n ≤ length table.now) }
     ensures { result ≡ any_halves_below (hidden_in set) n table.now }
 {
-    let mut j = n;
-    while 0 < j {
-        j = j - 1;
-        if hidden::is_hidden(set, j + 1) {
-            let start = 2 * (j * j);
-            if are_halves_below(table[start], table[start + 1]) {
-                return true;
-            }
+    for j in (0..n).rev() {
+        let start = 2 * (j * j);
+        if hidden::is_hidden(set, j + 1) && are_halves_below(table[start], table[start + 1]) {
+            return true;
         }
     }
     false

@@ -18,10 +18,8 @@ pub(crate) fn hide_set(
     requires { MarkedFits n table.old marks.old × (block_start n ≤ length copy.old) }
     ensures { MarkedHidden n set table.old marks.old result table.new marks.new }
 {
-    if hidden::count(set, n) < n {
-        if !pairs::is_any_marked(n, marks) {
-            return doubled::hide(n, set, table, marks);
-        }
+    if hidden::count(set, n) < n && !pairs::is_any_marked(n, marks) {
+        return doubled::hide(n, set, table, marks);
     }
     beside::hide(n, set, table, marks, copy)
 }

@@ -9,14 +9,7 @@ fn is_any_set(marks: &[u8], from: usize, to: usize) -> bool
     requires { to ≤ length marks.now }
     ensures { RunTested from to marks.now result }
 {
-    let mut i = from;
-    while i < to {
-        if 0 < marks[i] {
-            return true;
-        }
-        i = i + 1;
-    }
-    false
+    marks[..to].iter().skip(from).any(|mark| 0 < *mark)
 }
 
 // Whether a place of two quantities is marked, of a table over `n`.
@@ -24,13 +17,11 @@ pub(crate) fn is_any_marked(n: usize, marks: &[u8]) -> bool
     requires { (n ≤ max_quantities) × (block_start n ≤ length marks.now) }
     ensures { PairsTested n marks.now result }
 {
-    let mut b = 0;
-    while b < n {
+    for b in 0..n {
         let start = 2 * (b * b);
         if is_any_set(marks, start + 2, start + 4 * b + 2) {
             return true;
         }
-        b = b + 1;
     }
     false
 }

@@ -1,7 +1,7 @@
 -- How many of the first quantities are in a set: no more than there are, and no more than the set has bits. Assumes nothing.
 use mathlib.Core.Path.{◌≡◌, refl}
 use mathlib.Core.Bool.{Bool, true, false, cond}
-use Prim.Native.Nat.{ℕ, zero, suc, ◌+◌, ◌-◌, ◌^◌, ◌≤◌, ◌<◌}
+use Prim.Native.Nat.{ℕ, zero, suc, ◌+◌, ◌-◌, ◌^◌, ◌≤◌, ◌<◌, min}
 use native.Mathlib.Nat.{add-zero, add-suc}
 use native.Mathlib.Numerals.{add-one}
 use native.Mathlib.Omega.{arith}
@@ -48,3 +48,23 @@ count_small bits set n l = go (leb bits n) refl
     go : (b : Bool) → leb bits n ≡ b → member_count (hidden_in set) n ≤ bits
     go true e = rw (count_bits bits set n l (leb-true bits n e)) (count_most (hidden_in set) bits)
     go false e = omega (arith, count_most (hidden_in set) n, leb-false bits n e)
+
+pub count_word : (set n : ℕ) → set < 2 ^ 32 → member_count (hidden_in set) n ≤ 32
+count_word set n l = count_small 32 set n l
+
+-- so it need not be counted past them
+pub count_min : (set n : ℕ) → set < 2 ^ 32 → member_count (hidden_in set) (min n 32) ≡ member_count (hidden_in set) n
+count_min set n l = go (leb 32 n) refl
+  where
+    go : (b : Bool) → leb 32 n ≡ b → member_count (hidden_in set) (min n 32) ≡ member_count (hidden_in set) n
+    go true e =
+        let h = leb-true 32 n e in
+        let k : min n 32 ≡ 32 = omega arith in
+        rw (k, count_bits 32 set n l h)
+    go false e =
+        let h = leb-false 32 n e in
+        let k : min n 32 ≡ n = omega arith in
+        rw k
+
+-- for the loop that counts
+pub ruleset counting = (count_zero, count_more, count_most, count_min)

@@ -7,5 +7,6 @@ pub mod Counts
 pub mod Refusals
 pub mod Literals
 pub mod Meanings
+mod Promised
 mod Limits
 mod Examples

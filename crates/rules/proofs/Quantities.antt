@@ -1,13 +1,13 @@
 -- Signed quantity numbers: which are of 1 to n, that these fit their words, and that 0 is none. Assumes nothing.
 use mathlib.Core.Path.{◌≡◌, refl, sym, ap, subst}
 use mathlib.Core.Bool.{Bool, true, false, ◌&&◌}
-use Prim.Native.Nat.{ℕ, zero, suc, ◌+◌, ◌≤◌, ◌<◌}
+use Prim.Native.Nat.{ℕ, zero, suc, ◌+◌, ◌≤◌}
 use native.Mathlib.Omega.{arith}
 use lib.Dec.{leb, T}
 use lib.IntN.{ℤ, pos, negsuc, nat_abs, ◌+ℤ◌}
 use mir.Syntax.{w32, w64}
 use mir.Val.{SFits}
-use borrow.Author.Tests.{leb-true, le-leb, lt-leb}
+use borrow.Author.Tests.{leb-true}
 use Rattle.integers.proofs.Parts.{positive_part, negative_part, parts_add, word_of}
 use Rattle.rules.specs.Limits.{max_quantities}
 use Rattle.rules.specs.Literal.{quantity_within}
@@ -21,14 +21,6 @@ both false b e = absurd (subst T (sym e) tt)
 
 pub within_range : (n q : ℕ) → quantity_within n q ≡ true → (1 ≤ q) × (q ≤ n)
 within_range n q e = let p = both (leb 1 q) (leb q n) e in (leb-true 1 q p.0, leb-true q n p.1)
-
--- a number below 1 is not of 1 to n
-pub within_low : (n q : ℕ) → q < 1 → quantity_within n q ≡ false
-within_low n q h = rw (lt-leb 1 q h)
-
--- any other is where it is not above n
-pub within_high : (n q : ℕ) → 1 ≤ q → quantity_within n q ≡ leb q n
-within_high n q h = rw (le-leb 1 q h)
 
 -- an integer of such a magnitude fits the word of a signed quantity number
 pub within_narrow : (n : ℕ) (z : ℤ) → n ≤ max_quantities → quantity_within n (nat_abs z) ≡ true → SFits w32 z

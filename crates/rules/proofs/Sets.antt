@@ -1,14 +1,13 @@
 -- A hidden set that is within n has no quantity past n, and a set of some bits that has none is within n; the bit of a quantity. Assumes nothing.
 use mathlib.Core.Path.{◌≡◌, refl}
 use mathlib.Core.Bool.{true, false}
-use Prim.Native.Nat.{ℕ, zero, suc, ◌+◌, ◌-◌, ◌*◌, ◌/◌, ◌%◌, ◌^◌, ◌≤◌, ◌<◌}
+use Prim.Native.Nat.{ℕ, zero, suc, ◌+◌, ◌*◌, ◌/◌, ◌%◌, ◌^◌, ◌≤◌, ◌<◌}
 use native.Mathlib.Numerals.{unary_clauses}
 use native.Mathlib.Nat.{div-eq_of_lt, div-lt_iff_lt-mul, lt_of_lt_of_le, add-zero, add-suc}
 use native.Mathlib.Omega.{arith}
 use lib.Pow.{pow_pos, pow_mono, pow-add}
 use borrow.Author.Tests.{ltb-true, lt-ltb, eqb-false}
 use Rattle.rules.specs.Hidden.{hidden_in, set_within, bit_of}
-use Rattle.rules.specs.Limits.{max_quantities}
 
 pub past_hidden : (n h : ℕ) → h < 2 ^ n → (q : ℕ) → n < q → hidden_in h q ≡ false
 past_hidden n h l zero g = refl
@@ -37,7 +36,3 @@ hidden_within n (suc m) h l f = hidden_within n m h (lower (n + m) h (rw add-suc
 pub bit_twice : (q : ℕ) → 1 ≤ q → 2 * bit_of q ≡ 2 ^ q
 bit_twice zero h = let z : ⊥ = omega arith in absurd z
 bit_twice (suc j) h = simp unary_clauses (omega (arith, pow-add 2 1 j))
-
--- as the shift makes it
-pub bit_shifted : (q : ℕ) → 1 ≤ q → q ≤ max_quantities → (1 * 2 ^ (q - 1)) % 2 ^ 32 ≡ bit_of q
-bit_shifted q l m = omega (arith, bit_twice q l, pow_mono {i = q} {j = 32} m)

@@ -1,6 +1,6 @@
 -- What is returned to a caller, and the number and values for each refusal: 1 to 7 are document 01's ('Returned to the caller'), later ones document 02's. A new refusal is one clause
 -- each of `refusal_number` and `refusal_beside`.
-use Rattle.std.specs.Prelude.{ℕ, List, [], ◌∷◌, ℤ, pos}
+use Rattle.std.specs.Prelude.{ℕ, List, [], ◌∷◌, ℤ, pos, Result, Ok, Err}
 use Rattle.rules.specs.declared.refusal.Refusal.{Refusal}
 use Rattle.rules.specs.declared.refusal.Refusal.TheVariants.{Size, Malformed, OutOfLimit, Cancelling, NoAssignment, TooShort, Mismatch, ListSize, NotCanonical}
 
@@ -65,3 +65,12 @@ pub record Returned : Type 0 where
 -- a refusal as it is returned
 abbrev pub refused_as : Refusal → Returned
 refused_as f = record { number = refusal_number f; values = beside_values (refusal_beside f) }
+
+-- the same of an answer that may be a refusal: 0 where there is none
+abbrev pub answer_number : {A : Type 0} → Result A Refusal → ℕ
+answer_number (Ok a) = 0
+answer_number (Err f) = refusal_number f
+
+abbrev pub answer_value : {A : Type 0} → Result A Refusal → ℕ
+answer_value (Ok a) = 0
+answer_value (Err f) = refusal_value f

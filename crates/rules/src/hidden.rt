@@ -5,6 +5,7 @@ ghost use Rattle.rules.specs.Limits.{max_quantities};
 ghost use Rattle.rules.specs.Promises.{InRange};
 
 // A set of quantities.
+// Kept: the C interface: a set is lent and returned as this number, and the theorems on hidden sets speak of its bits.
 pub type Set = u32;
 
 // The bits of a set's type.
@@ -14,14 +15,7 @@ const BITS: usize = 32;
 pub fn is_hidden(set: Set, q: usize) -> bool
     ensures { result ≡ hidden_in set q }
 {
-    if q == 0 {
-        return false;
-    }
-    if BITS < q {
-        return false;
-    }
-    let bit = q - 1;
-    (set >> bit) % 2 == 1
+    1 <= q && q <= BITS && (set >> (q - 1)) % 2 == 1
 }
 
 // The set of quantity `q` alone.
@@ -29,33 +23,25 @@ pub fn bit(q: usize) -> Set
     requires { (1 ≤ q) × (q ≤ max_quantities) }
     ensures { result ≡ bit_of q }
 {
-    let place = q - 1;
-    1 << place
+    1 << (q - 1)
 }
 
 // Whether the set has no quantity past `n`; where `n` is at least the number of bits every set is so.
 pub fn is_within(set: Set, n: usize) -> bool
     ensures { InRange n set result }
 {
-    if BITS <= n {
-        return true;
-    }
-    (set >> n) == 0
+    BITS <= n || set >> n == 0
 }
 
 // How many of the quantities 1 to `n` the set has.
+#[tactic(auto, using(crate::proofs::Counts::counting))]
 pub fn count(set: Set, n: usize) -> usize
     ensures { result ≡ member_count (hidden_in set) n }
 {
     let mut members = 0;
-    let mut q = 0;
-    while q < n {
-        if BITS <= q {
-            return members;
-        }
-        q = q + 1;
-        if is_hidden(set, q) {
-            members = members + 1;
+    for i in 0..n.min(BITS) {
+        if is_hidden(set, i + 1) {
+            members += 1;
         }
     }
     members

@@ -4,8 +4,9 @@ ghost use Rattle.rules.specs.Limits.{max_quantities, max_bound, max_rules, no_ru
 
 use crate::hidden::Set;
 
-// The sheet type, whose associated constants are the limits. Calls hand its two parts on as numbers, as document 01 lends them.
-#[derive(Clone, Copy)]
+// The sheet type, whose associated constants are the limits.
+// Kept: the C interface: calls are lent the two parts as numbers, as document 01 has them, and hand them on so.
+#[derive(Clone, Copy, PartialEq, Eq, Debug)]
 pub struct Sheet {
     pub quantities: usize,
     pub hidden: Set,
@@ -18,13 +19,14 @@ impl Sheet {
 
     pub const MAX_RULES: usize = 2048;
 
+    // Kept: a word that means no rule, where an Option would do: the C interface: tables are lent as words, and `has_rule`, `table_of` and the other definitions of a table speak of it.
     pub const NO_RULE: i64 = 9_223_372_036_854_775_807;
 
     pub const MAX_TEXT: usize = 65536;
 }
 
 // The constants as values.
-#[derive(Clone, Copy)]
+#[derive(Clone, Copy, PartialEq, Eq, Debug)]
 pub struct Limits {
     pub quantities: usize,
     pub bound: i64,
@@ -34,6 +36,7 @@ pub struct Limits {
 }
 
 // The sheet's constants are the numbers of specs/Limits.antt.
+// A reader finds here each limit proved to be the document's.
 pub fn constants() -> Limits
     ensures quantities { result.quantities ≡ max_quantities }
     ensures bound { result.bound ≡ pos max_bound }

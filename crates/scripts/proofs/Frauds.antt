@@ -30,9 +30,7 @@ use Rattle.scripts.specs.declared.room.Lengths.{Lengths}
 use Rattle.scripts.specs.declared.reply.Subject.{Subject}
 use Rattle.scripts.specs.declared.reply.Subject.TheVariants.{Both}
 use Rattle.scripts.specs.declared.reply.Subject.TheVariants.{Script as OfScript}
-use Rattle.scripts.specs.declared.reply.TextMarking.{TextMarking}
-use Rattle.scripts.specs.declared.reply.TextMarking.TheVariants.{Marked, Refused}
-use Rattle.scripts.specs.Replies.{texts_returned, text_subjects}
+use Rattle.scripts.specs.Replies.{TextMarking, marked, refused_for, texts_returned, text_subjects}
 use Rattle.scripts.specs.Meaning.{Matches, pair_needs}
 use Rattle.scripts.specs.Promises.{TextsJudged, TextsMarked, MarkedInOwnRoom}
 
@@ -68,21 +66,21 @@ hidden_named_reads = ((text_means Script hidden_named (accepted named [])).0 ref
 
 -- a script that is marked against A fits it
 marked_matches : (script : List ℕ) (d : Contents) → Reads Script script d → (lent : Lengths) (n : ℕ) (v : Verdict) (values : List ℤ)
-    → TextsJudged text_a script lent (Marked n v) values → Matches contents_a d
+    → TextsJudged text_a script lent (marked n v) values → Matches contents_a d
 marked_matches script d r lent n v values j =
     let t = j.accepted.0 refl in
     rw (reads_same Sheet text_a t.of_sheet contents_a t.sheet_reads (sheet_a_reads Sheet), reads_same Script script t.of_script d t.script_reads r)
     at t.met.1.1.1.1.0
 
 -- so none of these is
-pub other_count : (lent : Lengths) (n : ℕ) (v : Verdict) (values : List ℤ) → TextsJudged text_a of_two lent (Marked n v) values → ⊥
+pub other_count : (lent : Lengths) (n : ℕ) (v : Verdict) (values : List ℤ) → TextsJudged text_a of_two lent (marked n v) values → ⊥
 other_count lent n v values j = omega (arith, (marked_matches of_two _ of_two_reads lent n v values j).count)
 
-pub other_list : (lent : Lengths) (n : ℕ) (v : Verdict) (values : List ℤ) → TextsJudged text_a none_hidden lent (Marked n v) values → ⊥
+pub other_list : (lent : Lengths) (n : ℕ) (v : Verdict) (values : List ℤ) → TextsJudged text_a none_hidden lent (marked n v) values → ⊥
 other_list lent n v values j =
     let e = (marked_matches none_hidden _ none_hidden_reads lent n v values j).hiddens in let z : ◌≡◌ {A = ℕ} 0 1 = cc in omega arith
 
-pub hidden-named : (lent : Lengths) (n : ℕ) (v : Verdict) (values : List ℤ) → TextsJudged text_a hidden_named lent (Marked n v) values → ⊥
+pub hidden-named : (lent : Lengths) (n : ℕ) (v : Verdict) (values : List ℤ) → TextsJudged text_a hidden_named lent (marked n v) values → ⊥
 unfolding is_listed names rule_of written_rule
 hidden-named lent n v values j =
     let e = ((marked_matches hidden_named named hidden_named_reads lent n v values j).visible 2 refl).0 in let z : ◌≡◌ {A = ℕ} 0 1 = cc in omega arith
@@ -128,7 +126,7 @@ short_of lent m (inr (s, inr (c, inr (w, inl (h, e))))) = inr (inr (inr (omega a
 short_of lent m (inr (s, inr (c, inr (w, inr (v, inl (h, e)))))) = let z : ◌≡◌ {A = ℕ} 0 1 = cc in absurd (omega arith)
 short_of lent m (inr (s, inr (c, inr (w, inr (v, inr (x, z)))))) = absurd z
 
-refused_short : (lent : Lengths) (m : ℕ) (values : List ℤ) → TextsJudged plain plain lent (Refused Both (TooShort m)) values → ShortOf lent m
+refused_short : (lent : Lengths) (m : ℕ) (values : List ℤ) → TextsJudged plain plain lent (refused_for Both (TooShort m)) values → ShortOf lent m
 refused_short lent m values j =
     let t = (j.refused Both (TooShort m)).0 (refl, refl) in
     short_of lent m
@@ -136,7 +134,7 @@ refused_short lent m values j =
     at t.fails)
 
 -- words enough refused, whatever is asked for
-pub enough_refused : (m : ℕ) (values : List ℤ) → TextsJudged plain plain (lengths 2 2 4 1) (Refused Both (TooShort m)) values → ⊥
+pub enough_refused : (m : ℕ) (values : List ℤ) → TextsJudged plain plain (lengths 2 2 4 1) (refused_for Both (TooShort m)) values → ⊥
 enough_refused m values j = go (refused_short (lengths 2 2 4 1) m values j)
   where
     go : ShortOf (lengths 2 2 4 1) m → ⊥
@@ -146,7 +144,7 @@ enough_refused m values j = go (refused_short (lengths 2 2 4 1) m values j)
     go (inr (inr (inr p))) = omega (arith, p.0)
 
 -- 5 or more asked for, whatever is lent
-pub more_asked : (lent : Lengths) (m : ℕ) (values : List ℤ) → 4 < m → TextsJudged plain plain lent (Refused Both (TooShort m)) values → ⊥
+pub more_asked : (lent : Lengths) (m : ℕ) (values : List ℤ) → 4 < m → TextsJudged plain plain lent (refused_for Both (TooShort m)) values → ⊥
 more_asked lent m values h j = go (refused_short lent m values j)
   where
     go : ShortOf lent m → ⊥
@@ -159,16 +157,16 @@ more_asked lent m values h j = go (refused_short lent m values j)
 
 module _ (sheet script : List ℕ) (t u w t' u' w' : List ℤ) where
   -- the assignment is changed, and the verdict is equal
-  pub changed_on_equal : (n : ℕ) → TextsMarked sheet script t u w (pos 7 ∷ []) (Marked n Equal) t' u' w' (pos 0 ∷ []) → ⊥
+  pub changed_on_equal : (n : ℕ) → TextsMarked sheet script t u w (pos 7 ∷ []) (marked n Equal) t' u' w' (pos 0 ∷ []) → ⊥
   changed_on_equal n m = let e = m.written.kept refl in let z : ◌≡◌ {A = ℕ} 0 7 = cc in omega arith
 
   -- or a refusal
-  pub changed_on_refusal : (p : Subject) (f : Refusal) → TextsMarked sheet script t u w (pos 7 ∷ []) (Refused p f) t' u' w' (pos 0 ∷ []) → ⊥
+  pub changed_on_refusal : (p : Subject) (f : Refusal) → TextsMarked sheet script t u w (pos 7 ∷ []) (refused_for p f) t' u' w' (pos 0 ∷ []) → ⊥
   changed_on_refusal p f m = let e = m.written.kept refl in let z : ◌≡◌ {A = ℕ} 0 7 = cc in omega arith
 
 -- also where it alone is lent
-pub own_changed_on_equal : (sheet script : List ℕ) (n : ℕ) → MarkedInOwnRoom sheet script (pos 7 ∷ []) (Marked n Equal) (pos 0 ∷ []) → ⊥
+pub own_changed_on_equal : (sheet script : List ℕ) (n : ℕ) → MarkedInOwnRoom sheet script (pos 7 ∷ []) (marked n Equal) (pos 0 ∷ []) → ⊥
 own_changed_on_equal sheet script n m = let e = m.written.kept refl in let z : ◌≡◌ {A = ℕ} 0 7 = cc in omega arith
 
-pub own_changed_on_refusal : (sheet script : List ℕ) (p : Subject) (f : Refusal) → MarkedInOwnRoom sheet script (pos 7 ∷ []) (Refused p f) (pos 0 ∷ []) → ⊥
+pub own_changed_on_refusal : (sheet script : List ℕ) (p : Subject) (f : Refusal) → MarkedInOwnRoom sheet script (pos 7 ∷ []) (refused_for p f) (pos 0 ∷ []) → ⊥
 own_changed_on_refusal sheet script p f m = let e = m.written.kept refl in let z : ◌≡◌ {A = ℕ} 0 7 = cc in omega arith

@@ -1,4 +1,5 @@
 -- Two texts are refused exactly for document 01's reasons, which name one paper, and marked exactly where they are accepted. Assumes nothing.
+use Rattle.std.specs.Prelude.{Ok, Err}
 use mathlib.Core.Path.{◌≡◌, refl, sym, ◌∙◌, ap}
 use mathlib.Core.Bool.{true, false}
 use mathlib.Core.List.{List, [], ◌∷◌}
@@ -12,9 +13,7 @@ use Rattle.rules.specs.declared.refusal.Refusal.{Refusal}
 use Rattle.rules.specs.Refusal.{refusal_number, refused_as}
 use Rattle.rules.specs.Refusing.{RefusedBy, AllMet}
 use Rattle.rules.proofs.Refusals.{same_refusal}
-use Rattle.tables.specs.declared.reply.Reply.{Reply}
-use Rattle.tables.specs.declared.reply.Reply.TheVariants.{Done}
-use Rattle.tables.specs.declared.reply.Reply.TheVariants.{Refused as NotDone}
+use Rattle.tables.specs.Replies.{Reply}
 use Rattle.tables.proofs.Tests.{clash, refused_done}
 use Rattle.marking.specs.declared.verdict.Verdict.{Verdict}
 use Rattle.marking.proofs.Carried.{verdict_from}
@@ -29,9 +28,8 @@ use Rattle.scripts.specs.declared.reply.Subject.{Subject}
 use Rattle.scripts.specs.declared.reply.Subject.TheVariants.{Both}
 use Rattle.scripts.specs.declared.reply.Subject.TheVariants.{Sheet as OfSheet}
 use Rattle.scripts.specs.declared.reply.Subject.TheVariants.{Script as OfScript}
-use Rattle.scripts.specs.declared.reply.TextMarking.{TextMarking}
-use Rattle.scripts.specs.declared.reply.TextMarking.TheVariants.{Marked, Refused}
-use Rattle.scripts.specs.Replies.{texts_returned, text_number, text_counts, text_subjects, is_text_marked}
+use Rattle.scripts.specs.declared.reply.Marked.{Marked}
+use Rattle.scripts.specs.Replies.{TextMarking, refused_for, texts_returned, text_number, text_counts, text_subjects, is_text_marked}
 use Rattle.scripts.specs.Meaning.{pair_needs, AcceptedPair, PairFails, RefusedPair}
 use Rattle.scripts.specs.Marking.{pair_checks, marked_or, pair_reply, texts_reply, count_in}
 use Rattle.scripts.specs.Promises.{PairJudged, TextsJudged}
@@ -66,21 +64,30 @@ accepted-fails paper s c u f e h = not-accepted (sym ((text_means paper s (refus
 -- ---- replies
 
 -- a refusal as it is returned, with its paper
-pub returned_refused : (r : TextMarking) (p : Subject) (f : Refusal) → ((texts_returned r ≡ refused_as f) × (text_subjects r ≡ p ∷ [])) ↔ (r ≡ Refused p f)
+pub returned_refused : (r : TextMarking) (p : Subject) (f : Refusal) → ((texts_returned r ≡ refused_as f) × (text_subjects r ≡ p ∷ [])) ↔ (r ≡ refused_for p f)
 returned_refused r p f = (go r, λ e. (ap texts_returned e, ap text_subjects e))
   where
-    go : (r : TextMarking) → (texts_returned r ≡ refused_as f) × (text_subjects r ≡ p ∷ []) → r ≡ Refused p f
-    go (Marked n v) e = let z : ◌≡◌ {A = ℕ} 0 1 = let y = e.1 in cc in absurd (omega arith)
-    go (Refused q g) e = let a = same_refusal g f e.0 in let b : q ≡ p = let y = e.1 in cc in rw (a, b)
+    go : (r : TextMarking) → (texts_returned r ≡ refused_as f) × (text_subjects r ≡ p ∷ []) → r ≡ refused_for p f
+    go (Ok m) e = let z : ◌≡◌ {A = ℕ} 0 1 = let y = e.1 in cc in absurd (omega arith)
+    go (Err x) e = let a = same_refusal x.refusal f e.0 in let b : x.paper ≡ p = let y = e.1 in cc in rw (← a, ← b)
+
+-- a refusal tells its paper and what it is
+refusal_or : Refusal → TextMarking → Refusal
+refusal_or f (Ok m) = f
+refusal_or f (Err r) = r.refusal
+
+same_refused : {p q : Subject} {f g : Refusal} → refused_for {A = Marked} p f ≡ refused_for q g → (q ≡ p) × (g ≡ f)
+unfolding refusal_or
+same_refused {f = f} e = (let x = ap text_subjects e in cc, sym (ap (refusal_or f) e))
 
 -- the reply of two fine texts is refused as their checks are, both papers being named
-marked_refused : (a : Reply) (n : ℕ) (v : Verdict) (p : Subject) (f : Refusal) → marked_or a n v ≡ Refused p f → (p ≡ Both) × (a ≡ NotDone f)
-marked_refused Done n v p f e = let z : ◌≡◌ {A = ℕ} 0 1 = cc in absurd (omega arith)
-marked_refused (NotDone g) n v p f e = let x : p ≡ Both = cc in let y : g ≡ f = cc in (x, rw y)
+marked_refused : (a : Reply) (n : ℕ) (v : Verdict) (p : Subject) (f : Refusal) → marked_or a n v ≡ refused_for p f → (p ≡ Both) × (a ≡ Err f)
+marked_refused (Ok done) n v p f e = let z : ◌≡◌ {A = ℕ} 0 1 = cc in absurd (omega arith)
+marked_refused (Err g) n v p f e = let x = same_refused e in (x.0, rw x.1)
 
-marked_done : (a : Reply) (n : ℕ) (v : Verdict) → (is_text_marked (marked_or a n v) ≡ true) ↔ (a ≡ Done)
-marked_done Done n v = (λ e. refl, λ e. refl)
-marked_done (NotDone f) n v = (λ e. clash e refl, λ e. absurd (refused_done e))
+marked_done : (a : Reply) (n : ℕ) (v : Verdict) → (is_text_marked (marked_or a n v) ≡ true) ↔ (a ≡ Ok tt)
+marked_done (Ok done) n v = (λ e. refl, λ e. refl)
+marked_done (Err f) n v = (λ e. clash e refl, λ e. absurd (refused_done e))
 
 -- ---- two texts
 
@@ -108,20 +115,19 @@ module _ (sheet script : List ℕ) (lent : Lengths) where
     )
 
   refused_reason : (j : Judged Contents) → check_text Sheet sheet ≡ j → (k : Judged Contents) → check_text Script script ≡ k
-      → (p : Subject) (f : Refusal) → pair_reply j k lent ≡ Refused p f → RefusedPair sheet script lent p f
+      → (p : Subject) (f : Refusal) → pair_reply j k lent ≡ refused_for p f → RefusedPair sheet script lent p f
   unfolding pair_reply
-  refused_reason (refused g) e k h p f d =
-      let x : p ≡ OfSheet = cc in let y : f ≡ g = cc in rw (x, y) (refused_fails Sheet sheet g e)
+  refused_reason (refused g) e k h p f d = let x = same_refused d in rw (x.0, x.1) (refused_fails Sheet sheet g e)
   refused_reason (accepted c u) e (refused g) h p f d =
-      let x : p ≡ OfScript = cc in let y : f ≡ g = cc in
-      rw (x, y) (record { contents = c; reads = accepted_reads Sheet e }, refused_fails Script script g h)
+      let x = same_refused d in
+      rw (x.0, x.1) (record { contents = c; reads = accepted_reads Sheet e }, refused_fails Script script g h)
   refused_reason (accepted c u) e (accepted i w) h p f d =
       let m = marked_refused (pair_checks c i lent) c.count _ p f d in
       let t = pair_tied c i (accepted_reads Sheet e).spelled.fine (accepted_reads Script h).spelled.fine lent in
       rw m.0 ((fails_same c i u w e h f).1 ((t.refused f).0 m.1))
 
   reason_refused : (j : Judged Contents) → check_text Sheet sheet ≡ j → (k : Judged Contents) → check_text Script script ≡ k
-      → (p : Subject) (f : Refusal) → RefusedPair sheet script lent p f → pair_reply j k lent ≡ Refused p f
+      → (p : Subject) (f : Refusal) → RefusedPair sheet script lent p f → pair_reply j k lent ≡ refused_for p f
   unfolding pair_reply
   reason_refused (refused g) e k h OfSheet f x = rw (fails_one Sheet sheet g e f x)
   reason_refused (refused g) e k h OfScript f x = refused-reads Sheet sheet g e x.0.contents x.0.reads
@@ -158,7 +164,7 @@ module _ (sheet script : List ℕ) (lent : Lengths) where
 
   -- ---- what the reply tells
 
-  pub texts_refused : (p : Subject) (f : Refusal) → (texts_reply sheet script lent ≡ Refused p f) ↔ RefusedPair sheet script lent p f
+  pub texts_refused : (p : Subject) (f : Refusal) → (texts_reply sheet script lent ≡ refused_for p f) ↔ RefusedPair sheet script lent p f
   unfolding texts_reply
   texts_refused p f =
       (refused_reason (check_text Sheet sheet) refl (check_text Script script) refl p f, reason_refused (check_text Sheet sheet) refl (check_text Script script) refl p f)
@@ -172,7 +178,7 @@ module _ (sheet script : List ℕ) (lent : Lengths) where
   texts_counts = counts_met (check_text Sheet sheet) refl (check_text Script script) refl
 
   -- the reply to accepted texts is no refusal
-  pub refused-accepted {ℓ} : {X : Type ℓ} (p : Subject) (f : Refusal) → texts_reply sheet script lent ≡ Refused p f → AcceptedPair sheet script lent → X
+  pub refused-accepted {ℓ} : {X : Type ℓ} (p : Subject) (f : Refusal) → texts_reply sheet script lent ≡ refused_for p f → AcceptedPair sheet script lent → X
   refused-accepted p f e t = let z : false ≡ true = rw e at (texts_accepted.1 t) in clash z refl
 
   -- no text is refused with 5
@@ -197,8 +203,8 @@ module _ (sheet script : List ℕ) (lent : Lengths) where
   refused_never Both f x e = pair_never x.of_sheet x.of_script f x.fails e
 
   texts_never : (r : TextMarking) → r ≡ texts_reply sheet script lent → (text_number r ≡ 5) → ⊥
-  texts_never (Marked n v) d e = omega (arith, verdict_from v)
-  texts_never (Refused p f) d e = refused_never p f ((texts_refused p f).0 (sym d)) e
+  texts_never (Ok m) d e = omega (arith, verdict_from m.verdict)
+  texts_never (Err x) d e = refused_never x.paper x.refusal ((texts_refused x.paper x.refusal).0 (sym d)) e
 
   -- a reply with what a verdict means is judged as promised
   pub texts_judged : (r : TextMarking) (values : List ℤ) → r ≡ texts_reply sheet script lent

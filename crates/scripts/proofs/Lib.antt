@@ -3,6 +3,7 @@ pub mod Rules
 pub mod Sheets
 pub mod Matching
 pub mod Rooms
+pub mod Papers
 pub mod Alike
 pub mod OwnKeys
 pub mod Judging

@@ -1,4 +1,5 @@
 -- A script fits a sheet exactly where the two have one n and one hidden set and the rules of the script's table name visible quantities alone. Assumes nothing.
+use Rattle.std.specs.Prelude.{Ok}
 use mathlib.Core.Path.{◌≡◌, refl, sym, ◌∙◌}
 use mathlib.Core.Bool.{Bool, true, false, cond, not, ◌||◌}
 use mathlib.Core.List.{List, [], ◌∷◌}
@@ -23,7 +24,6 @@ use Rattle.rules.specs.Limits.{no_rule}
 use Rattle.rules.specs.Literal.{quantity_of}
 use Rattle.rules.specs.Meaning.{bound_of, names}
 use Rattle.rules.specs.Steps.{halved_of}
-use Rattle.tables.specs.declared.reply.Reply.TheVariants.{Done}
 use Rattle.tables.specs.Places.{rule_at, find_place, HasPlace}
 use Rattle.tables.specs.Tables.{has_rule, empty_table, rule_reply, put_at, put_halved, put_rule, put_all, table_of, table_names_hidden}
 use Rattle.tables.specs.Meaning.{HoldsRule, NoneNames, NamesVisible}
@@ -82,13 +82,13 @@ placed_silent n q t r l u e =
     rw (place_names n q r (pos 0) u) at p
 
 -- a rule of one quantity
-one_silent : (n q : ℕ) (t : List ℤ) (x : ℕ) (c : ℤ) → block_start n ≤ length t → rule_reply n (One x c) ≡ Done
+one_silent : (n q : ℕ) (t : List ℤ) (x : ℕ) (c : ℤ) → block_start n ≤ length t → rule_reply n (One x c) ≡ Ok tt
     → Silent n q (put_halved t (One x c)) ↔ (Silent n q t × (names q (One x c) ≡ false))
 unfolding put_halved put_at find_place place_of
 one_silent n q t x c l e = let p = one_accepted n x c e in placed_silent n q t (One x c) l p.0 p.1
 
 -- a rule of two different ones
-two_silent : (n q : ℕ) (t : List ℤ) (x y : ℕ) (c : ℤ) → block_start n ≤ length t → (x ≡ y → ⊥) → rule_reply n (Two x y c) ≡ Done
+two_silent : (n q : ℕ) (t : List ℤ) (x y : ℕ) (c : ℤ) → block_start n ≤ length t → (x ≡ y → ⊥) → rule_reply n (Two x y c) ≡ Ok tt
     → Silent n q (put_halved t (Two x y c)) ↔ (Silent n q t × (names q (Two x y c) ≡ false))
 unfolding put_halved put_at find_place place_of
 two_silent n q t x y c l d e =
@@ -111,13 +111,13 @@ unfolding put_halved put_at find_place names
 bare_silent n q t c = (λ s. (s, refl), λ s. s.0)
 
 -- an accepted rule adds its names
-put_silent : (n q : ℕ) (t : List ℤ) (r : Rule) → block_start n ≤ length t → rule_reply n (halved_of r) ≡ Done
+put_silent : (n q : ℕ) (t : List ℤ) (r : Rule) → block_start n ≤ length t → rule_reply n (halved_of r) ≡ Ok tt
     → Silent n q (put_rule t r) ↔ (Silent n q t × (names q r ≡ false))
 unfolding put_rule halved_of
 put_silent n q t (One x c) l e = one_silent n q t x c l e
 put_silent n q t (Two x y c) l e = go (eqb x y) refl e
   where
-    go : (b : Bool) → eqb x y ≡ b → rule_reply n (cond b (One x (half c)) (Two x y c)) ≡ Done
+    go : (b : Bool) → eqb x y ≡ b → rule_reply n (cond b (One x (half c)) (Two x y c)) ≡ Ok tt
         → Silent n q (put_halved t (cond b (One x (half c)) (Two x y c))) ↔ (Silent n q t × (names q (Two x y c) ≡ false))
     go true d f = rw (sym (eqb-true x y d), doubled_names q x c (half c)) (one_silent n q t x (half c) l f)
     go false d f = two_silent n q t x y c l (eqb-false x y d) f

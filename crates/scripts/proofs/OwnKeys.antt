@@ -1,5 +1,7 @@
 -- The text of a sheet's own key, plain or tight, read as its script, is accepted and found equal: every line of it is fine in a script's limit, it is not too long, it names no hidden quantity,
 -- and by demand 2 its rules allow what the sheet allows. Assumes nothing.
+use Rattle.std.specs.Prelude.{Ok}
+use Rattle.scripts.specs.Replies.{marked}
 use mathlib.Core.Path.{◌≡◌, refl, sym, ◌∙◌}
 use mathlib.Core.Bool.{Bool, true, false, cond}
 use mathlib.Core.List.{List, [], ◌∷◌}
@@ -16,7 +18,6 @@ use Rattle.rules.specs.declared.paper.Paper.TheVariants.{Sheet, Script}
 use Rattle.rules.specs.Hidden.{hidden_in}
 use Rattle.rules.specs.Limits.{max_quantities}
 use Rattle.rules.specs.Meaning.{names}
-use Rattle.tables.specs.declared.reply.Reply.TheVariants.{Done}
 use Rattle.tables.specs.Places.{rule_at}
 use Rattle.tables.specs.Tables.{has_rule}
 use Rattle.tables.specs.Meaning.{HoldsRule, rule_in, Satisfies, NamesVisible, NoneNames, KeyLike}
@@ -38,7 +39,6 @@ use Rattle.marking.proofs.Checking.{met_accepted}
 use Rattle.marking.proofs.Demand.{verdict_demand}
 use Rattle.marking.proofs.OwnKeys.{is_equal, answer_room, answer_like, answer_allows, key_of_copy}
 use Rattle.scripts.specs.declared.room.Lengths.{Lengths}
-use Rattle.scripts.specs.declared.reply.TextMarking.TheVariants.{Marked}
 use Rattle.scripts.specs.Meaning.{set_in, table_in, own_lengths, Matches, Room, OwnKeyText}
 use Rattle.scripts.specs.Marking.{pair_checks, pair_reply, texts_reply}
 use Rattle.scripts.proofs.Sheets.{FineTable, FineSheet, fine_table, table_sized}
@@ -157,16 +157,16 @@ module _ (sheet script : List ℕ) (lent : Lengths) (k : OwnKeyText sheet script
   own_verdict : verdict_of (hidden_in (set_in c)) c.count (table_in c) (table_in d) ≡ Equal
   own_verdict = is_equal _ ((verdict_demand c.count (set_in c) (table_in c) (table_in d) lent.workspace lent.values own_tables).equal.1 own_allows)
 
-  own_checks : pair_checks c d lent ≡ Done
+  own_checks : pair_checks c d lent ≡ Ok tt
   own_checks =
       (pair_tied c d k.reads.spelled.fine script_reads.spelled.fine lent).accepted.1 (room.sheet_room, (room.script_room, (room.workspace_room, (room.values_room, (key_matches c fine k.key there like, tt)))))
 
-  pub own_reply : texts_reply sheet script lent ≡ Marked k.contents.count Equal
+  pub own_reply : texts_reply sheet script lent ≡ marked k.contents.count Equal
   unfolding texts_reply pair_reply
   own_reply = rw (reads_check Sheet sheet c k.reads, reads_check Script script d script_reads, own_checks, own_verdict)
 
 -- with tables and a workspace for every sheet, it is so where the assignment has words enough
-pub own_in_room : (sheet script : List ℕ) (v : ℕ) (k : OwnKeyText sheet script) → k.contents.count ≤ v → texts_reply sheet script (own_lengths v) ≡ Marked k.contents.count Equal
+pub own_in_room : (sheet script : List ℕ) (v : ℕ) (k : OwnKeyText sheet script) → k.contents.count ≤ v → texts_reply sheet script (own_lengths v) ≡ marked k.contents.count Equal
 own_in_room sheet script v k h = own_reply sheet script (own_lengths v) k (record { sheet_room = table; script_room = table; workspace_room = omega (arith, table); values_room = h })
   where
     table : block_start k.contents.count ≤ block_start max_quantities

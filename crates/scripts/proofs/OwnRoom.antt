@@ -1,4 +1,5 @@
 -- With tables and a workspace for every sheet, marking two texts is refused with 6 exactly for the assignment. Assumes nothing.
+use Rattle.std.specs.Prelude.{Ok, Err}
 use mathlib.Core.Path.{◌≡◌, refl, sym, ◌∙◌, ap}
 use mathlib.Core.Bool.{Bool, true, false, cond}
 use mathlib.Core.Logic.{inl, inr}
@@ -24,20 +25,19 @@ use Rattle.keys.proofs.Promised.{untouched}
 use Rattle.marking.specs.Meaning.{workspace_size}
 use Rattle.marking.proofs.Carried.{verdict_from}
 use Rattle.lines.specs.Spelling.{quantities_key, rules_key}
+use Rattle.std.specs.Result.{MatchResult}
+use Rattle.lines.specs.Answers.{Line, count_answer}
 use Rattle.lines.specs.Lines.{Judged, accepted, refused, count_judged, hidden_judged}
 use Rattle.reading.specs.Reading.{onward, rules_from, lines_from, check_text}
 use Rattle.reading.specs.Texts.{Contents}
 use Rattle.reading.specs.Meaning.{Readable, malformed_at, outside_at, cancels_at, FailsFor}
 use Rattle.scripts.specs.declared.room.Lengths.{Lengths}
 use Rattle.scripts.specs.declared.pair.Pair.{Pair}
-use Rattle.scripts.specs.declared.pair.PairChecked.TheVariants.{Refused as NotPassed}
 use Rattle.scripts.specs.declared.reply.Subject.{Subject}
 use Rattle.scripts.specs.declared.reply.Subject.TheVariants.{Both}
 use Rattle.scripts.specs.declared.reply.Subject.TheVariants.{Sheet as OfSheet}
 use Rattle.scripts.specs.declared.reply.Subject.TheVariants.{Script as OfScript}
-use Rattle.scripts.specs.declared.reply.TextMarking.{TextMarking}
-use Rattle.scripts.specs.declared.reply.TextMarking.TheVariants.{Marked, Refused}
-use Rattle.scripts.specs.Replies.{text_number, text_value, is_text_shown}
+use Rattle.scripts.specs.Replies.{TextMarking, refused_for, text_number, text_value, is_text_shown}
 use Rattle.scripts.specs.Meaning.{lengths_of, own_lengths, pair_needs, AcceptedPair, RefusedPair, Room}
 use Rattle.scripts.specs.Marking.{room_checks, pair_checks, pair_reply, texts_reply, sheet_count, count_in}
 use Rattle.scripts.specs.Inner.{PassedPair, TablesRoom}
@@ -91,13 +91,23 @@ lines_most s = go (count_judged quantities_key 1 max_quantities 1 s)
         onward_most n (rules_from n (bound_range Sheet n (length qs)) m 4 w) _ (λ rs z. omega arith)))
     go (refused f) = omega arith
 
-pub first_most : (s : List ℕ) → count_in s ≤ count_told (count_judged quantities_key 1 max_quantities 1 s)
+first_most : (s : List ℕ) → count_in s ≤ count_told (count_judged quantities_key 1 max_quantities 1 s)
 unfolding check_text
 first_most s = go (ltb max_text (length s))
   where
     go : (b : Bool) → sheet_count (cond b (refused Size) (lines_from Sheet s)) ≤ count_told (count_judged quantities_key 1 max_quantities 1 s)
     go true = omega arith
     go false = lines_most s
+
+-- the answer of that line, 0 for a refusal
+pub answer_most : (s : List ℕ) (r : Line ℕ) (m : ℕ) → r ≡ count_answer s (count_judged quantities_key 1 max_quantities 1 s)
+    → MatchResult r (λ x. m ≡ x.value) (λ f. m ≡ 0) → count_in s ≤ m
+unfolding count_answer
+answer_most s r m e h = omega (arith, first_most s, go (count_judged quantities_key 1 max_quantities 1 s) (rw e at h))
+  where
+    go : (j : Judged ℕ) → MatchResult (count_answer s j) (λ x. m ≡ x.value) (λ f. m ≡ 0) → m ≡ count_told j
+    go (accepted n u) h = h
+    go (refused f) h = h
 
 -- ---- 6
 
@@ -143,8 +153,8 @@ module _ (sheet script : List ℕ) (k : ℕ) where
 
   six_short : (r : TextMarking) → r ≡ texts_reply sheet script (own_lengths k) → text_number r ≡ 6
       → Readable Script script × (k < count_in sheet) × (text_value r ≡ count_in sheet)
-  six_short (Marked n v) d e = absurd (omega (arith, verdict_from v))
-  six_short (Refused p f) d e = refused_six p f ((texts_refused sheet script (own_lengths k) p f).0 (sym d)) e
+  six_short (Ok m) d e = absurd (omega (arith, verdict_from m.verdict))
+  six_short (Err x) d e = refused_six x.paper x.refusal ((texts_refused sheet script (own_lengths k) x.paper x.refusal).0 (sym d)) e
 
   short_six : (r : TextMarking) → r ≡ texts_reply sheet script (own_lengths k) → Readable Script script → k < count_in sheet → text_number r ≡ 6
   short_six r e d h =
@@ -225,7 +235,7 @@ own_judged sheet script v r v' j l =
     }
 
 -- the n of texts that passed
-passed_count : {sheet script : List ℕ} {lent : Lengths} {p : Pair} → PassedPair sheet script lent p → count_in sheet ≡ p.quantities
+passed_count : {sheet script : List ℕ} {lent : Lengths} {p : Pair} → PassedPair sheet script lent p → count_in sheet ≡ p.sheet.quantities
 passed_count {sheet} x = reads_count sheet x.of_sheet.contents x.of_sheet.reads ∙ sym x.of_sheet.counts
 
 -- so does marking them, in such a room
@@ -233,10 +243,12 @@ module _ {sheet script : List ℕ} {p : Pair} (a b w v : List ℤ) (x : PassedPa
     (room : TablesRoom (count_in sheet) (length a) (length b) (length w)) where
   pub own_passed : PassedPair sheet script (lengths_of a b w v) p
   own_passed =
-      let t : TablesRoom p.quantities (length a) (length b) (length w) = rw (passed_count x) at room in
+      let t : TablesRoom p.sheet.quantities (length a) (length b) (length w) = rw (passed_count x) at room in
       record {
         of_sheet = x.of_sheet;
         of_script = x.of_script;
+        counts = x.counts;
+        sets = x.sets;
         room = record {
           sheet_room = t.sheet_room;
           script_room = t.script_room;
@@ -253,7 +265,7 @@ module _ {sheet script : List ℕ} {p : Pair} (a b w v : List ℤ) (x : PassedPa
       m.written
 
 -- and a refusal, which changes no word
-pub own_refused : {sheet script : List ℕ} {v : List ℤ} {p : Subject} {f : Refusal} → PairTells sheet script (own_lengths (length v)) (NotPassed p f)
-    → MarkedInOwnRoom sheet script v (Refused p f) v
+pub own_refused : {sheet script : List ℕ} {v : List ℤ} {p : Subject} {f : Refusal} → PairTells sheet script (own_lengths (length v)) (refused_for p f)
+    → MarkedInOwnRoom sheet script v (refused_for p f) v
 own_refused {sheet} {script} {v} {p} {f} t =
-    own_judged sheet script v (Refused p f) v (texts_judged sheet script _ (Refused p f) v (sym t) (λ x. refused-accepted sheet script _ p f t x)) (untouched _ _ v)
+    own_judged sheet script v (refused_for p f) v (texts_judged sheet script _ (refused_for p f) v (sym t) (λ x. refused-accepted sheet script _ p f t x)) (untouched _ _ v)

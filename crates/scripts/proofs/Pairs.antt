@@ -1,6 +1,7 @@
 -- Two fine texts with room and one header: their tables are accepted where the script names no hidden quantity, their reply is then the tables' verdict, and what
 -- it says of the tables it says of the rules as written.
 -- Assumes nothing.
+use Rattle.std.specs.Prelude.{Ok}
 use mathlib.Core.Path.{◌≡◌, refl, sym, ◌∙◌}
 use mathlib.Core.Bool.{Bool, true, false, not}
 use mathlib.Core.List.{List, ◌++◌}
@@ -14,7 +15,6 @@ use Rattle.places.specs.Numbering.{block_start}
 use Rattle.rules.specs.declared.paper.Paper.TheVariants.{Sheet, Script}
 use Rattle.rules.specs.declared.refusal.Refusal.TheVariants.{Mismatch}
 use Rattle.rules.specs.Hidden.{hidden_in}
-use Rattle.tables.specs.declared.reply.Reply.TheVariants.{Done}
 use Rattle.tables.specs.Replies.{check}
 use Rattle.tables.specs.Tables.{table_names_hidden}
 use Rattle.tables.specs.Meaning.{Satisfies}
@@ -32,9 +32,7 @@ use Rattle.reading.specs.Meaning.{Reads, rules_of}
 use Rattle.reading.proofs.Means.{reads_check, reads_same}
 use Rattle.scripts.specs.declared.room.Lengths.{Lengths}
 use Rattle.scripts.specs.declared.reply.Subject.TheVariants.{Both}
-use Rattle.scripts.specs.declared.reply.TextMarking.{TextMarking}
-use Rattle.scripts.specs.declared.reply.TextMarking.TheVariants.{Marked, Refused}
-use Rattle.scripts.specs.Replies.{is_text_shown}
+use Rattle.scripts.specs.Replies.{TextMarking, marked, refused_for, is_text_shown}
 use Rattle.scripts.specs.Meaning.{lengths_of, set_in, table_in, AcceptedPair, Room}
 use Rattle.scripts.specs.Marking.{pair_checks, marked_or, pair_reply, texts_reply}
 use Rattle.scripts.specs.Inner.{first_checks, TablesFilled}
@@ -79,7 +77,7 @@ unfolding texts_reply pair_reply
 pair-reply sheet script c d p q lent = rw (reads_check Sheet sheet c p, reads_check Script script d q)
 
 module _ (sheet script : List ℕ) (sheet-table script_table workspace values : List ℤ) (c d : Contents) (p : Reads Sheet sheet c) (q : Reads Script script d)
-    (first : first_checks c.count (set_in c) d.count (set_in d) (lengths_of sheet-table script_table workspace values) ≡ Done) where
+    (first : first_checks c.count (set_in c) d.count (set_in d) (lengths_of sheet-table script_table workspace values) ≡ Ok tt) where
   -- what is lent
   abbrev lent : Lengths
   lent = lengths_of sheet-table script_table workspace values
@@ -109,11 +107,11 @@ module _ (sheet script : List ℕ) (sheet-table script_table workspace values : 
   named = table_names_hidden (hidden_in (set_in c)) c.count (table_in d)
 
   -- that decides, once the rest is checked
-  texts-reply : texts_reply sheet script lent ≡ marked_or (check (not named) Mismatch Done) c.count (verdict_in c d)
+  texts-reply : texts_reply sheet script lent ≡ marked_or (check (not named) Mismatch (Ok tt)) c.count (verdict_in c d)
   texts-reply = pair-reply sheet script c d p q lent ∙ rw (first_done c d lent first)
 
   -- the reply of a script that does
-  named_reply : named ≡ true → texts_reply sheet script lent ≡ Refused Both Mismatch
+  named_reply : named ≡ true → texts_reply sheet script lent ≡ refused_for Both Mismatch
   named_reply e = texts-reply ∙ rw e refl
 
   -- tables that are filled from texts need no more checks but of the script's names
@@ -161,7 +159,7 @@ module _ (sheet script : List ℕ) (sheet-table script_table workspace values : 
     }
 
     module _ (hides_none : named ≡ false) (x : Verdict) (g : VerdictGiven c.count (set_in c) (table_in c) (table_in d) workspace values x workspace' values') where
-      verdict_reply : texts_reply sheet script lent ≡ Marked c.count x
+      verdict_reply : texts_reply sheet script lent ≡ marked c.count x
       verdict_reply = texts-reply ∙ rw (hides_none, ← g.reply) refl
 
       -- a verdict means what is promised
@@ -178,16 +176,16 @@ module _ (sheet script : List ℕ) (sheet-table script_table workspace values : 
           }
 
       -- the verdict on the tables is the texts'
-      pub tables_marked : TextsMarked sheet script sheet-table script_table workspace values (Marked c.count x) sheet_table' script_table' workspace' values'
-      tables_marked = filled_marked (Marked c.count x) (texts_judged sheet script lent (Marked c.count x) values' (sym verdict_reply) verdict_judged)
+      pub tables_marked : TextsMarked sheet script sheet-table script_table workspace values (marked c.count x) sheet_table' script_table' workspace' values'
+      tables_marked = filled_marked (marked c.count x) (texts_judged sheet script lent (marked c.count x) values' (sym verdict_reply) verdict_judged)
           g.lent g.written
 
   -- a script that names a hidden quantity is refused
   pub named_marked : (sheet_table' script_table' : List ℤ) → sheet_table' ≡ table_in c ++ drop (block_start c.count) sheet-table
       → script_table' ≡ table_in d ++ drop (block_start d.count) script_table → named ≡ true
-      → TextsMarked sheet script sheet-table script_table workspace values (Refused Both Mismatch) sheet_table' script_table' workspace values
+      → TextsMarked sheet script sheet-table script_table workspace values (refused_for Both Mismatch) sheet_table' script_table' workspace values
   named_marked sheet_table' script_table' e f h =
-      filled_marked sheet_table' script_table' e f workspace values (Refused Both Mismatch)
-      (texts_judged sheet script lent (Refused Both Mismatch) values (sym (named_reply h))
+      filled_marked sheet_table' script_table' e f workspace values (refused_for Both Mismatch)
+      (texts_judged sheet script lent (refused_for Both Mismatch) values (sym (named_reply h))
       (λ t. refused-accepted sheet script lent Both Mismatch (named_reply h) t))
       (untouched (workspace_size c.count) true workspace) (untouched c.count false values)

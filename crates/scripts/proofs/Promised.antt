@@ -1,4 +1,5 @@
 -- What marking two texts promises, from what its steps answer. Assumes nothing.
+use Rattle.std.specs.Prelude.{Ok, Err}
 use mathlib.Core.Path.{◌≡◌, refl, sym, ◌∙◌, ap, subst}
 use mathlib.Core.Bool.{Bool, true, false}
 use mathlib.Core.List.{List, ◌++◌}
@@ -12,31 +13,24 @@ use Rattle.rules.specs.declared.paper.Paper.TheVariants.{Sheet, Script}
 use Rattle.rules.specs.declared.refusal.Refusal.{Refusal}
 use Rattle.rules.specs.Hidden.{hidden_in}
 use Rattle.rules.specs.Limits.{max_quantities}
-use Rattle.tables.specs.declared.reply.Reply.{Reply}
-use Rattle.tables.specs.declared.reply.Reply.TheVariants.{Done}
-use Rattle.tables.specs.declared.reply.Reply.TheVariants.{Refused as NotDone}
+use Rattle.tables.specs.Replies.{Reply}
 use Rattle.tables.specs.Tables.{table_names_hidden}
 use Rattle.keys.proofs.Promised.{untouched}
 use Rattle.lines.specs.Lines.{Judged, accepted, refused}
-use Rattle.reading.specs.declared.check.Checked.{Checked}
-use Rattle.reading.specs.declared.check.Checked.TheVariants.{Passed}
 use Rattle.reading.specs.Texts.{Contents, header_text}
 use Rattle.reading.specs.Meaning.{Reads}
-use Rattle.reading.specs.Reading.{check_text, checked_of, filled}
+use Rattle.reading.specs.declared.check.Passed.{Passed}
+use Rattle.reading.specs.Reading.{Checked, check_text, checked_of, filled}
 use Rattle.reading.specs.Promises.{TextChecked}
 use Rattle.reading.proofs.Means.{reads_check}
 use Rattle.reading.proofs.CheckedTexts.{checked_passes}
 use Rattle.scripts.specs.declared.room.Lengths.{Lengths}
 use Rattle.scripts.specs.declared.pair.Pair.{Pair}
-use Rattle.scripts.specs.declared.pair.PairChecked.{PairChecked}
-use Rattle.scripts.specs.declared.pair.PairChecked.TheVariants.{Passed as BothPassed}
-use Rattle.scripts.specs.declared.pair.PairChecked.TheVariants.{Refused as NotPassed}
 use Rattle.scripts.specs.declared.reply.Subject.{Subject}
-use Rattle.scripts.specs.declared.reply.TextMarking.{TextMarking}
-use Rattle.scripts.specs.declared.reply.TextMarking.TheVariants.{Refused}
+use Rattle.scripts.specs.Replies.{TextMarking, refused_for}
 use Rattle.scripts.specs.Meaning.{lengths_of, set_in, table_in}
 use Rattle.scripts.specs.Marking.{pair_reply, texts_reply}
-use Rattle.scripts.specs.Inner.{first_checks, passed_or, checked_pair, PassedPair, TablesFilled, FilledMarked}
+use Rattle.scripts.specs.Inner.{PairChecked, first_checks, passed_or, checked_pair, PassedPair, TablesFilled, FilledMarked}
 use Rattle.scripts.specs.Promises.{TextsMarked}
 use Rattle.scripts.proofs.Sheets.{fine_table}
 use Rattle.scripts.proofs.Rooms.{room_roomy, headers_same, first_tells, first_refused}
@@ -44,10 +38,10 @@ use Rattle.scripts.proofs.Judging.{accepted_reads, refused-accepted, texts_judge
 use Rattle.scripts.proofs.Pairs.{pair-reply, tables_filled, tables_marked, named_marked}
 
 -- a text that passed has an n in its range
-pub passed_range : (paper : Paper) {s : List ℕ} {r : Checked} {n set m body : ℕ} → TextChecked paper s r → r ≡ Passed n set m body
-    → (1 ≤ n) × (n ≤ max_quantities)
-passed_range paper {s} {r} {n} {set} {m} {body} t e =
-    let p = checked_passes paper s r t.reply n set m body e in
+pub passed_range : (paper : Paper) {s : List ℕ} {r : Checked} {p : Passed} → TextChecked paper s r → r ≡ Ok p
+    → (1 ≤ p.quantities) × (p.quantities ≤ max_quantities)
+passed_range paper {s} {r} {p = h} t e =
+    let p = checked_passes paper s r t.reply h e in
     let f = fine_table paper p.contents p.reads.spelled.fine in
     rw p.counts (f.some, f.most)
 
@@ -55,34 +49,33 @@ passed_range paper {s} {r} {n} {set} {m} {body} t e =
 
 -- what the answer tells
 abbrev pub PairTells : List ℕ → List ℕ → Lengths → PairChecked → Type 0
-PairTells sheet script lent (BothPassed p) = PassedPair sheet script lent p
-PairTells sheet script lent (NotPassed p f) = texts_reply sheet script lent ≡ Refused p f
+PairTells sheet script lent (Ok p) = PassedPair sheet script lent p
+PairTells sheet script lent (Err r) = texts_reply sheet script lent ≡ Err r
+
+-- of a fine text the header, and where its rule lines begin
+abbrev passed_of : Contents → Passed
+passed_of c = record { quantities = c.count; hidden = set_in c; rules = length c.written; body = length (header_text c) }
 
 -- two texts that are fine by themselves
 module _ (sheet script : List ℕ) (lent : Lengths) (c d : Contents) (p : Reads Sheet sheet c) (q : Reads Script script d) where
   -- the answer where their other checks are done
   abbrev pair_of : Pair
-  pair_of = record {
-    quantities = c.count;
-    hidden = set_in c;
-    rules = length c.written;
-    body = length (header_text c);
-    script_rules = length d.written;
-    script_body = length (header_text d);
-  }
+  pair_of = record { sheet = passed_of c; script = passed_of d }
 
   fine_tell : PairTells sheet script lent (passed_or (first_checks c.count (set_in c) d.count (set_in d) lent) pair_of)
   fine_tell = go (first_checks c.count (set_in c) d.count (set_in d) lent) refl
     where
       go : (r : Reply) → first_checks c.count (set_in c) d.count (set_in d) lent ≡ r → PairTells sheet script lent (passed_or r pair_of)
-      go Done e =
+      go (Ok tt) e =
           let t = first_tells c.count lent (set_in c) d.count (set_in d) e in
           record {
             of_sheet = record { contents = c; reads = p; counts = refl; hides = refl; rules = refl; begins = refl };
-            of_script = record { contents = d; reads = q; counts = t.1; hides = t.2; rules = refl; begins = refl };
+            of_script = record { contents = d; reads = q; counts = refl; hides = refl; rules = refl; begins = refl };
+            counts = sym t.1;
+            sets = sym t.2;
             room = t.0;
           }
-      go (NotDone f) e = pair-reply sheet script c d p q lent ∙ rw (first_refused c d lent f e)
+      go (Err f) e = pair-reply sheet script c d p q lent ∙ rw (first_refused c d lent f e)
 
 pair_tells : (sheet script : List ℕ) (lent : Lengths)
     → PairTells sheet script lent (checked_pair (checked_of (check_text Sheet sheet)) (checked_of (check_text Script script)) lent)
@@ -104,9 +97,9 @@ pair_told sheet script lent e d = subst (PairTells sheet script lent) (sym e ∙
 
 -- nothing is changed
 pub refused_marked : {sheet script : List ℕ} {a b w v : List ℤ} {p : Subject} {f : Refusal}
-    → PairTells sheet script (lengths_of a b w v) (NotPassed p f) → TextsMarked sheet script a b w v (Refused p f) a b w v
+    → PairTells sheet script (lengths_of a b w v) (refused_for p f) → TextsMarked sheet script a b w v (refused_for p f) a b w v
 refused_marked {sheet} {script} {a} {b} {w} {v} {p} {f} t = record {
-  judged = texts_judged sheet script _ (Refused p f) v (sym t) (λ x. refused-accepted sheet script _ p f t x);
+  judged = texts_judged sheet script _ (refused_for p f) v (sym t) (λ x. refused-accepted sheet script _ p f t x);
   sheet_lent = untouched _ _ a;
   script_lent = untouched _ _ b;
   workspace_lent = untouched _ _ w;
@@ -125,10 +118,11 @@ filled_front paper s c t t' k p e f =
 
 module _ {sheet script : List ℕ} {lent : Lengths} {p : Pair} (x : PassedPair sheet script lent p) where
   -- the checks before the tables are filled are done
-  passed_first : first_checks x.of_sheet.contents.count (set_in x.of_sheet.contents) x.of_script.contents.count (set_in x.of_script.contents) lent ≡ Done
+  passed_first : first_checks x.of_sheet.contents.count (set_in x.of_sheet.contents) x.of_script.contents.count (set_in x.of_script.contents) lent ≡ Ok tt
   passed_first =
       rw (← x.of_sheet.counts, ← x.of_sheet.hides, ← x.of_script.counts, ← x.of_script.hides)
-      (sym (headers_same p.quantities lent p.hidden p.quantities p.hidden Done (room_roomy p.quantities lent x.room) refl refl refl))
+      (sym (headers_same p.sheet.quantities lent p.sheet.hidden p.script.quantities p.script.hidden (room_roomy p.sheet.quantities lent x.room)
+      (sym x.counts) (sym x.sets)))
 
 -- texts that passed, with both tables filled
 pub record FilledPair (sheet script : List ℕ) (a b w v : List ℤ) (p : Pair) (a' b' : List ℤ) : Type 0 where
@@ -154,10 +148,10 @@ module _ {sheet script : List ℕ} {a b w v : List ℤ} {p : Pair} {a' b' : List
   script_front =
       let t = x.passed.of_script in
       filled_front Script script d b b' (block_start c.count) t.reads x.script-filled
-      ((fine_table Script d t.reads.spelled.fine).size ∙ ap block_start (sym t.counts ∙ x.passed.of_sheet.counts))
+      ((fine_table Script d t.reads.spelled.fine).size ∙ ap block_start (sym t.counts ∙ x.passed.counts ∙ x.passed.of_sheet.counts))
 
   -- they need no more checks but of the script's names
-  pub filled_tables : TablesFilled p.quantities p.hidden (take (block_start p.quantities) a') (take (block_start p.quantities) b')
+  pub filled_tables : TablesFilled p.sheet.quantities p.sheet.hidden (take (block_start p.sheet.quantities) a') (take (block_start p.sheet.quantities) b')
       (length w) (length v)
   filled_tables =
       rw (x.passed.of_sheet.counts, x.passed.of_sheet.hides, sheet_front.1, script_front.1)
@@ -165,7 +159,7 @@ module _ {sheet script : List ℕ} {a b w v : List ℤ} {p : Pair} {a' b' : List
 
   -- and how they are marked is how the texts are
   pub filled_marked : {r : TextMarking} {w' v' : List ℤ}
-      → FilledMarked p.quantities p.hidden (take (block_start p.quantities) a') (take (block_start p.quantities) b') w v r w' v'
+      → FilledMarked p.sheet.quantities p.sheet.hidden (take (block_start p.sheet.quantities) a') (take (block_start p.sheet.quantities) b') w v r w' v'
       → TextsMarked sheet script a b w v r a' b' w' v'
   filled_marked {r} {w'} {v'} g =
       go (table_names_hidden (hidden_in (set_in c)) c.count (table_in d)) refl

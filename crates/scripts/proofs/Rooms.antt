@@ -1,7 +1,9 @@
 -- What two fine texts need of what is lent and of each other: the checks are these needs in their order, and those made before the tables are filled are their first.
 -- Assumes nothing.
+use Rattle.std.specs.Prelude.{Ok, Err}
 use mathlib.Core.Path.{◌≡◌, refl, sym, ◌∙◌}
-use mathlib.Core.Bool.{Bool, true, false, not, ◌&&◌, and-false}
+use mathlib.Core.Bool.{Bool, true, false, not, ◌&&◌}
+use mathlib.Core.Logic.{◌⊎◌, inl, inr}
 use Prim.Native.Nat.{ℕ, ◌≤◌, ◌<◌}
 use lib.Dec.{leb, eqb}
 use borrow.Author.Tests.{le-leb, lt-leb, eqb-true, eq-eqb, ne_eqb}
@@ -11,9 +13,7 @@ use Rattle.rules.specs.declared.refusal.Refusal.{Refusal}
 use Rattle.rules.specs.declared.refusal.Refusal.TheVariants.{TooShort, Mismatch}
 use Rattle.rules.specs.Hidden.{hidden_in}
 use Rattle.rules.specs.Refusing.{Needs, passed, ◌or◌then◌}
-use Rattle.tables.specs.declared.reply.Reply.{Reply}
-use Rattle.tables.specs.declared.reply.Reply.TheVariants.{Done, Refused}
-use Rattle.tables.specs.Replies.{check}
+use Rattle.tables.specs.Replies.{Reply, check}
 use Rattle.tables.specs.Tables.{table_names_hidden}
 use Rattle.tables.proofs.Tests.{both_true, refused_done}
 use Rattle.tables.proofs.Refusing.{Tied, tied_done, tied_more, Before, before_none, before_more}
@@ -65,22 +65,20 @@ module _ (n : ℕ) (lent : Lengths) where
 
   -- ---- each answer of the program
 
-  pub sheet_short : lent.sheet < block_start n → Refused (TooShort (block_start n)) ≡ room_checks n lent Done
+  pub tables_short : (lent.sheet < block_start n) ⊎ ((block_start n ≤ lent.sheet) × (lent.script < block_start n))
+      → Err (TooShort (block_start n)) ≡ room_checks n lent (Ok tt)
   unfolding room_checks
-  sheet_short h = rw (lt-leb (block_start n) lent.sheet h)
-
-  pub script_short : block_start n ≤ lent.sheet → lent.script < block_start n → Refused (TooShort (block_start n)) ≡ room_checks n lent Done
-  unfolding room_checks
-  script_short a h = rw (le-leb (block_start n) lent.sheet a, lt-leb (block_start n) lent.script h)
+  tables_short (inl h) = rw (lt-leb (block_start n) lent.sheet h)
+  tables_short (inr (a, h)) = rw (le-leb (block_start n) lent.sheet a, lt-leb (block_start n) lent.script h)
 
   pub workspace_short : block_start n ≤ lent.sheet → block_start n ≤ lent.script → lent.workspace < workspace_size n
-      → Refused (TooShort (workspace_size n)) ≡ room_checks n lent Done
+      → Err (TooShort (workspace_size n)) ≡ room_checks n lent (Ok tt)
   unfolding room_checks
   workspace_short a b h =
       rw (le-leb (block_start n) lent.sheet a, le-leb (block_start n) lent.script b, lt-leb (workspace_size n) lent.workspace h)
 
   pub values_short : block_start n ≤ lent.sheet → block_start n ≤ lent.script → workspace_size n ≤ lent.workspace → lent.values < n
-      → Refused (TooShort n) ≡ room_checks n lent Done
+      → Err (TooShort n) ≡ room_checks n lent (Ok tt)
   unfolding room_checks
   values_short a b c h =
       rw (
@@ -90,7 +88,7 @@ module _ (n : ℕ) (lent : Lengths) where
         lt-leb n lent.values h,
       )
 
-  pub room_roomy : Room n lent → Done ≡ room_checks n lent Done
+  pub room_roomy : Room n lent → Ok tt ≡ room_checks n lent (Ok tt)
   unfolding room_checks
   room_roomy r =
       rw (
@@ -107,30 +105,28 @@ module _ (n : ℕ) (lent : Lengths) where
   -- ---- the checks before the tables are filled
 
   module _ (set script_n script_set : ℕ) where
-    pub room_refused : (r : Reply) (f : Refusal) → r ≡ room_checks n lent Done → r ≡ Refused f → r ≡ first_checks n set script_n script_set lent
+    pub room_refused : (f : Refusal) → Err f ≡ room_checks n lent (Ok tt) → Err f ≡ first_checks n set script_n script_set lent
     unfolding first_checks
-    room_refused r f e d = d ∙ sym (room_before.stands f (sym e ∙ d) (check (same_headers n set script_n script_set) Mismatch Done))
+    room_refused f e = sym (room_before.stands f (sym e) _)
 
-    headers_checked : (r : Reply) → r ≡ room_checks n lent Done → r ≡ Done
-        → check (same_headers n set script_n script_set) Mismatch Done ≡ first_checks n set script_n script_set lent
+    headers_checked : Ok tt ≡ room_checks n lent (Ok tt)
+        → check (same_headers n set script_n script_set) Mismatch (Ok tt) ≡ first_checks n set script_n script_set lent
     unfolding first_checks
-    headers_checked r e d = sym (room_before.goes_on (sym e ∙ d) (check (same_headers n set script_n script_set) Mismatch Done))
+    headers_checked e = sym (room_before.goes_on (sym e) _)
 
-    module _ (r : Reply) (e : r ≡ room_checks n lent Done) (d : r ≡ Done) where
-      pub headers_same : n ≡ script_n → set ≡ script_set → Done ≡ first_checks n set script_n script_set lent
-      headers_same a b = rw (← headers_checked r e d, eq-eqb n script_n a, eq-eqb set script_set b)
+    pub headers_same : Ok tt ≡ room_checks n lent (Ok tt) → n ≡ script_n → set ≡ script_set → Ok tt ≡ first_checks n set script_n script_set lent
+    headers_same e a b = rw (← headers_checked e, eq-eqb n script_n a, eq-eqb set script_set b)
 
-      pub headers_other_count : (n ≡ script_n → ⊥) → Refused Mismatch ≡ first_checks n set script_n script_set lent
-      headers_other_count a = rw (← headers_checked r e d, ne_eqb n script_n a)
-
-      pub headers_other_set : (set ≡ script_set → ⊥) → Refused Mismatch ≡ first_checks n set script_n script_set lent
-      headers_other_set a = rw (← headers_checked r e d, ne_eqb set script_set a, and-false (eqb n script_n))
+    pub headers_other : Ok tt ≡ room_checks n lent (Ok tt) → ((n ≡ script_n) × (set ≡ script_set → ⊥)) ⊎ (n ≡ script_n → ⊥)
+        → Err Mismatch ≡ first_checks n set script_n script_set lent
+    headers_other e (inl (a, b)) = rw (← headers_checked e, eq-eqb n script_n a, ne_eqb set script_set b)
+    headers_other e (inr a) = rw (← headers_checked e, ne_eqb n script_n a)
 
     -- where they are done there is room, and the headers are the same
-    pub first_tells : first_checks n set script_n script_set lent ≡ Done → Room n lent × (n ≡ script_n) × (set ≡ script_set)
+    pub first_tells : first_checks n set script_n script_set lent ≡ Ok tt → Room n lent × (n ≡ script_n) × (set ≡ script_set)
     unfolding first_checks
     first_tells e =
-        let t = room_tied ((same_headers n set script_n script_set ≡ true) or Mismatch then passed) (check (same_headers n set script_n script_set) Mismatch Done)
+        let t = room_tied ((same_headers n set script_n script_set ≡ true) or Mismatch then passed) (check (same_headers n set script_n script_set) Mismatch (Ok tt))
         (tied_more _ _ _ _ _ (λ x. x, λ x. x) (λ x. tied_done)) in
         go (t.accepted.0 e)
       where
@@ -150,10 +146,10 @@ unfolding pair_checks
 pair_tied c d f g lent = room_tied c.count lent _ _ (tied_more _ _ _ _ _ (fits_matches c d f g) (λ m. tied_done))
 
 -- a refusal before the tables are filled is the whole's
-pub first_refused : (c d : Contents) (lent : Lengths) (f : Refusal) → first_checks c.count (set_in c) d.count (set_in d) lent ≡ Refused f
-    → pair_checks c d lent ≡ Refused f
+pub first_refused : (c d : Contents) (lent : Lengths) (f : Refusal) → first_checks c.count (set_in c) d.count (set_in d) lent ≡ Err f
+    → pair_checks c d lent ≡ Err f
 unfolding first_checks pair_checks
-first_refused c d lent f e = go (room_checks c.count lent Done) refl
+first_refused c d lent f e = go (room_checks c.count lent (Ok tt)) refl
   where
     same : Bool
     same = same_headers c.count (set_in c) d.count (set_in d)
@@ -164,19 +160,19 @@ first_refused c d lent f e = go (room_checks c.count lent Done) refl
     b : Before (room_checks c.count lent)
     b = room_before c.count lent
 
-    headers : (s : Bool) → check s Mismatch Done ≡ Refused f → check (s && named) Mismatch Done ≡ Refused f
+    headers : (s : Bool) → check s Mismatch (Ok tt) ≡ Err f → check (s && named) Mismatch (Ok tt) ≡ Err f
     headers true h = absurd (refused_done (sym h))
     headers false h = h
 
-    go : (r : Reply) → room_checks c.count lent Done ≡ r → room_checks c.count lent (check (same && named) Mismatch Done) ≡ Refused f
-    go Done h = b.goes_on h _ ∙ headers same (sym (b.goes_on h (check same Mismatch Done)) ∙ e)
-    go (Refused g) h = b.stands g h _ ∙ sym (b.stands g h (check same Mismatch Done)) ∙ e
+    go : (r : Reply) → room_checks c.count lent (Ok tt) ≡ r → room_checks c.count lent (check (same && named) Mismatch (Ok tt)) ≡ Err f
+    go (Ok tt) h = b.goes_on h _ ∙ headers same (sym (b.goes_on h (check same Mismatch (Ok tt))) ∙ e)
+    go (Err g) h = b.stands g h _ ∙ sym (b.stands g h (check same Mismatch (Ok tt))) ∙ e
 
 -- and where they are done, the script's names decide
-pub first_done : (c d : Contents) (lent : Lengths) → first_checks c.count (set_in c) d.count (set_in d) lent ≡ Done
-    → pair_checks c d lent ≡ check (not (table_names_hidden (hidden_in (set_in c)) c.count (table_in d))) Mismatch Done
+pub first_done : (c d : Contents) (lent : Lengths) → first_checks c.count (set_in c) d.count (set_in d) lent ≡ Ok tt
+    → pair_checks c d lent ≡ check (not (table_names_hidden (hidden_in (set_in c)) c.count (table_in d))) Mismatch (Ok tt)
 unfolding first_checks pair_checks
-first_done c d lent e = go (room_checks c.count lent Done) refl
+first_done c d lent e = go (room_checks c.count lent (Ok tt)) refl
   where
     same : Bool
     same = same_headers c.count (set_in c) d.count (set_in d)
@@ -187,10 +183,10 @@ first_done c d lent e = go (room_checks c.count lent Done) refl
     b : Before (room_checks c.count lent)
     b = room_before c.count lent
 
-    headers : (s : Bool) → check s Mismatch Done ≡ Done → check (s && named) Mismatch Done ≡ check named Mismatch Done
+    headers : (s : Bool) → check s Mismatch (Ok tt) ≡ Ok tt → check (s && named) Mismatch (Ok tt) ≡ check named Mismatch (Ok tt)
     headers true h = refl
     headers false h = absurd (refused_done h)
 
-    go : (r : Reply) → room_checks c.count lent Done ≡ r → room_checks c.count lent (check (same && named) Mismatch Done) ≡ check named Mismatch Done
-    go Done h = b.goes_on h _ ∙ headers same (sym (b.goes_on h (check same Mismatch Done)) ∙ e)
-    go (Refused g) h = absurd (refused_done (sym (b.stands g h (check same Mismatch Done)) ∙ e))
+    go : (r : Reply) → room_checks c.count lent (Ok tt) ≡ r → room_checks c.count lent (check (same && named) Mismatch (Ok tt)) ≡ check named Mismatch (Ok tt)
+    go (Ok tt) h = b.goes_on h _ ∙ headers same (sym (b.goes_on h (check same Mismatch (Ok tt))) ∙ e)
+    go (Err g) h = absurd (refused_done (sym (b.stands g h (check same Mismatch (Ok tt))) ∙ e))

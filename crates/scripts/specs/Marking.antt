@@ -1,14 +1,11 @@
 -- Marking two texts (document 01, 'Returned to the caller'): both are read, the sheet first; then 6, by the sheet's n; then 7; and the verdict
 -- is that of their tables.
-use Rattle.std.specs.Prelude.{Bool, not, ◌&&◌, List, ℕ, leb, eqb}
+use Rattle.std.specs.Prelude.{Bool, not, ◌&&◌, List, ℕ, leb, eqb, Ok, Err}
 use Rattle.places.specs.Numbering.{block_start}
 use Rattle.rules.specs.declared.paper.Paper.TheVariants.{Sheet, Script}
 use Rattle.rules.specs.declared.refusal.Refusal.TheVariants.{TooShort, Mismatch}
 use Rattle.rules.specs.Hidden.{hidden_in}
-use Rattle.tables.specs.declared.reply.Reply.{Reply}
-use Rattle.tables.specs.declared.reply.Reply.TheVariants.{Done}
-use Rattle.tables.specs.declared.reply.Reply.TheVariants.{Refused as NotDone}
-use Rattle.tables.specs.Replies.{check}
+use Rattle.tables.specs.Replies.{Reply, check}
 use Rattle.tables.specs.Tables.{table_names_hidden}
 use Rattle.marking.specs.declared.verdict.Verdict.{Verdict}
 use Rattle.marking.specs.Meaning.{workspace_size}
@@ -20,8 +17,7 @@ use Rattle.scripts.specs.declared.room.Lengths.{Lengths}
 use Rattle.scripts.specs.declared.reply.Subject.TheVariants.{Both}
 use Rattle.scripts.specs.declared.reply.Subject.TheVariants.{Sheet as OfSheet}
 use Rattle.scripts.specs.declared.reply.Subject.TheVariants.{Script as OfScript}
-use Rattle.scripts.specs.declared.reply.TextMarking.{TextMarking}
-use Rattle.scripts.specs.declared.reply.TextMarking.TheVariants.{Marked, Refused}
+use Rattle.scripts.specs.Replies.{TextMarking, marked, refused_for}
 use Rattle.scripts.specs.Meaning.{set_in, table_in}
 
 -- 6 for the sheet's table, the script's, the workspace and the assignment, and what follows
@@ -42,16 +38,16 @@ fits_sheet c d = same_headers c.count (set_in c) d.count (set_in d) && not (tabl
 
 -- the checks of two texts that are fine by themselves: 6, then 7
 unfoldable pub pair_checks : Contents → Contents → Lengths → Reply
-pair_checks c d lent = room_checks c.count lent (check (fits_sheet c d) Mismatch Done)
+pair_checks c d lent = room_checks c.count lent (check (fits_sheet c d) Mismatch (Ok tt))
 
 -- the verdict where they are done
 abbrev pub marked_or : Reply → ℕ → Verdict → TextMarking
-marked_or Done n v = Marked n v
-marked_or (NotDone f) n v = Refused Both f
+marked_or (Ok done) n v = marked n v
+marked_or (Err f) n v = refused_for Both f
 
 unfoldable pub pair_reply : Judged Contents → Judged Contents → Lengths → TextMarking
-pair_reply (refused f) script lent = Refused OfSheet f
-pair_reply (accepted c u) (refused f) lent = Refused OfScript f
+pair_reply (refused f) script lent = refused_for OfSheet f
+pair_reply (accepted c u) (refused f) lent = refused_for OfScript f
 pair_reply (accepted c u) (accepted d z) lent =
     marked_or (pair_checks c d lent) c.count (verdict_of (hidden_in (set_in c)) c.count (table_in c) (table_in d))
 

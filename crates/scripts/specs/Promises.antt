@@ -15,8 +15,7 @@ use Rattle.reading.specs.Meaning.{Reads, Readable, rules_of}
 use Rattle.reading.specs.Promises.{TableHolds}
 use Rattle.scripts.specs.declared.room.Lengths.{Lengths}
 use Rattle.scripts.specs.declared.reply.Subject.{Subject}
-use Rattle.scripts.specs.declared.reply.TextMarking.{TextMarking}
-use Rattle.scripts.specs.Replies.{texts_returned, text_number, text_value, text_counts, text_subjects, is_text_marked, is_text_shown}
+use Rattle.scripts.specs.Replies.{TextMarking, texts_returned, text_number, text_value, text_counts, text_subjects, is_text_marked, is_text_shown}
 use Rattle.scripts.specs.Meaning.{lengths_of, own_lengths, set_in, table_in, AcceptedPair, RefusedPair, Room, OwnKeyText}
 use Rattle.scripts.specs.Marking.{texts_reply, count_in}
 

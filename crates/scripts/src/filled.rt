@@ -3,7 +3,7 @@ ghost use Rattle.std.specs.Prelude.{length, take};
 ghost use Rattle.places.specs.Numbering.{block_start};
 ghost use Rattle.scripts.specs.Inner.{TablesFilled, FilledMarked};
 
-use crate::reply::{Subject, TextMarking};
+use crate::reply::{Marked, PaperRefusal, Subject, TextMarking};
 use marking::mark;
 use rules::hidden::Set;
 use rules::refusal::Refusal;
@@ -24,21 +24,17 @@ pub(crate) fn mark_filled(
         workspace.old values.old result workspace.new values.new }
 {
     let m = table::size(n);
-    if names::any_names_hidden(n, hidden, &script_table[..m]) {
-        return TextMarking::Refused {
+    let sheet_table = &sheet_table[..m];
+    let script_table = &script_table[..m];
+    if names::any_names_hidden(n, hidden, script_table) {
+        return Err(PaperRefusal {
             paper: Subject::Both,
             refusal: Refusal::Mismatch,
-        };
+        });
     }
-    TextMarking::Marked {
+    let verdict = mark::verdict(n, hidden, sheet_table, script_table, workspace, values);
+    Ok(Marked {
         quantities: n,
-        verdict: mark::verdict(
-            n,
-            hidden,
-            &sheet_table[..m],
-            &script_table[..m],
-            workspace,
-            values,
-        ),
-    }
+        verdict,
+    })
 }

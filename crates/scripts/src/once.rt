@@ -4,12 +4,10 @@ ghost use Rattle.scripts.specs.Marking.{count_in};
 ghost use Rattle.scripts.specs.Inner.{TablesRoom};
 ghost use Rattle.scripts.specs.Promises.{MarkedInOwnRoom};
 
-use crate::reply::{Subject, TextMarking};
+use crate::reply::{Subject, TextMarking, about};
 use crate::{filled, pair, room};
 use reading::check;
-use reading::check::Checked;
 use rules::paper::Paper;
-use tables::reply::Reply;
 
 // Marks the script's text against the sheet's, in tables and a workspace with words enough for the sheet's n; a script with another n is refused, so its table need not be filled. Their
 // words are free after every reply.
@@ -24,38 +22,22 @@ pub(crate) fn mark_once(
     requires { TablesRoom (count_in sheet.now) (length sheet_table.old) (length script_table.old) (length workspace.old) }
     ensures { MarkedInOwnRoom sheet.now script.now values.old result values.new }
 {
-    match check::check_filling(sheet, Paper::Sheet, sheet_table) {
-        Checked::Refused { refusal } => TextMarking::Refused {
-            paper: Subject::Sheet,
-            refusal,
-        },
-        Checked::Passed {
-            quantities: n,
-            hidden,
-            rules: _,
-            body: _,
-        } => match check::check_filling(script, Paper::Script, script_table) {
-            Checked::Refused { refusal } => TextMarking::Refused {
-                paper: Subject::Script,
-                refusal,
-            },
-            Checked::Passed {
-                quantities: script_n,
-                hidden: script_hidden,
-                rules: _,
-                body: _,
-            } => {
-                let lent = room::own_lengths(values.len());
-                match pair::check_fit(n, hidden, script_n, script_hidden, lent) {
-                    Reply::Refused(refusal) => TextMarking::Refused {
-                        paper: Subject::Both,
-                        refusal,
-                    },
-                    Reply::Done => {
-                        filled::mark_filled(n, hidden, sheet_table, script_table, workspace, values)
-                    }
-                }
-            }
-        },
-    }
+    let header = about(
+        Subject::Sheet,
+        check::check_filling(sheet, Paper::Sheet, sheet_table),
+    )?;
+    let script_header = about(
+        Subject::Script,
+        check::check_filling(script, Paper::Script, script_table),
+    )?;
+    let lent = room::own_lengths(values.len());
+    about(Subject::Both, pair::check_fit(header, script_header, lent))?;
+    filled::mark_filled(
+        header.quantities,
+        header.hidden,
+        sheet_table,
+        script_table,
+        workspace,
+        values,
+    )
 }

@@ -3,7 +3,7 @@ ghost use Rattle.scripts.specs.Meaning.{lengths_of};
 ghost use Rattle.scripts.specs.Inner.{PassedPair};
 ghost use Rattle.scripts.specs.Promises.{TextsMarked};
 
-use crate::pair::{Pair, PairChecked};
+use crate::pair::Pair;
 use crate::reply::TextMarking;
 use crate::room::Lengths;
 use crate::{filled, pair};
@@ -25,31 +25,21 @@ fn mark_passed(
         sheet_table.old script_table.old workspace.old values.old result
         sheet_table.new script_table.new workspace.new values.new }
 {
-    let n = pair.quantities;
-    let hidden = pair.hidden;
-    fill::fill(
-        sheet,
-        Paper::Sheet,
-        n,
-        hidden,
-        pair.rules,
-        pair.body,
+    fill::fill(sheet, Paper::Sheet, pair.sheet, sheet_table);
+    fill::fill(script, Paper::Script, pair.script, script_table);
+    filled::mark_filled(
+        pair.sheet.quantities,
+        pair.sheet.hidden,
         sheet_table,
-    );
-    fill::fill(
-        script,
-        Paper::Script,
-        n,
-        hidden,
-        pair.script_rules,
-        pair.script_body,
         script_table,
-    );
-    filled::mark_filled(n, hidden, sheet_table, script_table, workspace, values)
+        workspace,
+        values,
+    )
 }
 
 // Marks the script's text against the sheet's. What is lent gets its words by the sheet's n: two tables, a workspace, and an assignment that shows a loose or
 // tight verdict.
+// Kept: what is lent as four slices. A struct of them is no plainer: each would be lent on out of it at every call, and the clauses speak of each by itself.
 pub fn mark_texts(
     sheet: &[u8],
     script: &[u8],
@@ -68,16 +58,14 @@ pub fn mark_texts(
         workspace: workspace.len(),
         values: values.len(),
     };
-    match pair::check_pair(sheet, script, lent) {
-        PairChecked::Refused { paper, refusal } => TextMarking::Refused { paper, refusal },
-        PairChecked::Passed(pair) => mark_passed(
-            sheet,
-            script,
-            pair,
-            sheet_table,
-            script_table,
-            workspace,
-            values,
-        ),
-    }
+    let pair = pair::check_pair(sheet, script, lent)?;
+    mark_passed(
+        sheet,
+        script,
+        pair,
+        sheet_table,
+        script_table,
+        workspace,
+        values,
+    )
 }

@@ -1,20 +1,17 @@
 -- The call's checks: which refusal stands at each, and that they are tied to what the call needs. Assumes nothing.
-use mathlib.Core.Path.{◌≡◌, sym, ◌∙◌}
-use mathlib.Core.Bool.{true, false, ◌&&◌, and-false}
+use mathlib.Core.Path.{◌≡◌, refl, sym, ◌∙◌}
+use mathlib.Core.Bool.{true, ◌&&◌}
 use mathlib.Core.Logic.{◌↔◌}
 use mathlib.Core.List.{List}
-use Prim.Native.Nat.{ℕ, suc, ◌+◌, ◌≤◌, ◌<◌}
-use native.Mathlib.Omega.{arith}
+use Prim.Native.Nat.{ℕ, suc}
 use lib.Dec.{leb}
 use lib.IntN.{ℤ}
-use borrow.Author.Tests.{leb-true, le-leb, lt-leb}
+use borrow.Author.Tests.{leb-true, le-leb}
 use Rattle.rules.specs.declared.refusal.Refusal.{Refusal}
 use Rattle.rules.specs.declared.refusal.Refusal.TheVariants.{OutOfLimit}
 use Rattle.rules.specs.Refusing.{passed, AllMet}
-use Rattle.tables.specs.declared.reply.Reply.{Reply}
-use Rattle.tables.specs.declared.reply.Reply.TheVariants.{Done, Refused}
-use Rattle.tables.specs.Replies.{check}
-use Rattle.tables.proofs.Tests.{both_true, refused_done}
+use Rattle.std.specs.Prelude.{Ok, Err}
+use Rattle.tables.proofs.Tests.{both_true, not_so}
 use Rattle.tables.proofs.Refusing.{Tied, tied_done, tied_more}
 use Rattle.keys.specs.Keys.{key_reply}
 use Rattle.keys.specs.Meaning.{key_needs_then}
@@ -47,46 +44,24 @@ step_tied n set q blocks t w =
 
 module _ (n set q blocks : ℕ) (t : List ℤ) (w : ℕ) where
   -- a refusal of the key call's checks is the call's
-  pub step_stops : (r : Reply) (f : Refusal) → KeyChecked n set t w r → r ≡ Refused f → StepChecked n set q blocks t w r
+  pub step_stops : (f : Refusal) → KeyChecked n set t w (Err f) → StepChecked n set q blocks t w (Err f)
   unfolding step_reply step_checks
-  step_stops r f k d = record {
-    stands = λ g e. d ∙ sym ((checks_before n set t w).stands f (sym k.reply ∙ d) _);
-    passes = λ e. absurd (refused_done (sym d ∙ e));
-  }
+  step_stops f k = record { stands = λ g e. sym ((checks_before n set t w).stands f (sym k.reply) _); passes = λ e. cc }
 
-  module _ (r : Reply) (k : KeyChecked n set t w r) (d : r ≡ Done) where
-    past : (next : Reply) → step_checks n set q blocks t w next ≡ check (step_within n q blocks) (OutOfLimit 0) next
-    unfolding step_checks
-    past next = (checks_before n set t w).goes_on (sym k.reply ∙ d) _
-
-    outside : step_within n q blocks ≡ false → StepChecked n set q blocks t w (Refused (OutOfLimit 0))
-    unfolding step_reply
-    outside e = record {
-      stands = λ g c. sym (past _ ∙ rw e);
-      passes = λ c. absurd (refused_done c);
-    }
-
+  module _ (k : KeyChecked n set t w (Ok tt)) where
     -- past them no quantity is 0 or above n, and a step has no more than n + 1 points after its start
-    pub step_zero : q < 1 → StepChecked n set q blocks t w (Refused (OutOfLimit 0))
-    unfolding step_within
-    step_zero h = outside (rw (lt-leb 1 q h))
-
-    pub step_past : n < q → StepChecked n set q blocks t w (Refused (OutOfLimit 0))
-    unfolding step_within
-    step_past h = outside (rw (lt-leb q n h, and-false (leb 1 q)))
-
-    pub step_long : n + 1 < blocks → StepChecked n set q blocks t w (Refused (OutOfLimit 0))
-    unfolding step_within
-    step_long h = outside (rw (lt-leb blocks (suc n) (omega arith), and-false (leb q n), and-false (leb 1 q)))
-
-    pub step_passes : 1 ≤ q → q ≤ n → blocks ≤ n + 1 → StepChecked n set q blocks t w Done
-    step_passes a b c = record {
-      stands = λ g e. absurd (refused_done (sym e));
-      passes = λ e. go (k.passes d);
+    pub step_outside : (PointWithin n q blocks → ⊥) → StepChecked n set q blocks t w (Err (OutOfLimit 0))
+    unfolding step_reply step_checks
+    step_outside h = record {
+      stands = λ g e. sym ((checks_before n set t w).goes_on (sym k.reply) _ ∙ rw (not_so (point_test n q blocks) h));
+      passes = λ e. cc;
     }
+
+    pub step_passes : PointWithin n q blocks → StepChecked n set q blocks t w (Ok tt)
+    step_passes p = record { stands = λ g e. cc; passes = λ e. go (k.passes refl) }
       where
         go : AllMet (key_needs_then n set t w passed) → AllMet (step_needs_then n set q blocks t w passed)
-        go (s, (l, (m, u))) = (s, (l, (m, (record { some = a; most = b; point = omega arith }, u))))
+        go (s, (l, (m, u))) = (s, (l, (m, (p, u))))
 
 -- past the checks the reply is the key call's, whose needs are then met
 pub key_met : (n set q blocks : ℕ) (t : List ℤ) (w : ℕ) → AllMet (step_needs_then n set q blocks t w passed) → AllMet (key_needs_then n set t w passed)

@@ -2,7 +2,7 @@
 use mathlib.Core.Path.{◌≡◌, refl, sym, ◌∙◌, ap}
 use mathlib.Core.Bool.{Bool, true, false, cond}
 use mathlib.Core.List.{List}
-use Prim.Native.Nat.{ℕ, zero, suc, ◌+◌, ◌-◌, ◌*◌, ◌≤◌, ◌<◌}
+use Prim.Native.Nat.{ℕ, zero, suc, ◌+◌, ◌-◌, ◌≤◌, ◌<◌}
 use native.Mathlib.Omega.{arith}
 use lib.IntN.{ℤ}
 use lib.ListN.{length, take}
@@ -10,14 +10,14 @@ use borrow.Author.Tests.{le-leb, lt-leb}
 use Rattle.places.specs.Numbering.{block_start}
 use Rattle.rules.specs.Hidden.{hidden_in}
 use Rattle.elimination.specs.Hiding.{every, paired, eliminated}
-use Rattle.elimination.specs.Inner.{Ready, StepReady, among}
+use Rattle.elimination.specs.Inner.{among}
 use Rattle.elimination.specs.Promises.{Paired, QuantityHidden}
 use Rattle.elimination.proofs.BlockOrder.{by_blocks, blocks_between}
 use Rattle.keys.specs.Keys.{hide_up_to, key_of}
 use Rattle.steps.specs.Steps.{step_at}
 use Rattle.steps.specs.Inner.{AllListed}
 use Rattle.steps.specs.Promises.{PointReached, LowerHidden, KeyStep}
-use Rattle.steps.proofs.Listing.{first_listed, first_paired}
+use Rattle.steps.proofs.Listing.{first_paired}
 
 -- ---- the blocks, and the end
 
@@ -30,11 +30,6 @@ point_between n j blocks t u out r a h p =
 pub point_end : (n j blocks : ℕ) (t u : List ℤ) (r : Bool) → n < blocks → QuantityHidden n j t r u → u ≡ step_at n j blocks t
 unfolding step_at
 point_end n j blocks t u r h q = q.table ∙ ap (λ (c : Bool). cond c (paired every blocks j t) (eliminated n j t)) (sym (lt-leb blocks n h))
-
--- with list and rows lent the step is ready
-pub point_ready : (n j b : ℕ) (t : List ℤ) (out : List ℕ) (plus minus : List ℤ) → AllListed n out → b ≤ n → Ready n j t → 2 * n ≤ length plus → 2 * n ≤ length minus
-    → StepReady n j (take b out) t plus minus
-point_ready n j b t out plus minus a h r p m = record { ready = r; listed = first_listed n b out a h; plus_room = p; minus_room = m }
 
 -- what is reached is one of the tables between, or the end
 pub point_reached : (n j blocks : ℕ) (t : List ℤ) → block_start n ≤ length t → j < n → PointReached n j blocks t (step_at n j blocks t)

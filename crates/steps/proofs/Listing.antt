@@ -4,11 +4,9 @@ use mathlib.Core.Bool.{Bool, true, false, ◌&&◌, ◌||◌}
 use mathlib.Core.List.{List}
 use Prim.Native.Nat.{ℕ, suc, ◌+◌, ◌*◌, ◌/◌, ◌≤◌, ◌<◌}
 use native.Mathlib.Omega.{arith}
-use lib.Dec.{eqb}
 use lib.IntN.{ℤ}
-use lib.ListN.{length, get_or, take, set}
-use lib.Seq.{length-take-le, get_or-take, get_or-set_same, get_or-set_other}
-use borrow.Author.Tests.{eqb-true, eqb-false}
+use lib.ListN.{length, get_or, take}
+use lib.Seq.{length-take-le, get_or-take}
 use Rattle.words.proofs.Change.{change_same}
 use Rattle.places.specs.Numbering.{block_start, is_one, higher_at, lower_at}
 use Rattle.places.proofs.Numbering.{at_lower, at_below}
@@ -19,14 +17,6 @@ use Rattle.elimination.specs.Blocks.{StepBegun}
 use Rattle.elimination.proofs.Lists.{listed_at, listed_place}
 use Rattle.elimination.proofs.Blocks.{blocks_over}
 use Rattle.steps.specs.Inner.{AllListed}
-
--- one quantity more of a list that begins so
-pub all_more : (i : ℕ) (out : List ℕ) → i < length out → ((h : ℕ) → h < i → get_or out h 0 ≡ h) → (h : ℕ) → h < suc i → get_or (set out i i) h 0 ≡ h
-all_more i out l each h g = go (eqb h i) refl
-  where
-    go : (b : Bool) → eqb h i ≡ b → get_or (set out i i) h 0 ≡ h
-    go true e = let d = eqb-true h i e in rw d (get_or-set_same out i i 0 l)
-    go false e = let d = eqb-false h i e in get_or-set_other out i h i 0 d ∙ each h (omega (arith, d))
 
 -- the first b of all n
 module _ (n b : ℕ) (out : List ℕ) (a : AllListed n out) (h : b ≤ n) where

@@ -23,9 +23,8 @@ use Rattle.rules.specs.Limits.{bound_limit}
 use Rattle.rules.specs.Refusing.{passed, AllMet}
 use Rattle.rules.proofs.Counts.{count_most}
 use Rattle.rules.proofs.Refusals.{refusal-number}
-use Rattle.tables.specs.declared.reply.Reply.{Reply}
-use Rattle.tables.specs.declared.reply.Reply.TheVariants.{Done, Refused}
-use Rattle.tables.specs.Replies.{reply_number, check}
+use Rattle.std.specs.Prelude.{Ok, Err}
+use Rattle.tables.specs.Replies.{Reply, reply_number, check}
 use Rattle.tables.specs.Meaning.{Satisfiable}
 use Rattle.tables.proofs.Refusing.{tied_decided}
 use Rattle.elimination.specs.Hiding.{every, paired, eliminated}
@@ -44,7 +43,7 @@ use Rattle.steps.specs.Promises.{StepFollowed}
 use Rattle.steps.proofs.Checking.{step_tied, step_late, key_met, point_met}
 use Rattle.steps.proofs.Following.{point_reached, key_step}
 
-not_done : (r : Reply) (f : Refusal) → r ≡ Refused f → reply_number r ≡ 0 → ⊥
+not_done : (r : Reply) (f : Refusal) → r ≡ Err f → reply_number r ≡ 0 → ⊥
 not_done r f d e = refusal-number f (rw d at e)
 
 -- ---- words past the table
@@ -79,7 +78,7 @@ step_whole n set q blocks t w (s, (l, (m, u))) = whole_fits n set t s.most s.roo
 
 module _ (n set q blocks : ℕ) (t w w' : List ℤ) where
   -- refused, with the table as it was
-  pub step_refused : (r : Reply) (f : Refusal) → r ≡ step_reply n set q blocks t (length w) → r ≡ Refused f → Lent (block_start n) (frees_workspace r) w w'
+  pub step_refused : (r : Reply) (f : Refusal) → r ≡ step_reply n set q blocks t (length w) → r ≡ Err f → Lent (block_start n) (frees_workspace r) w w'
       → StepFollowed n set q blocks t w r t w'
   step_refused r f e d l = record {
     reply = e;
@@ -98,11 +97,11 @@ module _ (n set q blocks : ℕ) (t w w' : List ℤ) where
     met = key_met n set q blocks t (length w) p
 
     -- past the checks the decision is the reply
-    decided : (b : Bool) → b ≡ refuted n t → check (not b) NoAssignment Done ≡ step_reply n set q blocks t (length w)
+    decided : (b : Bool) → b ≡ refuted n t → check (not b) NoAssignment (Ok tt) ≡ step_reply n set q blocks t (length w)
     decided b d = sym (step_late n set q blocks t (length w) p ∙ key_late n set t (length w) met ∙ rw (← d))
 
-    pub step_five : Decided n 0 t w true w' → StepFollowed n set q blocks t w (Refused NoAssignment) t w'
-    step_five d = step_refused (Refused NoAssignment) NoAssignment (decided true d.reply) refl d.lent
+    pub step_five : Decided n 0 t w true w' → StepFollowed n set q blocks t w (Err NoAssignment) t w'
+    step_five d = step_refused (Err NoAssignment) NoAssignment (decided true d.reply) refl d.lent
 
     module _ (d : Decided n 0 t w false w') (t' : List ℤ) (r : Bool) (h : SetHidden n set t r t') where
       some : Satisfiable n t
@@ -143,7 +142,7 @@ module _ (n set q blocks : ℕ) (t w w' : List ℤ) where
                 limit_doubled n set met.0.most,
               )
 
-      pub step_done : (u : List ℤ) → u ≡ step_at n (q - 1) blocks t' → StepFollowed n set q blocks t w Done u w'
+      pub step_done : (u : List ℤ) → u ≡ step_at n (q - 1) blocks t' → StepFollowed n set q blocks t w (Ok tt) u w'
       unfolding step_of
       step_done u e =
           let words : u ≡ step_at n (q - 1) blocks (key_of (hidden_in set) n t) = e ∙ ap (step_at n (q - 1) blocks) key in
@@ -154,8 +153,8 @@ module _ (n set q blocks : ℕ) (t w w' : List ℤ) where
           let reply = decided false d.reply in
           record {
             reply = reply;
-            decided = tied_decided _ Done _ reply (step_tied n set q blocks t (length w));
-            none = λ c. key_none n set t (length w) Done (reply ∙ step_late n set q blocks t (length w) c) (key_met n set q blocks t (length w) c);
+            decided = tied_decided _ (Ok tt) _ reply (step_tied n set q blocks t (length w));
+            none = λ c. key_none n set t (length w) (Ok tt) (reply ∙ step_late n set q blocks t (length w) c) (key_met n set q blocks t (length w) c);
             words = words;
             rest = rw words (rest_step n (q - 1) blocks (key_of (hidden_in set) n t)) ∙ rest_key (hidden_in set) n t;
             lent = d.lent;

@@ -1,12 +1,11 @@
 -- What the call promises: the reply and every lent word, for every input, and which table of a hiding step it leaves.
-use Rattle.std.specs.Prelude.{Bool, true, false, cond, ◌≡◌, ◌↔◌, List, ℕ, suc, ◌-◌, ◌≤◌, ◌<◌, ℤ, length, drop}
+use Rattle.std.specs.Prelude.{Bool, true, false, cond, ◌≡◌, ◌↔◌, List, ℕ, ◌-◌, ◌≤◌, ◌<◌, ℤ, length, drop}
 use Rattle.words.specs.Lent.{Lent}
 use Rattle.places.specs.Numbering.{block_start}
 use Rattle.rules.specs.Refusal.{refused_as}
 use Rattle.rules.specs.Refusing.{passed, AllMet, DecidedBy}
 use Rattle.rules.specs.Hidden.{hidden_in}
-use Rattle.tables.specs.declared.reply.Reply.{Reply}
-use Rattle.tables.specs.Replies.{is_done, reply_returned, reply_number}
+use Rattle.tables.specs.Replies.{Reply, is_done, reply_returned, reply_number}
 use Rattle.tables.specs.Meaning.{Unsatisfiable}
 use Rattle.elimination.specs.Hiding.{eliminated}
 use Rattle.elimination.specs.Blocks.{HiddenByBlocks}

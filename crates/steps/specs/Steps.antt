@@ -1,9 +1,7 @@
 -- A hiding step followed block after block: the table at a point of it, the checks of the call in order, and its reply, which compute.
-use Rattle.std.specs.Prelude.{Bool, cond, not, ◌&&◌, List, ℕ, suc, ◌-◌, leb, ℤ}
+use Rattle.std.specs.Prelude.{Bool, cond, not, ◌&&◌, List, ℕ, suc, ◌-◌, leb, ℤ, Ok}
 use Rattle.rules.specs.declared.refusal.Refusal.TheVariants.{OutOfLimit, NoAssignment}
-use Rattle.tables.specs.declared.reply.Reply.{Reply}
-use Rattle.tables.specs.declared.reply.Reply.TheVariants.{Done}
-use Rattle.tables.specs.Replies.{check}
+use Rattle.tables.specs.Replies.{Reply, check}
 use Rattle.elimination.specs.Hiding.{every, paired, eliminated}
 use Rattle.keys.specs.Keys.{key_of, refuted, key_checks}
 
@@ -28,4 +26,4 @@ step_checks n set q blocks t workspace next = key_checks n set t workspace (chec
 
 -- its reply: these, and 5
 unfoldable pub step_reply : ℕ → ℕ → ℕ → ℕ → List ℤ → ℕ → Reply
-step_reply n set q blocks t workspace = step_checks n set q blocks t workspace (check (not (refuted n t)) NoAssignment Done)
+step_reply n set q blocks t workspace = step_checks n set q blocks t workspace (check (not (refuted n t)) NoAssignment (Ok tt))

@@ -7,9 +7,7 @@ pub(crate) fn list(n: usize, out: &mut [usize])
     requires { n ≤ length out.old }
     ensures { AllListed n out.new }
 {
-    let mut i = 0;
-    while i < n {
-        out[i] = i;
-        i = i + 1;
+    for (i, listed) in out[..n].iter_mut().enumerate() {
+        *listed = i;
     }
 }

@@ -4,7 +4,7 @@ use mathlib.Core.Bool.{true, false, ◌&&◌}
 use mathlib.Core.List.{List, [], ◌∷◌}
 use Prim.Native.Nat.{ℕ}
 use lib.IntN.{ℤ, pos, negsuc}
-use Rattle.places.specs.declared.Place.TheVariants.{At, Nowhere}
+use Rattle.std.specs.Prelude.{Some, None}
 use Rattle.places.specs.Numbering.{block_start, place_of_one, place_of_pair, place_of_two, find_two, block_up_to, block_of, offset_of, is_one, higher_at, lower_at}
 use Rattle.rules.specs.declared.paper.Paper.TheVariants.{Sheet, Script}
 use Rattle.rules.specs.declared.rule.Rule.{Rule}
@@ -63,8 +63,8 @@ no_rule_in = (refl, refl, refl)
 abbrev rule : ℤ → ℤ → Rule
 rule p q = rule_of p q (pos 5)
 
-rules_found : (find_place (rule (pos 1) (pos 2)) ≡ At 4) × (find_place (rule (pos 1) (negsuc 1)) ≡ At 5)
-    × (find_place (rule (negsuc 0) (pos 2)) ≡ At 6) × (find_place (rule (negsuc 0) (negsuc 1)) ≡ At 7)
+rules_found : (find_place (rule (pos 1) (pos 2)) ≡ Some 4) × (find_place (rule (pos 1) (negsuc 1)) ≡ Some 5)
+    × (find_place (rule (negsuc 0) (pos 2)) ≡ Some 6) × (find_place (rule (negsuc 0) (negsuc 1)) ≡ Some 7)
 unfolding rule_of find_place find_two place_of_two place_of_pair block_start
 rules_found = (refl, refl, refl, refl)
 
@@ -75,12 +75,12 @@ unfolding rule_at rule_of is_one higher_at lower_at offset_of block_of block_up_
 rules-at = (refl, refl, refl, refl)
 
 -- 'quantity 3 starts at 8 and +1+3 has place 10'
-three_found : (find_place (rule (pos 3) (pos 0)) ≡ At 8) × (find_place (rule (pos 1) (pos 3)) ≡ At 10)
+three_found : (find_place (rule (pos 3) (pos 0)) ≡ Some 8) × (find_place (rule (pos 1) (pos 3)) ≡ Some 10)
 unfolding rule_of find_place find_two place_of_one place_of_two place_of_pair block_start
 three_found = (refl, refl)
 
 -- +1+1, +1-1 and a bare rule have no place
-nowhere : (find_place (rule (pos 1) (pos 1)) ≡ Nowhere) × (find_place (rule (pos 1) (negsuc 0)) ≡ Nowhere) × (find_place (rule (pos 0) (pos 0)) ≡ Nowhere)
+nowhere : (find_place (rule (pos 1) (pos 1)) ≡ None) × (find_place (rule (pos 1) (negsuc 0)) ≡ None) × (find_place (rule (pos 0) (pos 0)) ≡ None)
 unfolding rule_of find_place find_two
 nowhere = (refl, refl, refl)
 

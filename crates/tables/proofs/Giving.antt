@@ -2,31 +2,29 @@
 use mathlib.Core.Path.{◌≡◌, refl, sym, ◌∙◌, ap}
 use mathlib.Core.Bool.{Bool, true, false, cond, ◌&&◌, ◌||◌, and-false}
 use mathlib.Core.Logic.{◌↔◌, ◌⊎◌, inl, inr, ⊎_elim}
-use Prim.Native.Nat.{ℕ, zero, suc, ◌+◌, ◌*◌, ◌<◌}
+use Prim.Native.Nat.{ℕ, zero, suc, ◌+◌, ◌*◌, ◌≤◌, ◌<◌}
 use native.Mathlib.Omega.{arith}
-use lib.Dec.{leb, eqb, T}
+use lib.Dec.{leb, eqb}
 use lib.IntN.{ℤ, pos, negsuc, nat_abs, ◌+ℤ◌}
-use lib.Signed.{non_neg}
 use mir.Syntax.{w64}
-use mir.Val.{SFits, Fits, to_z, of_z}
-use borrow.Author.Tests.{leb-true, le-leb, eqb-true, eqb-false, eq-eqb, ne_eqb}
+use mir.Val.{SFits, to_z, of_z}
+use borrow.Author.Tests.{leb-true, le-leb, lt-leb, eqb-true, eqb-false, eq-eqb, ne_eqb}
 use Rattle.integers.specs.Bound.{Within, half}
 use Rattle.integers.proofs.Parts.{linear, positive_part, negative_part, parts_add, word_value}
 use Rattle.integers.proofs.Within.{within_to, within_of}
 use Rattle.rules.specs.declared.rule.Rule.{Rule}
 use Rattle.rules.specs.declared.rule.Rule.TheVariants.{One, Two, Nothing}
 use Rattle.rules.specs.declared.paper.Paper.TheVariants.{Sheet}
-use Rattle.rules.specs.Limits.{bound_limit}
+use Rattle.rules.specs.Limits.{bound_limit, max_quantities}
 use Rattle.rules.specs.Literal.{quantity_within, negated, literal_of}
 use Rattle.rules.specs.Steps.{is_none, rule_of, halved_of}
-use Rattle.rules.proofs.Quantities.{within_range, none_zero, none_other}
-use Rattle.tables.specs.declared.given.Given.{Given}
-use Rattle.tables.specs.declared.given.Given.TheVariants.{Stated, Outside}
-use Rattle.tables.specs.declared.given.Given.TheVariants.{Vanishes}
+use Rattle.rules.proofs.Quantities.{within_range, within_sum, none_zero, none_other}
+use Rattle.std.specs.Prelude.{Ok, Err}
+use Rattle.tables.specs.declared.given.Misstated.TheVariants.{Outside, Vanishes}
 use Rattle.tables.specs.Tables.{cancels}
 use Rattle.tables.specs.Meaning.{Cancels}
 use Rattle.tables.specs.Places.{HasPlace}
-use Rattle.tables.specs.Given.{NamesOneOf, GivenWithin, given_within, given_of, GivenAs}
+use Rattle.tables.specs.Given.{Given, NamesOneOf, GivenWithin, given_within, given_of, GivenAs}
 use Rattle.tables.proofs.Tests.{clash, both_true}
 use Rattle.tables.proofs.Putting.{different_quantities}
 
@@ -82,16 +80,31 @@ limit_word : (n : ℕ) → SFits w64 (pos (bound_limit Sheet n 0))
 unfolding bound_limit
 limit_word n = record { sfits = omega arith }
 
-pub limit_casts : (n : ℕ) (z : ℤ) → z ≡ pos (bound_limit Sheet n 0) → T (non_neg (to_z w64 (of_z w64 z))) × Fits w64 (nat_abs (to_z w64 (of_z w64 z)))
-limit_casts n z e = rw (e, word_value (limit_word n)) (tt, whole)
-  where
-    whole : Fits w64 (bound_limit Sheet n 0)
-    whole = omega (arith, (limit_word n).sfits)
-
-pub limit_value : (n : ℕ) (z : ℤ) → z ≡ pos (bound_limit Sheet n 0) → nat_abs (to_z w64 (of_z w64 z)) ≡ bound_limit Sheet n 0
+-- a bound is in the limit or not, as the magnitudes say
+limit_value : (n : ℕ) (z : ℤ) → z ≡ pos (bound_limit Sheet n 0) → nat_abs (to_z w64 (of_z w64 z)) ≡ bound_limit Sheet n 0
 limit_value n z e = rw (e, word_value (limit_word n))
 
+pub limit_in : (n m : ℕ) (z c : ℤ) → z ≡ pos (bound_limit Sheet n 0) → m ≡ nat_abs c → m ≤ nat_abs (to_z w64 (of_z w64 z))
+    → leb (nat_abs c) (bound_limit Sheet n 0) ≡ true
+limit_in n m z c e f l = le-leb (nat_abs c) (bound_limit Sheet n 0) (omega (arith, limit_value n z e))
+
+pub limit_out : (n m : ℕ) (z c : ℤ) → z ≡ pos (bound_limit Sheet n 0) → m ≡ nat_abs c → nat_abs (to_z w64 (of_z w64 z)) < m
+    → leb (nat_abs c) (bound_limit Sheet n 0) ≡ false
+limit_out n m z c e f l = lt-leb (nat_abs c) (bound_limit Sheet n 0) (omega (arith, limit_value n z e))
+
 -- ---- +q-q is the sum 0
+
+-- the sum of two quantity numbers is 0 exactly where its bits are
+sum_word : (n : ℕ) (p q : ℤ) → n ≤ max_quantities → SFits w64 p → SFits w64 q → quantity_within n (nat_abs p) ≡ true → quantity_within n (nat_abs q) ≡ true
+    → to_z w64 (of_z w64 (to_z w64 (of_z w64 p) +ℤ to_z w64 (of_z w64 q))) ≡ p +ℤ q
+sum_word n p q h f g d e = rw (word_value f, word_value g) (word_value (within_sum n p q h d e))
+
+pub sum_zero : (n : ℕ) (p q : ℤ) → n ≤ max_quantities → SFits w64 p → SFits w64 q → quantity_within n (nat_abs p) ≡ true → quantity_within n (nat_abs q) ≡ true
+    → of_z w64 (to_z w64 (of_z w64 p) +ℤ to_z w64 (of_z w64 q)) ≡ 0 → p +ℤ q ≡ pos 0
+sum_zero n p q h f g d e z = sym (sum_word n p q h f g d e) ∙ ap (to_z w64) z
+
+pub sum_other : (p q : ℤ) → SFits w64 p → SFits w64 q → (of_z w64 (to_z w64 (of_z w64 p) +ℤ to_z w64 (of_z w64 q)) ≡ 0 → ⊥) → p +ℤ q ≡ pos 0 → ⊥
+sum_other p q f g d z = d (rw (word_value f, word_value g, z))
 
 -- a rule of one number cancels nothing
 pub one_cancels : (p c : ℤ) → is_none p ≡ false → cancels (rule_of p (pos 0) c) ≡ false
@@ -163,49 +176,31 @@ given_place n p q c w d = ⊎_elim alone both w.other
 
 -- ---- what is promised
 
--- the cases are different
-abbrev code : Given → ℕ
-code (Stated r) = 0
-code Outside = 1
-code Vanishes = 2
-
-cancelled_outside : Vanishes ≡ Outside → ⊥
-cancelled_outside e = let d = ap code e in omega arith
-
-stated_outside : {r : Rule} → Stated r ≡ Outside → ⊥
-stated_outside e = let d = ap code e in omega arith
-
-stated_cancelled : {r : Rule} → Stated r ≡ Vanishes → ⊥
-stated_cancelled e = let d = ap code e in omega arith
-
 module _ (n : ℕ) (p q c : ℤ) where
-  stated_rule : {r s : Rule} → Stated r ≡ Stated s → r ≡ s
-  stated_rule e = cc
-
   pub given_as : (r : Given) → r ≡ given_of n p q c → GivenAs n p q c r
   unfolding given_of
   given_as r e = by (given_within n p q c) (cancels (rule_of p q c)) refl refl
     where
       by : (a b : Bool) → given_within n p q c ≡ a → cancels (rule_of p q c) ≡ b → GivenAs n p q c r
-      by false b f g = let o : r ≡ Outside = e ∙ rw f in record {
+      by false b f g = let o : r ≡ Err Outside = e ∙ rw f in record {
         reply = e;
         outside = (λ z w. clash ((within_test n p q c).1 w) f, λ z. o);
-        cancelled = (λ z. absurd (cancelled_outside (sym z ∙ o)), λ w. clash ((within_test n p q c).1 w.0) f);
-        stated = λ s. (λ z. absurd (stated_outside (sym z ∙ o)), λ w. clash ((within_test n p q c).1 w.0) f);
+        cancelled = (λ z. cc, λ w. clash ((within_test n p q c).1 w.0) f);
+        stated = λ s. (λ z. cc, λ w. clash ((within_test n p q c).1 w.0) f);
       }
-      by true true f g = let o : r ≡ Vanishes = e ∙ rw (f, g) in record {
+      by true true f g = let o : r ≡ Err Vanishes = e ∙ rw (f, g) in record {
         reply = e;
-        outside = (λ z. absurd (cancelled_outside (sym o ∙ z)), λ w. absurd (w ((within_test n p q c).0 f)));
+        outside = (λ z. cc, λ w. absurd (w ((within_test n p q c).0 f)));
         cancelled = (λ z. ((within_test n p q c).0 f, (cancels_test (rule_of p q c)).0 g), λ w. o);
-        stated = λ s. (λ z. absurd (stated_cancelled (sym z ∙ o)), λ w. absurd (w.1 ((cancels_test (rule_of p q c)).0 g)));
+        stated = λ s. (λ z. cc, λ w. absurd (w.1 ((cancels_test (rule_of p q c)).0 g)));
       }
-      by true false f g = let o : r ≡ Stated (rule_of p q c) = e ∙ rw (f, g) in record {
+      by true false f g = let o : r ≡ Ok (rule_of p q c) = e ∙ rw (f, g) in record {
         reply = e;
-        outside = (λ z. absurd (stated_outside (sym o ∙ z)), λ w. absurd (w ((within_test n p q c).0 f)));
-        cancelled = (λ z. absurd (stated_cancelled (sym o ∙ z)), λ w. clash ((cancels_test (rule_of p q c)).1 w.1) g);
+        outside = (λ z. cc, λ w. absurd (w ((within_test n p q c).0 f)));
+        cancelled = (λ z. cc, λ w. clash ((cancels_test (rule_of p q c)).1 w.1) g);
         stated = λ s. (
-          λ z. ((within_test n p q c).0 f, λ w. clash ((cancels_test (rule_of p q c)).1 w) g, stated_rule (sym z ∙ o)),
-          λ w. o ∙ ap Stated (sym w.2),
+          λ z. ((within_test n p q c).0 f, λ w. clash ((cancels_test (rule_of p q c)).1 w) g, cc),
+          λ w. o ∙ ap Ok (sym w.2),
         );
       }
 
@@ -213,33 +208,33 @@ module _ (n : ℕ) (p q c : ℤ) where
 
   module _ (f : quantity_within n (nat_abs p) ≡ true) (b : leb (nat_abs c) (bound_limit Sheet n 0) ≡ true) where
     -- one number
-    pub given_one : (r : Rule) → q ≡ pos 0 → r ≡ rule_of p (pos 0) c → GivenAs n p q c (Stated r)
+    pub given_one : (r : Rule) → q ≡ pos 0 → r ≡ rule_of p (pos 0) c → GivenAs n p q c (Ok r)
     unfolding given_of given_within
-    given_one r z e = given_as (Stated r) (rw (f, z, b, one_cancels p c (named_some n p ((number_in n p).0 f)), e))
+    given_one r z e = given_as (Ok r) (rw (f, z, b, one_cancels p c (named_some n p ((number_in n p).0 f)), e))
 
     -- a second one outside 1 to n
-    pub given_second : (q ≡ pos 0 → ⊥) → quantity_within n (nat_abs q) ≡ false → GivenAs n p q c Outside
+    pub given_second : (q ≡ pos 0 → ⊥) → quantity_within n (nat_abs q) ≡ false → GivenAs n p q c (Err Outside)
     unfolding given_of given_within
-    given_second z g = given_as Outside (rw (f, none_other q z, g))
+    given_second z g = given_as (Err Outside) (rw (f, none_other q z, g))
 
     module _ (z : q ≡ pos 0 → ⊥) (g : quantity_within n (nat_abs q) ≡ true) where
       sum : cancels (rule_of p q c) ≡ is_none (p +ℤ q)
       sum = sum_cancels p q c (named_some n p ((number_in n p).0 f)) (none_other q z)
 
-      pub given_cancels : p +ℤ q ≡ pos 0 → GivenAs n p q c Vanishes
+      pub given_cancels : p +ℤ q ≡ pos 0 → GivenAs n p q c (Err Vanishes)
       unfolding given_of given_within
-      given_cancels e = given_as Vanishes (rw (f, none_other q z, g, b, sum, none_zero (p +ℤ q) e))
+      given_cancels e = given_as (Err Vanishes) (rw (f, none_other q z, g, b, sum, none_zero (p +ℤ q) e))
 
-      pub given_two : (r : Rule) → (p +ℤ q ≡ pos 0 → ⊥) → r ≡ rule_of p q c → GivenAs n p q c (Stated r)
+      pub given_two : (r : Rule) → (p +ℤ q ≡ pos 0 → ⊥) → r ≡ rule_of p q c → GivenAs n p q c (Ok r)
       unfolding given_of given_within
-      given_two r e d = given_as (Stated r) (rw (f, none_other q z, g, b, sum, none_other (p +ℤ q) e, d))
+      given_two r e d = given_as (Ok r) (rw (f, none_other q z, g, b, sum, none_other (p +ℤ q) e, d))
 
   -- the first outside 1 to n
-  pub given_first : quantity_within n (nat_abs p) ≡ false → GivenAs n p q c Outside
+  pub given_first : quantity_within n (nat_abs p) ≡ false → GivenAs n p q c (Err Outside)
   unfolding given_of given_within
-  given_first f = given_as Outside (rw f)
+  given_first f = given_as (Err Outside) (rw f)
 
   -- a bound outside its limit
-  pub given_bound : leb (nat_abs c) (bound_limit Sheet n 0) ≡ false → GivenAs n p q c Outside
+  pub given_bound : leb (nat_abs c) (bound_limit Sheet n 0) ≡ false → GivenAs n p q c (Err Outside)
   unfolding given_of given_within
-  given_bound b = given_as Outside (rw (b, and-false (◌||◌ (is_none q) (quantity_within n (nat_abs q))), and-false (quantity_within n (nat_abs p))))
+  given_bound b = given_as (Err Outside) (rw (b, and-false (◌||◌ (is_none q) (quantity_within n (nat_abs q))), and-false (quantity_within n (nat_abs p))))

@@ -14,14 +14,13 @@ use Rattle.integers.specs.Bound.{smaller}
 use Rattle.integers.proofs.Parts.{linear, lt_z_true, lt_z_false, lt_lt_z, le_lt_z, smaller_left, smaller_right}
 use Rattle.words.specs.Change.{word_at, lowered}
 use Rattle.words.proofs.Change.{lowered_length, lowered_same, lowered_other}
-use Rattle.places.specs.declared.Place.{Place}
-use Rattle.places.specs.declared.Place.TheVariants.{At, Nowhere}
+use Rattle.std.specs.Prelude.{Option, Some, None}
 use Rattle.places.specs.Numbering.{block_start}
 use Rattle.rules.specs.declared.rule.Rule.{Rule}
 use Rattle.rules.specs.Limits.{no_rule}
 use Rattle.rules.specs.Meaning.{Assignment, bound_of}
 use Rattle.rules.specs.Steps.{halved_of}
-use Rattle.tables.specs.declared.reply.Reply.TheVariants.{Done}
+use Rattle.std.specs.Prelude.{Ok}
 use Rattle.tables.specs.Places.{find_place}
 use Rattle.tables.specs.Tables.{has_rule, empty_table, rule_reply, put_at, put_halved, put_rule, put_all, table_of, is_at, smallest_at}
 use Rattle.tables.specs.Meaning.{Satisfies, MeetsAll}
@@ -31,12 +30,12 @@ use Rattle.tables.proofs.Putting.{accepted_put}
 -- every rule of a list is accepted for n quantities
 abbrev pub AllAccepted : ℕ → List Rule → Type 0
 AllAccepted n [] = Unit {0}
-AllAccepted n (r ∷ rs) = (rule_reply n (halved_of r) ≡ Done) × AllAccepted n rs
+AllAccepted n (r ∷ rs) = (rule_reply n (halved_of r) ≡ (Ok tt)) × AllAccepted n rs
 
-at_length : (t : List ℤ) (k : Place) (w : ℤ) → length (put_at t k w) ≡ length t
+at_length : (t : List ℤ) (k : Option ℕ) (w : ℤ) → length (put_at t k w) ≡ length t
 unfolding put_at
-at_length t (At k) w = lowered_length t k w
-at_length t Nowhere w = refl
+at_length t (Some k) w = lowered_length t k w
+at_length t None w = refl
 
 pub put_length : (t : List ℤ) (r : Rule) → length (put_rule t r) ≡ length t
 unfolding put_rule put_halved
@@ -106,14 +105,14 @@ no_more w l = go (lt_z w no_rule) refl
     go false e = omega (linear, lt_z_false w no_rule e)
 
 -- a rule put in lowers the word of its place alone
-at_word : (t : List ℤ) (p : Place) (w : ℤ) (k : ℕ) → k < length t → word_at (put_at t p w) k ≡ cond (is_at k p) (smaller (word_at t k) w) (word_at t k)
+at_word : (t : List ℤ) (p : Option ℕ) (w : ℤ) (k : ℕ) → k < length t → word_at (put_at t p w) k ≡ cond (is_at k p) (smaller (word_at t k) w) (word_at t k)
 unfolding put_at
-at_word t (At j) w k h = go (eqb k j) refl
+at_word t (Some j) w k h = go (eqb k j) refl
   where
     go : (b : Bool) → eqb k j ≡ b → word_at (lowered t j w) k ≡ cond b (smaller (word_at t k) w) (word_at t k)
     go true e = let q : k ≡ j = eqb-true k j e in rw (← q) (lowered_same t k w h)
     go false e = lowered_other t j k w (eqb-false k j e)
-at_word t Nowhere w k h = refl
+at_word t None w k h = refl
 
 put_word : (t : List ℤ) (r : Rule) (k : ℕ) → k < length t
     → word_at (put_rule t r) k ≡ cond (is_at k (find_place (halved_of r))) (smaller (word_at t k) (bound_of (halved_of r))) (word_at t k)

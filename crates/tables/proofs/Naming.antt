@@ -1,5 +1,5 @@
 -- The quantities that a table's rules name: whether one is hidden, by all words at once and as they are read one after the other. Assumes nothing.
-use mathlib.Core.Path.{◌≡◌, refl, sym, ◌∙◌}
+use mathlib.Core.Path.{◌≡◌, refl, sym}
 use mathlib.Core.Bool.{Bool, true, false, not, ◌&&◌, ◌||◌, or-true}
 use mathlib.Core.List.{List, [], ◌∷◌}
 use mathlib.Core.Logic.{◌↔◌}
@@ -7,9 +7,10 @@ use Prim.Native.Nat.{ℕ, zero, suc, ◌+◌, ◌≤◌, ◌<◌}
 use native.Mathlib.Omega.{arith}
 use lib.Dec.{eqb}
 use lib.IntN.{ℤ, pos}
-use lib.ListN.{length, take, drop, drop_of_length-le}
-use lib.Seq.{length-take-le, get_or-take, drop-cons}
+use lib.ListN.{length, take}
+use lib.Seq.{length-take-le, get_or-take}
 use borrow.Author.Tests.{eq-eqb, eqb-true}
+use Rattle.std.proofs.lemmas.Bool.{true_from_ne_false}
 use Rattle.words.specs.Change.{word_at}
 use Rattle.places.specs.Numbering.{block_start}
 use Rattle.rules.specs.declared.rule.Rule.{Rule}
@@ -108,40 +109,35 @@ names_test hidden n t l = (to (table_names_hidden hidden n t) refl, λ v. rw ((n
     to true e c = clash refl (sym c)
     to false e c = (names_visible hidden n t l).0 e
 
--- and that answer is what is promised
-pub names_answered : (hidden : ℕ → Bool) (n : ℕ) (t : List ℤ) (r : Bool) → block_start n ≤ length t → r ≡ table_names_hidden hidden n t → HiddenNamed n hidden t r
-names_answered hidden n t r l e = record { reply = e; meaning = rw e (names_visible hidden n t l) }
-
 -- ---- the loop over a table's words
 
--- the present word decides, or the words after it
-naming_more : (hidden : ℕ → Bool) (m k : ℕ) (t : List ℤ) → m ≤ length t → k < m
-    → any_names_hidden hidden k (drop k (take m t))
-    ≡ ((has_rule (word_at t k) && names_hidden hidden (rule_at k (word_at t k))) || any_names_hidden hidden (k + 1) (drop (k + 1) (take m t)))
-unfolding any_names_hidden
-naming_more hidden m k t l h = rw (drop-cons (take m t) k (pos 0) inside, get_or-take m t k (pos 0) h, next)
-  where
-    inside : k < length (take m t)
-    inside = omega (arith, length-take-le m t l)
+-- a word of a place holds no rule, or one that names no hidden quantity
+abbrev pub NoneAt : (ℕ → Bool) → ℕ → ℤ → Type 0
+NoneAt hidden k w = has_rule w ≡ true → names_hidden hidden (rule_at k w) ≡ false
 
-    next : k + 1 ≡ suc k
-    next = omega arith
+-- each word before the i-th does
+abbrev pub NoneBefore : (ℕ → Bool) → ℕ → List ℤ → Type 0
+NoneBefore hidden i t = (k : ℕ) → k < i → NoneAt hidden k (word_at t k)
 
--- the answer of the words that are left is true where the present word's rule names a hidden quantity,
-pub naming_found : (hidden : ℕ → Bool) (m k : ℕ) (t : List ℤ) (r : Bool) → any_names_hidden hidden k (drop k (take m t)) ≡ r → m ≤ length t → k < m
-    → has_rule (word_at t k) ≡ true → names_hidden hidden (rule_at k (word_at t k)) ≡ true → true ≡ r
-naming_found hidden m k t r e l h d f = rw (d, f) at (sym (naming_more hidden m k t l h) ∙ e)
+module _ (hidden : ℕ → Bool) (n m : ℕ) (t : List ℤ) (size : m ≡ block_start n) (room : block_start n ≤ length t) where
+  front : (k : ℕ) → k < m → word_at (take m t) k ≡ word_at t k
+  front k h = get_or-take m t k (pos 0) h
 
--- that of the words after it where it does not,
-pub naming_next : (hidden : ℕ → Bool) (m k : ℕ) (t : List ℤ) (r : Bool) → any_names_hidden hidden k (drop k (take m t)) ≡ r → m ≤ length t → k < m
-    → (has_rule (word_at t k) && names_hidden hidden (rule_at k (word_at t k))) ≡ false → any_names_hidden hidden (k + 1) (drop (k + 1) (take m t)) ≡ r
-naming_next hidden m k t r e l h d = rw d at (sym (naming_more hidden m k t l h) ∙ e)
+  -- none is named where that is so of each of a table's words
+  pub none_hidden : (i : ℕ) → m ≤ i → NoneBefore hidden i (take m t) → HiddenNamed n hidden t false
+  none_hidden i h f = record { reply = sym ((names_visible hidden n t room).1 visible); meaning = (λ e. visible, λ v. refl) }
+    where
+      visible : NamesVisible n hidden t
+      visible = record {
+        each = λ k p. (rule_visible hidden (rule_in t k)).0
+            (rw (front k (omega (arith, p.inside))) at (f k (omega (arith, p.inside))) p.rule);
+      }
 
--- and false where none are left
-pub naming_end : (hidden : ℕ → Bool) (m k : ℕ) (t : List ℤ) (r : Bool) → any_names_hidden hidden k (drop k (take m t)) ≡ r → m ≤ length t → m ≤ k
-    → false ≡ r
-unfolding any_names_hidden
-naming_end hidden m k t r e l h = rw (drop_of_length-le (take m t) past) at e
-  where
-    past : length (take m t) ≤ k
-    past = omega (arith, length-take-le m t l)
+  -- and a hidden quantity is named where one word's rule names it
+  pub one_hidden : (k : ℕ) → k < m → has_rule (word_at (take m t) k) ≡ true → names_hidden hidden (rule_at k (word_at (take m t) k)) ≡ true
+      → HiddenNamed n hidden t true
+  one_hidden k h r e = record { reply = sym (true_from_ne_false _ (λ f. named ((names_visible hidden n t room).0 f))); meaning = (λ f. clash refl f, λ v. absurd (named v)) }
+    where
+      named : NamesVisible n hidden t → ⊥
+      named v = clash (rw (front k h) at e) ((rule_visible hidden (rule_in t k)).1
+          (v.each k (record { inside = omega arith; there = omega arith; rule = rw (front k h) at r })))

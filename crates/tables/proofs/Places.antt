@@ -8,8 +8,7 @@ use native.Mathlib.Omega.{arith}
 use lib.Dec.{ltb, eqb}
 use lib.IntN.{ℤ}
 use borrow.Author.Tests.{ltb-true, ltb-false, lt-ltb, le-ltb, eqb-true, eqb-false, eq-eqb, ne_eqb}
-use Rattle.places.specs.declared.Place.{Place}
-use Rattle.places.specs.declared.Place.TheVariants.{At, Nowhere}
+use Rattle.std.specs.Prelude.{Option, Some, None}
 use Rattle.places.specs.Numbering.{block_start, place_of_one, place_of_pair, place_of_two, find_two, block_of, offset_of, is_one, higher_at, lower_at}
 use Rattle.places.proofs.Numbering.{block_ends, one_below, pair_below, one_is_one, one_higher, pair_is_one, pair_higher, pair_lower, higher_half, at_one, at_lower, at_pair, at_below}
 use Rattle.rules.specs.declared.rule.Rule.{Rule}
@@ -75,23 +74,23 @@ rule_at_in_order n (Two x y c) u = go (ltb x y) refl
 rule_at_in_order n (Nothing c) u = absurd u
 
 -- so it is found there
-pub found_two : (x y : ℕ) → (quantity_of x ≡ quantity_of y → ⊥) → find_two x y ≡ At (place_of_two x y)
+pub found_two : (x y : ℕ) → (quantity_of x ≡ quantity_of y → ⊥) → find_two x y ≡ Some (place_of_two x y)
 unfolding find_two
 found_two x y u = rw (ne_eqb (x / 2) (y / 2) (λ e. u (omega arith)))
 
-pub has_place_found : (n : ℕ) (r : Rule) → HasPlace n r → find_place r ≡ At (place_of r)
+pub has_place_found : (n : ℕ) (r : Rule) → HasPlace n r → find_place r ≡ Some (place_of r)
 unfolding find_place place_of
 has_place_found n (One x c) u = refl
 has_place_found n (Two x y c) u = found_two x y u.2
 has_place_found n (Nothing c) u = absurd u
 
-pub rule_at_found : (k : ℕ) (c : ℤ) → find_place (rule_at k c) ≡ At k
+pub rule_at_found : (k : ℕ) (c : ℤ) → find_place (rule_at k c) ≡ Some k
 rule_at_found k c =
-    has_place_found (suc (block_of k)) (rule_at k c) (rule_at_has_place (suc (block_of k)) k c (block_ends k)) ∙ ap At (rule_at_place k c)
+    has_place_found (suc (block_of k)) (rule_at k c) (rule_at_has_place (suc (block_of k)) k c (block_ends k)) ∙ ap Some (rule_at_place k c)
 
 -- ---- what it tells where a rule is found
 
-pub at_nowhere : {k : ℕ} → At k ≡ Nowhere → ⊥
+pub at_nowhere : {k : ℕ} → Some k ≡ None → ⊥
 at_nowhere e = let z : ◌≡◌ {A = ℕ} 0 1 = cc in omega arith
 
 -- as many quantities as a rule's literals need
@@ -101,22 +100,22 @@ enough (Two x y c) = suc (x + y)
 enough (Nothing c) = 0
 
 -- a rule that is found somewhere has a place in some table
-found_has_place : (r : Rule) (k : ℕ) → find_place r ≡ At k → HasPlace (enough r) r
+found_has_place : (r : Rule) (k : ℕ) → find_place r ≡ Some k → HasPlace (enough r) r
 unfolding find_place find_two
 found_has_place (One x c) k e = omega arith
 found_has_place (Two x y c) k e = go (eqb (x / 2) (y / 2)) refl e
   where
-    go : (b : Bool) → eqb (x / 2) (y / 2) ≡ b → cond b Nowhere (At (place_of_two x y)) ≡ At k → HasPlace (suc (x + y)) (Two x y c)
+    go : (b : Bool) → eqb (x / 2) (y / 2) ≡ b → cond b None (Some (place_of_two x y)) ≡ Some k → HasPlace (suc (x + y)) (Two x y c)
     go true d f = absurd (at_nowhere (sym f))
     go false d f = (omega arith, omega arith, λ q. eqb-false (x / 2) (y / 2) d (omega arith))
 found_has_place (Nothing c) k e = absurd (at_nowhere (sym e))
 
 -- and is found at that place
-found_place : (r : Rule) (k : ℕ) → find_place r ≡ At k → place_of r ≡ k
+found_place : (r : Rule) (k : ℕ) → find_place r ≡ Some k → place_of r ≡ k
 found_place r k e = let f = has_place_found (enough r) r (found_has_place r k e) in cc
 
 -- the rule there is the rule itself, the lower quantity first
-pub found_in_order : (r : Rule) (k : ℕ) → find_place r ≡ At k → rule_at k (bound_of r) ≡ in_order r
+pub found_in_order : (r : Rule) (k : ℕ) → find_place r ≡ Some k → rule_at k (bound_of r) ≡ in_order r
 found_in_order r k e = rw (← found_place r k e) (rule_at_in_order (enough r) r (found_has_place r k e))
 
 in_order_has_place : (n : ℕ) (r : Rule) → HasPlace n (in_order r) → HasPlace n r
@@ -130,19 +129,19 @@ in_order_has_place n (Two x y c) u = go (ltb x y) u
 in_order_has_place n (Nothing c) u = u
 
 -- the tables that have the place are those that have room for the rule
-pub found_inside : (r : Rule) (k : ℕ) → find_place r ≡ At k → (n : ℕ) → (k < block_start n) ↔ HasPlace n r
+pub found_inside : (r : Rule) (k : ℕ) → find_place r ≡ Some k → (n : ℕ) → (k < block_start n) ↔ HasPlace n r
 found_inside r k e n = (
   λ h. in_order_has_place n r (rw (found_in_order r k e) at (rule_at_has_place n k (bound_of r) h)),
   λ u. rw (found_place r k e) at (has_place_below n r u),
 )
 
 -- and a rule is found nowhere where no table has
-pub found_nowhere : (r : Rule) → (find_place r ≡ Nowhere) ↔ ((n : ℕ) → HasPlace n r → ⊥)
+pub found_nowhere : (r : Rule) → (find_place r ≡ None) ↔ ((n : ℕ) → HasPlace n r → ⊥)
 found_nowhere r = (λ e n u. at_nowhere (sym (has_place_found n r u) ∙ e), λ none. go none (find_place r) refl)
   where
-    go : ((n : ℕ) → HasPlace n r → ⊥) → (p : Place) → find_place r ≡ p → p ≡ Nowhere
-    go none (At k) e = absurd (none (enough r) (found_has_place r k e))
-    go none Nowhere e = refl
+    go : ((n : ℕ) → HasPlace n r → ⊥) → (p : Option ℕ) → find_place r ≡ p → p ≡ None
+    go none (Some k) e = absurd (none (enough r) (found_has_place r k e))
+    go none None e = refl
 
 -- ---- which places name a quantity
 

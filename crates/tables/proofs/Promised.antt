@@ -3,16 +3,16 @@ use mathlib.Core.Path.{◌≡◌, refl, sym, ◌∙◌, ap}
 use mathlib.Core.Bool.{Bool, true, false, cond}
 use mathlib.Core.List.{List, ◌++◌}
 use mathlib.Core.Logic.{◌⊎◌, inl, inr}
-use Prim.Native.Nat.{ℕ, ◌/◌, ◌≤◌, ◌<◌}
+use Prim.Native.Nat.{ℕ, ◌+◌, ◌-◌, ◌*◌, ◌/◌, ◌%◌, ◌≤◌, ◌<◌}
 use native.Mathlib.Omega.{arith}
 use lib.IntN.{ℤ, pos}
 use lib.ListN.{length, drop, length-replicate, get_or-replicate, get_or-append}
-use borrow.Author.Tests.{le-leb, lt-leb}
+use borrow.Author.Tests.{le-leb, lt-leb, lt-ltb, le-ltb}
 use Rattle.words.specs.Change.{word_at, change, fill_from}
 use Rattle.words.proofs.Change.{fill_front}
-use Rattle.places.specs.declared.Place.{Place}
-use Rattle.places.specs.Numbering.{block_start, is_one, higher_at, lower_at}
-use Rattle.places.proofs.Numbering.{at_lower}
+use Rattle.std.specs.Prelude.{Option}
+use Rattle.places.specs.Numbering.{block_start, block_of, offset_of, is_one, higher_at, lower_at}
+use Rattle.places.proofs.Numbering.{at_lower, block_starts, block_start_above}
 use Rattle.rules.specs.declared.rule.Rule.{Rule}
 use Rattle.rules.specs.declared.rule.Rule.TheVariants.{One, Two}
 use Rattle.rules.specs.declared.refusal.Refusal.{Refusal}
@@ -20,8 +20,8 @@ use Rattle.rules.specs.declared.refusal.Refusal.TheVariants.{Size, OutOfLimit}
 use Rattle.rules.specs.Limits.{no_rule}
 use Rattle.rules.specs.Meaning.{Assignment}
 use Rattle.rules.specs.Steps.{halved_of}
-use Rattle.tables.specs.declared.reply.Reply.{Reply}
-use Rattle.tables.specs.declared.reply.Reply.TheVariants.{Done, Refused}
+use Rattle.tables.specs.Replies.{Reply}
+use Rattle.std.specs.Prelude.{Ok, Err}
 use Rattle.tables.specs.Places.{rule_at, find_place}
 use Rattle.tables.specs.Tables.{table_size, empty_table, empty_reply, serves, has_rule, rule_reply, put_reply, put_halved, put_rule, clear_reply, cleared}
 use Rattle.tables.specs.Meaning.{Satisfies}
@@ -37,10 +37,10 @@ use Rattle.tables.proofs.Without.{cleared_meaning}
 
 -- ---- emptied
 
-pub emptied_refused : (n : ℕ) (t : List ℤ) → serves n (length t) ≡ false → Emptied n t (Refused Size) t
+pub emptied_refused : (n : ℕ) (t : List ℤ) → serves n (length t) ≡ false → Emptied n t (Err Size) t
 emptied_refused n t e = record {
   reply = rw e;
-  decided = tied_decided (empty_needs n (length t)) (Refused Size) (empty_reply n (length t)) (rw e) (empty_tied n (length t));
+  decided = tied_decided (empty_needs n (length t)) (Err Size) (empty_reply n (length t)) (rw e) (empty_tied n (length t));
   table = refl;
   meaning = λ d. absurd (refusal-number Size d);
 }
@@ -54,10 +54,10 @@ no-rules n v σ = record { each = λ k p. clash {b = has_rule no_rule} (rw (word
         get_or-append (empty_table n) v (pos 0) k (rw (length-replicate (block_start n) no_rule) h)
         ∙ get_or-replicate (block_start n) k no_rule (pos 0) h
 
-pub emptied_done : (n : ℕ) (t u : List ℤ) → serves n (length t) ≡ true → u ≡ change (table_size n) (fill_from 0 no_rule) t → Emptied n t Done u
+pub emptied_done : (n : ℕ) (t u : List ℤ) → serves n (length t) ≡ true → u ≡ change (table_size n) (fill_from 0 no_rule) t → Emptied n t (Ok tt) u
 emptied_done n t u e f = record {
   reply = rw e;
-  decided = tied_decided (empty_needs n (length t)) Done (empty_reply n (length t)) (rw e) (empty_tied n (length t));
+  decided = tied_decided (empty_needs n (length t)) (Ok tt) (empty_reply n (length t)) (rw e) (empty_tied n (length t));
   table = filled;
   meaning = λ d σ. rw filled (no-rules n (drop (block_start n) t) σ);
 }
@@ -70,7 +70,7 @@ emptied_done n t u e f = record {
 -- ---- a rule put in
 
 -- not done, the table is as it was
-put_kept : (n : ℕ) (q : Rule) (t : List ℤ) (r : Reply) (f : Refusal) → r ≡ put_reply n (length t) q → r ≡ Refused f → Put n q t r t
+put_kept : (n : ℕ) (q : Rule) (t : List ℤ) (r : Reply) (f : Refusal) → r ≡ put_reply n (length t) q → r ≡ Err f → Put n q t r t
 put_kept n q t r f e d = record {
   reply = e;
   decided = tied_decided (put_needs n (length t) q) r (put_reply n (length t) q) e (put_tied n (length t) q);
@@ -78,58 +78,58 @@ put_kept n q t r f e d = record {
   meaning = λ g. absurd (refusal-number f (rw d at g));
 }
 
-pub put_refused_size : (n : ℕ) (r : Rule) (t : List ℤ) → serves n (length t) ≡ false → Put n r t (Refused Size) t
+pub put_refused_size : (n : ℕ) (r : Rule) (t : List ℤ) → serves n (length t) ≡ false → Put n r t (Err Size) t
 unfolding put_reply
-put_refused_size n r t e = put_kept n r t (Refused Size) Size (rw e) refl
+put_refused_size n r t e = put_kept n r t (Err Size) Size (rw e) refl
 
-pub put_refused : (n : ℕ) (r : Rule) (t : List ℤ) (a : Reply) (f : Refusal) → serves n (length t) ≡ true → a ≡ rule_reply n (halved_of r) → a ≡ Refused f → Put n r t a t
+pub put_refused : (n : ℕ) (r h : Rule) (t : List ℤ) (f : Refusal) → serves n (length t) ≡ true → h ≡ halved_of r → Err f ≡ rule_reply n h → Put n r t (Err f) t
 unfolding put_reply
-put_refused n r t a f e q d = put_kept n r t a f (rw (e, q)) d
+put_refused n r h t f e d q = put_kept n r t (Err f) f (rw (e, ← d, ← q)) refl
 
-pub put_done : (n : ℕ) (r h : Rule) (t u : List ℤ) → serves n (length t) ≡ true → Done ≡ rule_reply n (halved_of r) → h ≡ halved_of r → u ≡ put_halved t h → Put n r t Done u
+pub put_done : (n : ℕ) (r h : Rule) (t u : List ℤ) → serves n (length t) ≡ true → h ≡ halved_of r → Ok tt ≡ rule_reply n h → u ≡ put_halved t h → Put n r t (Ok tt) u
 unfolding put_reply put_rule
-put_done n r h t u e q d f = record {
+put_done n r h t u e d q f = record {
   reply = whole;
-  decided = tied_decided (put_needs n (length t) r) Done (put_reply n (length t) r) whole (put_tied n (length t) r);
+  decided = tied_decided (put_needs n (length t) r) (Ok tt) (put_reply n (length t) r) whole (put_tied n (length t) r);
   table = placed;
-  meaning = λ g σ. rw placed (accepted_put n t r σ (serves_tells n (length t) e).room (sym q));
+  meaning = λ g σ. rw placed (accepted_put n t r σ (serves_tells n (length t) e).room (sym (rw d at q)));
 }
   where
-    whole : Done ≡ put_reply n (length t) r
-    whole = rw (e, ← q)
+    whole : (Ok tt) ≡ put_reply n (length t) r
+    whole = rw (e, ← d, ← q)
 
     placed : u ≡ put_rule t r
     placed = rw (f, d)
 
 -- ---- a quantity's places cleared
 
-cleared_kept : (n q : ℕ) (t : List ℤ) (f : Refusal) → Refused f ≡ clear_reply n (length t) q → Cleared n q t (Refused f) t
+cleared_kept : (n q : ℕ) (t : List ℤ) (f : Refusal) → Err f ≡ clear_reply n (length t) q → Cleared n q t (Err f) t
 cleared_kept n q t f e = record {
   reply = e;
-  decided = tied_decided (clear_needs n (length t) q) (Refused f) (clear_reply n (length t) q) e (clear_tied n (length t) q);
+  decided = tied_decided (clear_needs n (length t) q) (Err f) (clear_reply n (length t) q) e (clear_tied n (length t) q);
   table = refl;
   meaning = λ d. absurd (refusal-number f d);
 }
 
-pub cleared_refused_size : (n q : ℕ) (t : List ℤ) → serves n (length t) ≡ false → Cleared n q t (Refused Size) t
+pub cleared_refused_size : (n q : ℕ) (t : List ℤ) → serves n (length t) ≡ false → Cleared n q t (Err Size) t
 unfolding clear_reply
 cleared_refused_size n q t e = cleared_kept n q t Size (rw e)
 
-pub cleared_refused_limit : (n q : ℕ) (t : List ℤ) → serves n (length t) ≡ true → (q < 1) ⊎ (n < q) → Cleared n q t (Refused (OutOfLimit 0)) t
+pub cleared_refused_limit : (n q : ℕ) (t : List ℤ) → serves n (length t) ≡ true → (q < 1) ⊎ ((1 ≤ q) × (n < q)) → Cleared n q t (Err (OutOfLimit 0)) t
 unfolding clear_reply
 cleared_refused_limit n q t e (inl h) = cleared_kept n q t (OutOfLimit 0) (rw (e, lt-leb 1 q h))
-cleared_refused_limit n q t e (inr h) = cleared_kept n q t (OutOfLimit 0) (rw (e, le-leb 1 q (omega arith), lt-leb q n h))
+cleared_refused_limit n q t e (inr h) = cleared_kept n q t (OutOfLimit 0) (rw (e, le-leb 1 q h.0, lt-leb q n h.1))
 
-pub cleared_done : (n q : ℕ) (t u : List ℤ) → serves n (length t) ≡ true → 1 ≤ q → q ≤ n → u ≡ cleared n q t → Cleared n q t Done u
+pub cleared_done : (n q : ℕ) (t u : List ℤ) → serves n (length t) ≡ true → 1 ≤ q → q ≤ n → u ≡ cleared n q t → Cleared n q t (Ok tt) u
 unfolding clear_reply
 cleared_done n q t u e l h d = record {
   reply = whole;
-  decided = tied_decided (clear_needs n (length t) q) Done (clear_reply n (length t) q) whole (clear_tied n (length t) q);
+  decided = tied_decided (clear_needs n (length t) q) (Ok tt) (clear_reply n (length t) q) whole (clear_tied n (length t) q);
   table = d;
   meaning = λ g σ. rw d (cleared_meaning n q t σ (serves_tells n (length t) e).room);
 }
   where
-    whole : Done ≡ clear_reply n (length t) q
+    whole : (Ok tt) ≡ clear_reply n (length t) q
     whole = rw (e, le-leb 1 q l, le-leb q n h)
 
 -- ---- the rule of a place
@@ -151,9 +151,23 @@ at_place k c r e = record {
   lower_first = λ x y b f. rule_at_lower k c x y b (sym e ∙ f);
 }
 
+-- as it is found from the block of its place: that block starts at the place or before it, and no sooner than twice its number
+pub starts : (k b : ℕ) → b ≡ block_of k → (2 * b ≤ 2 * (b * b)) × (2 * (b * b) ≤ k)
+unfolding block_start
+starts k b e = (block_start_above b, rw e (block_starts k))
+
+pub at_place_of_one : (k b : ℕ) (c d : ℤ) → b ≡ block_of k → k - 2 * (b * b) < 2 → d ≡ c → AtPlace k c (One (2 * b + (k - 2 * (b * b)) % 2) d)
+unfolding rule_at is_one higher_at offset_of block_start
+at_place_of_one k b c d e l f = at_place k c _ (rw (f, ← e, lt-ltb (k - 2 * (b * b)) 2 l))
+
+pub at_place_of_two : (k b : ℕ) (c d : ℤ) → b ≡ block_of k → 2 ≤ k - 2 * (b * b) → d ≡ c
+    → AtPlace k c (Two ((k - 2 * (b * b) - 2) / 2) (2 * b + (k - 2 * (b * b)) % 2) d)
+unfolding rule_at is_one higher_at lower_at offset_of block_start
+at_place_of_two k b c d e l f = at_place k c _ (rw (f, ← e, le-ltb (k - 2 * (b * b)) 2 l))
+
 -- ---- the place of a rule
 
-pub placed : (rule : Rule) (r : Place) → r ≡ find_place rule → Placed rule r
+pub placed : (rule : Rule) (r : Option ℕ) → r ≡ find_place rule → Placed rule r
 placed rule r e = record {
   reply = e;
   nowhere = rw e (found_nowhere rule);

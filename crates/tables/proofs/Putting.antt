@@ -23,7 +23,7 @@ use Rattle.rules.specs.Literal.{quantity_of, negated}
 use Rattle.rules.specs.Meaning.{Assignment, Meets, term_value, bound_of}
 use Rattle.rules.specs.Steps.{halved_of}
 use Rattle.rules.proofs.Meanings.{halved_meaning}
-use Rattle.tables.specs.declared.reply.Reply.TheVariants.{Done}
+use Rattle.std.specs.Prelude.{Ok}
 use Rattle.tables.specs.Replies.{check}
 use Rattle.tables.specs.Places.{rule_at, find_place, HasPlace}
 use Rattle.tables.specs.Tables.{has_rule, rule_reply, put_at, put_halved, put_rule}
@@ -122,31 +122,31 @@ pub different_quantities : (x y : ℕ) → (x ≡ y → ⊥) → (y ≡ negated 
 different_quantities x y d e q = omega arith
 
 -- what it tells that a halved rule is accepted: it has a place and a bound, or it is bare and always met
-pub one_accepted : (n x : ℕ) (c : ℤ) → rule_reply n (One x c) ≡ Done → (x < 2 * n) × (has_rule c ≡ true)
+pub one_accepted : (n x : ℕ) (c : ℤ) → rule_reply n (One x c) ≡ Ok tt → (x < 2 * n) × (has_rule c ≡ true)
 unfolding rule_reply
 one_accepted n x c e =
     let p = both_true (ltb x (2 * n)) (has_rule c) (passed _ _ _ e).0 in
     (ltb-true x (2 * n) p.0, p.1)
 
-pub two_accepted : (n x y : ℕ) (c : ℤ) → rule_reply n (Two x y c) ≡ Done
+pub two_accepted : (n x y : ℕ) (c : ℤ) → rule_reply n (Two x y c) ≡ Ok tt
     → (x < 2 * n) × (y < 2 * n) × (has_rule c ≡ true) × (y ≡ negated x → ⊥)
 unfolding rule_reply
 two_accepted n x y c e =
     let a = passed _ _ _ e in
     let p = both_true (ltb x (2 * n) && ltb y (2 * n)) (has_rule c) a.0 in
     let q = both_true (ltb x (2 * n)) (ltb y (2 * n)) p.0 in
-    (ltb-true x (2 * n) q.0, ltb-true y (2 * n) q.1, p.1, eqb-false y (negated x) (not-true _ (passed _ Done (Cancelling 0) a.1).0))
+    (ltb-true x (2 * n) q.0, ltb-true y (2 * n) q.1, p.1, eqb-false y (negated x) (not-true _ (passed _ (Ok tt) (Cancelling 0) a.1).0))
 
-pub nothing_accepted : (n : ℕ) (c : ℤ) (σ : Assignment) → rule_reply n (Nothing c) ≡ Done → Meets σ (Nothing c)
+pub nothing_accepted : (n : ℕ) (c : ℤ) (σ : Assignment) → rule_reply n (Nothing c) ≡ Ok tt → Meets σ (Nothing c)
 unfolding rule_reply
 nothing_accepted n c σ e =
-    let a = passed (has_rule c) (check (not (lt_z c (pos 0))) NoAssignment Done) (OutOfLimit 0) e in
-    record { met = omega (linear, lt_z_false c (pos 0) (not-true _ (passed _ Done NoAssignment a.1).0)) }
+    let a = passed (has_rule c) (check (not (lt_z c (pos 0))) NoAssignment (Ok tt)) (OutOfLimit 0) e in
+    record { met = omega (linear, lt_z_false c (pos 0) (not-true _ (passed _ (Ok tt) NoAssignment a.1).0)) }
 
 -- ---- an accepted rule, put in
 
 -- a rule that is not doubled
-single_put : (n : ℕ) (t : List ℤ) (r : Rule) (σ : Assignment) → block_start n ≤ length t → Single r → rule_reply n r ≡ Done
+single_put : (n : ℕ) (t : List ℤ) (r : Rule) (σ : Assignment) → block_start n ≤ length t → Single r → rule_reply n r ≡ Ok tt
     → Satisfies n (put_halved t r) σ ↔ (Satisfies n t σ × Meets σ r)
 unfolding put_halved put_at find_place place_of
 single_put n t (One x c) σ l d e =
@@ -157,7 +157,7 @@ single_put n t (Two x y c) σ l d e =
     rw (found_two x y u) (has_place_put n t (Two x y c) σ l (p.0, p.1, u) p.2)
 single_put n t (Nothing c) σ l d e = (λ s. (s, nothing_accepted n c σ e), λ s. s.0)
 
-pub accepted_put : (n : ℕ) (t : List ℤ) (r : Rule) (σ : Assignment) → block_start n ≤ length t → rule_reply n (halved_of r) ≡ Done
+pub accepted_put : (n : ℕ) (t : List ℤ) (r : Rule) (σ : Assignment) → block_start n ≤ length t → rule_reply n (halved_of r) ≡ Ok tt
     → Satisfies n (put_rule t r) σ ↔ (Satisfies n t σ × Meets σ r)
 unfolding put_rule
 accepted_put n t r σ l e =

@@ -7,19 +7,19 @@ use Rattle.rules.specs.declared.refusal.Refusal.{Refusal}
 use Rattle.rules.specs.Refusal.{Returned, refused_as}
 use Rattle.rules.specs.Refusing.{Needs, passed, ◌or◌then◌, DecidedBy}
 use Rattle.rules.proofs.Refusals.{same_refusal, refusal-number}
-use Rattle.tables.specs.declared.reply.Reply.{Reply}
-use Rattle.tables.specs.declared.reply.Reply.TheVariants.{Done, Refused}
+use Rattle.tables.specs.Replies.{Reply}
+use Rattle.std.specs.Prelude.{Result, Ok, Err}
 use Rattle.tables.specs.Replies.{reply_returned, reply_number, check}
 use Rattle.tables.proofs.Tests.{clash, refused_done}
 
 -- a reply is refused by the first need that is not met, and done where all are
 abbrev pub Tied : Needs → Reply → Type 0
-Tied needs r = DecidedBy needs (λ f. r ≡ Refused f) (r ≡ Done)
+Tied needs r = DecidedBy needs (λ f. r ≡ Err f) (r ≡ Ok tt)
 
-pub refusal_in : {f g : Refusal} → Refused f ≡ Refused g → g ≡ f
+pub refusal_in : {A : Type 0} {f g : Refusal} → ◌≡◌ {A = Result A Refusal} (Err f) (Err g) → g ≡ f
 refusal_in e = cc
 
-pub tied_done : Tied passed Done
+pub tied_done : Tied passed (Ok tt)
 tied_done = record {
   refused = λ f. (λ e. refused_done (sym e), λ x. absurd x);
   accepted = (λ e. Prim.tt, λ x. refl);
@@ -44,8 +44,8 @@ tied_more false P g needs r d t = record {
 
 -- checks before a reply: their refusal stands whatever follows, and where they are done what follows is the reply
 pub record Before (checks : Reply → Reply) : Type 0 where
-  pub stands : (f : Refusal) → checks Done ≡ Refused f → (next : Reply) → checks next ≡ Refused f
-  pub goes_on : checks Done ≡ Done → (next : Reply) → checks next ≡ next
+  pub stands : (f : Refusal) → checks (Ok tt) ≡ Err f → (next : Reply) → checks next ≡ Err f
+  pub goes_on : checks (Ok tt) ≡ Ok tt → (next : Reply) → checks next ≡ next
 
 pub before_none : Before (λ next. next)
 before_none = record { stands = λ f e. absurd (refused_done (sym e)); goes_on = λ e next. refl }
@@ -56,19 +56,19 @@ before_more false g checks p = record { stands = λ f e next. e; goes_on = λ e.
 
 -- ---- as it is returned
 
-pub returned_refused : (r : Reply) (f : Refusal) → (reply_returned r ≡ refused_as f) ↔ (r ≡ Refused f)
+pub returned_refused : (r : Reply) (f : Refusal) → (reply_returned r ≡ refused_as f) ↔ (r ≡ Err f)
 returned_refused r f = (go r, λ e. rw e)
   where
-    go : (r : Reply) → reply_returned r ≡ refused_as f → r ≡ Refused f
-    go Done e = absurd (refusal-number f (sym (ap (λ (x : Returned). x.number) e)))
-    go (Refused g) e = ap Refused (same_refusal g f e)
+    go : (r : Reply) → reply_returned r ≡ refused_as f → r ≡ Err f
+    go (Ok tt) e = absurd (refusal-number f (sym (ap (λ (x : Returned). x.number) e)))
+    go (Err g) e = ap Err (same_refusal g f e)
 
-pub number_done : (r : Reply) → (reply_number r ≡ 0) ↔ (r ≡ Done)
+pub number_done : (r : Reply) → (reply_number r ≡ 0) ↔ (r ≡ Ok tt)
 number_done r = (go r, λ e. rw e)
   where
-    go : (r : Reply) → reply_number r ≡ 0 → r ≡ Done
-    go Done e = refl
-    go (Refused f) e = absurd (refusal-number f e)
+    go : (r : Reply) → reply_number r ≡ 0 → r ≡ Ok tt
+    go (Ok tt) e = refl
+    go (Err f) e = absurd (refusal-number f e)
 
 -- what decides a call decides it, however it is told
 pub decided_as : {needs : Needs} {P Q : Refusal → Type 0} {A B : Type 0} → DecidedBy needs P A → ((f : Refusal) → Q f ↔ P f) → B ↔ A → DecidedBy needs Q B

@@ -2,21 +2,19 @@
 use mathlib.Core.Path.{◌≡◌, refl}
 use mathlib.Core.Bool.{Bool, true, false, cond, ◌&&◌, ◌||◌}
 use mathlib.Core.Logic.{◌↔◌}
-use Prim.Native.Nat.{ℕ}
-use native.Mathlib.Omega.{arith}
 use Rattle.rules.specs.declared.refusal.Refusal.{Refusal}
-use Rattle.tables.specs.declared.reply.Reply.{Reply}
-use Rattle.tables.specs.declared.reply.Reply.TheVariants.{Done, Refused}
+use Rattle.tables.specs.Replies.{Reply}
+use Rattle.std.specs.Prelude.{Result, Ok, Err}
 
 -- a refusal is not done
-pub refused_done : {ℓ : Refusal} → Refused ℓ ≡ Done → ⊥
-refused_done e = let z : ◌≡◌ {A = ℕ} 0 1 = cc in omega arith
+pub refused_done : {A : Type 0} {f : Refusal} {a : A} → ◌≡◌ {A = Result A Refusal} (Err f) (Ok a) → ⊥
+refused_done e = cc
 
 pub clash {ℓ} : {X : Type ℓ} {b : Bool} → b ≡ true → b ≡ false → X
-clash e f = let z : ◌≡◌ {A = ℕ} 0 1 = cc in let y : ⊥ = omega arith in absurd y
+clash e f = cc
 
 -- a reply that is done passed its test
-pub passed : (b : Bool) (r : Reply) (f : Refusal) → cond b r (Refused f) ≡ Done → (b ≡ true) × (r ≡ Done)
+pub passed : (b : Bool) (r : Reply) (f : Refusal) → cond b r (Err f) ≡ Ok tt → (b ≡ true) × (r ≡ Ok tt)
 passed true r f e = (refl, e)
 passed false r f e = absurd (refused_done e)
 

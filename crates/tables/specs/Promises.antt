@@ -1,7 +1,5 @@
 -- What the functions on a table promise: the reply and every word, for every input, and what the table means afterwards.
-use Rattle.std.specs.Prelude.{Bool, true, false, cond, ◌≡◌, ◌↔◌, List, ◌++◌, ℕ, ◌/◌, ◌≤◌, ◌<◌, ℤ, length, drop}
-use Rattle.places.specs.declared.Place.{Place}
-use Rattle.places.specs.declared.Place.TheVariants.{At, Nowhere}
+use Rattle.std.specs.Prelude.{Bool, true, false, cond, ◌≡◌, ◌↔◌, List, ◌++◌, ℕ, ◌/◌, ◌≤◌, ◌<◌, ℤ, length, drop, Option, Some, None}
 use Rattle.places.specs.Numbering.{block_start}
 use Rattle.rules.specs.declared.rule.Rule.{Rule}
 use Rattle.rules.specs.declared.rule.Rule.TheVariants.{Two}
@@ -11,8 +9,7 @@ use Rattle.rules.specs.Refusing.{Needs, passed, ◌or◌then◌, DecidedBy}
 use Rattle.rules.specs.Meaning.{Assignment, Meets, bound_of}
 use Rattle.rules.specs.Steps.{in_order}
 use Rattle.tables.specs.Places.{rule_at, find_place, HasPlace}
-use Rattle.tables.specs.declared.reply.Reply.{Reply}
-use Rattle.tables.specs.Replies.{is_done, reply_returned, reply_number}
+use Rattle.tables.specs.Replies.{Reply, is_done, reply_returned, reply_number}
 use Rattle.tables.specs.Tables.{empty_table, empty_reply, put_reply, put_rule, clear_reply, cleared, words_in_limit, table_names_hidden}
 use Rattle.tables.specs.Meaning.{TableSized, RuleSized, Cancels, Meetable, Satisfies, SatisfiesWithout, WordsWithin, NoneAbove, NamesVisible}
 
@@ -73,14 +70,14 @@ pub record HiddenNamed (n : ℕ) (hidden : ℕ → Bool) (t : List ℤ) (r : Boo
 pub record AtPlace (k : ℕ) (c : ℤ) (r : Rule) : Type 0 where
   pub reply : r ≡ rule_at k c
   pub bound : bound_of r ≡ c
-  pub place : find_place r ≡ At k
+  pub place : find_place r ≡ Some k
   pub inside : (n : ℕ) → k < block_start n → HasPlace n r
   pub lower_first : (x y : ℕ) (b : ℤ) → r ≡ Two x y b → x / 2 < y / 2
 
 -- where a rule's term stands: nowhere where no table has a place for it; else at a place that just those tables have which have room for the rule, and the rule
 -- of that place, with its bound, is the rule itself, the lower quantity first
-pub record Placed (rule : Rule) (r : Place) : Type 0 where
+pub record Placed (rule : Rule) (r : Option ℕ) : Type 0 where
   pub reply : r ≡ find_place rule
-  pub nowhere : (r ≡ Nowhere) ↔ ((n : ℕ) → HasPlace n rule → ⊥)
-  pub inside : (k : ℕ) → r ≡ At k → (n : ℕ) → (k < block_start n) ↔ HasPlace n rule
-  pub back : (k : ℕ) → r ≡ At k → rule_at k (bound_of rule) ≡ in_order rule
+  pub nowhere : (r ≡ None) ↔ ((n : ℕ) → HasPlace n rule → ⊥)
+  pub inside : (k : ℕ) → r ≡ Some k → (n : ℕ) → (k < block_start n) ↔ HasPlace n rule
+  pub back : (k : ℕ) → r ≡ Some k → rule_at k (bound_of rule) ≡ in_order rule

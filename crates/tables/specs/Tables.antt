@@ -1,10 +1,8 @@
 -- The table's steps: its size, its empty form, a rule put in, a quantity's places cleared, and the tests of its words and of the quantities that they name.
-use Rattle.std.specs.Prelude.{Bool, true, false, cond, not, ◌&&◌, ◌||◌, List, [], ◌∷◌, ℕ, zero, suc, ◌*◌, leb, ltb, eqb, ℤ, pos, neg_ℤ, replicate, take}
+use Rattle.std.specs.Prelude.{Bool, true, false, cond, not, ◌&&◌, ◌||◌, List, [], ◌∷◌, ℕ, zero, suc, ◌*◌, leb, ltb, eqb, ℤ, pos, neg_ℤ, replicate, take, Option, Some, None, Ok}
 use Rattle.std.specs.Int.Signed.{lt_z, le_z}
 use Rattle.integers.specs.Bound.{smaller}
 use Rattle.words.specs.Change.{change, lowered}
-use Rattle.places.specs.declared.Place.{Place}
-use Rattle.places.specs.declared.Place.TheVariants.{At, Nowhere}
 use Rattle.places.specs.Numbering.{block_start}
 use Rattle.rules.specs.declared.rule.Rule.{Rule}
 use Rattle.rules.specs.declared.rule.Rule.TheVariants.{One, Two, Nothing}
@@ -13,9 +11,7 @@ use Rattle.rules.specs.Limits.{max_quantities, no_rule}
 use Rattle.rules.specs.Literal.{negated, quantity_of}
 use Rattle.rules.specs.Meaning.{bound_of, names}
 use Rattle.rules.specs.Steps.{halved_of}
-use Rattle.tables.specs.declared.reply.Reply.{Reply}
-use Rattle.tables.specs.declared.reply.Reply.TheVariants.{Done}
-use Rattle.tables.specs.Replies.{check}
+use Rattle.tables.specs.Replies.{Reply, check}
 use Rattle.tables.specs.Places.{rule_at, find_place}
 
 -- the words of a table over n quantities, 2n²; none where n is outside its range
@@ -38,7 +34,7 @@ empty_table n = replicate (block_start n) no_rule
 
 -- the reply to emptying a table of so many words
 abbrev pub empty_reply : ℕ → ℕ → Reply
-empty_reply n words = check (serves n words) Size Done
+empty_reply n words = check (serves n words) Size (Ok tt)
 
 -- a halved rule's quantities are all of 1 to n, and its bound is not the no-rule word, as that of the trivial rule is
 abbrev pub rule_fits : ℕ → Rule → Bool
@@ -60,16 +56,16 @@ is_bare_below (Nothing c) = lt_z c (pos 0)
 
 -- the reply to a halved rule for a table over n quantities: 3, 4, 5
 unfoldable pub rule_reply : ℕ → Rule → Reply
-rule_reply n r = check (rule_fits n r) (OutOfLimit 0) (check (not (cancels r)) (Cancelling 0) (check (not (is_bare_below r)) NoAssignment Done))
+rule_reply n r = check (rule_fits n r) (OutOfLimit 0) (check (not (cancels r)) (Cancelling 0) (check (not (is_bare_below r)) NoAssignment (Ok tt)))
 
 -- the reply to putting a rule into a table of so many words, a doubled term halved first
 unfoldable pub put_reply : ℕ → ℕ → Rule → Reply
 put_reply n words r = check (serves n words) Size (rule_reply n (halved_of r))
 
 -- a word goes to a place by minimum
-unfoldable pub put_at : List ℤ → Place → ℤ → List ℤ
-put_at t (At k) w = lowered t k w
-put_at t Nowhere w = t
+unfoldable pub put_at : List ℤ → Option ℕ → ℤ → List ℤ
+put_at t (Some k) w = lowered t k w
+put_at t None w = t
 
 -- a halved rule goes to the place of its term
 unfoldable pub put_halved : List ℤ → Rule → List ℤ
@@ -89,9 +85,9 @@ abbrev pub table_of : ℕ → List Rule → List ℤ
 table_of n rs = put_all (empty_table n) rs
 
 -- is a place the k-th?
-abbrev pub is_at : ℕ → Place → Bool
-is_at k (At j) = eqb k j
-is_at k Nowhere = false
+abbrev pub is_at : ℕ → Option ℕ → Bool
+is_at k (Some j) = eqb k j
+is_at k None = false
 
 -- the smallest bound that rules of a list have at a place, a doubled term halved; the no-rule word where none has that place
 unfoldable pub smallest_at : ℕ → List Rule → ℤ
@@ -108,7 +104,7 @@ cleared n q t = change (block_start n) (clearing q) t
 
 -- the reply to clearing quantity q, which has to be one of 1 to n
 unfoldable pub clear_reply : ℕ → ℕ → ℕ → Reply
-clear_reply n words q = check (serves n words) Size (check (leb 1 q && leb q n) (OutOfLimit 0) Done)
+clear_reply n words q = check (serves n words) Size (check (leb 1 q && leb q n) (OutOfLimit 0) (Ok tt))
 
 -- a word is no rule, or a bound of at most B in magnitude
 unfoldable pub in_limit : ℤ → ℤ → Bool

@@ -6,32 +6,21 @@ ghost use Rattle.tables.specs.Tables.{in_limit};
 use rules::sheet::Sheet;
 
 // Whether a word is no rule, or a bound of at most `limit` in magnitude.
+#[tactic(auto, using(crate::proofs::Limits::above_opposite), unfolding(crate::specs::Tables::in_limit))]
 pub fn is_word_in(w: i64, limit: i64) -> bool
     ensures { result ≡ in_limit limit w }
 {
-    if w < Sheet::NO_RULE {
-        if w <= integers::opposite(limit) {
-            return false;
-        }
-        return w <= limit;
-    }
-    true
+    w >= Sheet::NO_RULE || (integers::opposite(limit) < w && w <= limit)
 }
 
 // Whether each of the first `m` words, or of all where there are fewer, is in the limit.
 pub fn is_table_in(table: &[i64], m: usize, limit: i64) -> bool
     ensures { InLimit m limit table.now result }
 {
-    let mut i = 0;
-    while i < m {
-        if table.len() <= i {
-            return true;
-        }
-        let w = table[i];
+    for &w in &table[..m.min(table.len())] {
         if !is_word_in(w, limit) {
             return false;
         }
-        i = i + 1;
     }
     true
 }

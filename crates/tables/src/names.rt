@@ -12,22 +12,17 @@ use rules::sheet::Sheet;
 use rules::{hidden, literal};
 
 // Whether a rule names a quantity of the set.
+#[tactic(auto, unfolding(crate::specs::Tables::names_hidden))]
 fn names_hidden(set: Set, rule: Rule) -> bool
     ensures { result ≡ names_hidden (hidden_in set) rule }
 {
     match rule {
-        Rule::One { literal, bound: _ } => hidden::is_hidden(set, literal::quantity(literal)),
-        Rule::Two {
-            first,
-            second,
-            bound: _,
-        } => {
-            if hidden::is_hidden(set, literal::quantity(first)) {
-                return true;
-            }
-            hidden::is_hidden(set, literal::quantity(second))
+        Rule::One { literal, .. } => hidden::is_hidden(set, literal::quantity(literal)),
+        Rule::Two { first, second, .. } => {
+            hidden::is_hidden(set, literal::quantity(first))
+                || hidden::is_hidden(set, literal::quantity(second))
         }
-        Rule::Nothing { bound: _ } => false,
+        Rule::Nothing { .. } => false,
     }
 }
 
@@ -36,16 +31,10 @@ pub fn any_names_hidden(n: usize, set: Set, table: &[i64]) -> bool
     requires { TableSized n (length table.now) }
     ensures { HiddenNamed n (hidden_in set) table.now result }
 {
-    let m = table::size(n);
-    let mut k = 0;
-    while k < m {
-        let w = table[k];
-        if w < Sheet::NO_RULE {
-            if names_hidden(set, place::rule_at(k as u32, w)) {
-                return true;
-            }
+    for (k, &w) in table[..table::size(n)].iter().enumerate() {
+        if w < Sheet::NO_RULE && names_hidden(set, place::rule_at(k as u32, w)) {
+            return true;
         }
-        k = k + 1;
     }
     false
 }

@@ -1,10 +1,10 @@
 // The rule of a place, and the place of a rule.
 ghost use Rattle.tables.specs.Promises.{AtPlace, Placed};
 
-use places::Place;
 use rules::rule::Rule;
 
 // The rule of `place` with the bound given, the lower quantity first. Every place of a table has at most 32 bits.
+#[tactic(auto, using(crate::proofs::Promised::starts))]
 pub fn rule_at(place: u32, bound: i64) -> Rule
     ensures { AtPlace place bound result }
 {
@@ -25,16 +25,13 @@ pub fn rule_at(place: u32, bound: i64) -> Rule
 }
 
 // Where a rule's term stands; a doubled term, one that cancels and a bare rule have no place.
-pub fn place_of(rule: Rule) -> Place
+#[tactic(auto, using(crate::proofs::Promised::placed), unfolding(crate::specs::Places::find_place))]
+pub fn place_of(rule: Rule) -> Option<usize>
     ensures { Placed rule result }
 {
     match rule {
-        Rule::One { literal, bound: _ } => Place::At(places::of_one(literal)),
-        Rule::Two {
-            first,
-            second,
-            bound: _,
-        } => places::of_two(first, second),
-        Rule::Nothing { bound: _ } => Place::Nowhere,
+        Rule::One { literal, .. } => Some(places::of_one(literal)),
+        Rule::Two { first, second, .. } => places::of_two(first, second),
+        Rule::Nothing { .. } => None,
     }
 }

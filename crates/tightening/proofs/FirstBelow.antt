@@ -7,10 +7,11 @@ use Prim.Native.Nat.{ℕ, zero, suc, ◌+◌, ◌-◌, ◌*◌, ◌/◌, ◌≤�
 use native.Mathlib.Omega.{arith}
 use lib.Dec.{ltb}
 use lib.IntN.{ℤ}
-use lib.ListN.{length, get_or}
+use lib.ListN.{length, get_or, take}
+use lib.Seq.{length-take-le}
 use borrow.Author.Tests.{ltb-true, ltb-false, lt-ltb, le-ltb}
-use Rattle.places.specs.declared.Place.{Place}
-use Rattle.places.specs.declared.Place.TheVariants.{At, Nowhere}
+use Rattle.std.specs.Prelude.{Option, None}
+use Rattle.std.proofs.lemmas.List.{get_or-take}
 use Rattle.places.specs.Numbering.{block_start, block_of, offset_of, is_one, higher_at, lower_at}
 use Rattle.places.proofs.Numbering.{block_start_suc, block_start_mono, block_starts, block_ends, block_unique, offset_place, higher_half}
 use Rattle.tables.proofs.Tests.{both_true}
@@ -44,10 +45,10 @@ module _ (rules least : List ℤ) where
     passed_none = record { none = λ h k l p b. omega arith }
 
     -- one part more
-    pub passed_more : (i : ℕ) (r : Place) → PassedTo Part i → r ≡ Nowhere → FirstBelow (Part i) rules least r → PassedTo Part (suc i)
+    pub passed_more : (i : ℕ) (r : Option ℕ) → PassedTo Part i → r ≡ None → FirstBelow (Part i) rules least r → PassedTo Part (suc i)
     passed_more i r s q g = record { none = λ h k l p b. go h k l p b (ltb h i) refl }
       where
-        f : FirstBelow (Part i) rules least Nowhere
+        f : FirstBelow (Part i) rules least None
         f = rw q at g
 
         go : (h k : ℕ) → h < suc i → Part h k → BelowAt rules least k → (c : Bool) → ltb h i ≡ c → ⊥
@@ -56,7 +57,7 @@ module _ (rules least : List ℤ) where
 
   module _ (In : ℕ → Type 0) (Part : ℕ → ℕ → Type 0) (m : ℕ) (parts : InParts In Part m) where
     -- all parts
-    pub passed_all : PassedTo Part m → FirstBelow In rules least Nowhere
+    pub passed_all : PassedTo Part m → FirstBelow In rules least None
     passed_all s = λ k p b. let o = parts.covers k p in s.none o.part k o.some o.has b
 
     -- the first one in a part is the first of all where the parts before have none
@@ -73,10 +74,6 @@ module _ (rules least : List ℤ) where
         go j l g u p b false e false q =
             let x : g ≡ i = omega (arith, ltb-false g i e, ltb-false i g q) in
             f.sooner j l (rw x at p) b
-
-    -- the same of an answer that is a place
-    pub first_found : (i k : ℕ) (r : Place) → i < m → PassedTo Part i → r ≡ At k → FirstBelow (Part i) rules least r → FirstBelow In rules least r
-    first_found i k r h s e f = rw e (first_at i k h s (rw e at f))
 
 -- ---- the live places of a table: in blocks of live quantities
 
@@ -153,6 +150,13 @@ alone_run b k l h f =
     let o : block_start b + offset_of k ≡ k = rw e at (offset_place k) in
     omega (arith, ltb-true (offset_of k) 2 f)
 
+-- the quantities listed before one are lower
+pub lower_live : (i h : ℕ) (live : List ℕ) → Rising live → i < length live → h < length (take i live)
+    → (h < i) × (get_or (take i live) h 0 ≡ get_or live h 0) × (get_or live h 0 < get_or live i 0)
+lower_live i h live r s l =
+    let e = length-take-le i live (omega arith) in
+    let b : h < i = omega arith in (b, get_or-take i live h 0 b, rising_above live r h i b s)
+
 -- the live places of a block are those of these runs
 pub block_parts : (i : ℕ) (live : List ℕ) → Rising live → i < length live → InParts (BlockPlace (get_or live i 0) live) (BlockRun (get_or live i 0) live) (suc i)
 block_parts i live r s = record { holds = held; covers = λ k p. covered k p (is_one k) refl; ordered = follow }
@@ -187,25 +191,3 @@ block_parts i live r s = record { holds = held; covers = λ k p. covered k p (is
     follow h zero k l a c p q = let z : ⊥ = omega arith in absurd z
     follow zero (suc j) k l a c p q = omega (arith, p.1, q.0)
     follow (suc h) (suc j) k l a c p q = omega (arith, p.1, q.0, rising_above live r h j (omega arith) (omega arith))
-
--- ---- those of a run: one by one
-
--- place h of a run
-abbrev pub OnePlace : ℕ → ℕ → ℕ → Type 0
-OnePlace start h k = k ≡ start + h
-
--- the places of a run are these
-pub run_parts : (start count : ℕ) → InParts (RunPlace start count) (OnePlace start) count
-run_parts start count = record {
-  holds = λ h k l e. (omega arith, omega arith);
-  covers = λ k p. record { part = k - start; some = omega (arith, p); has = omega (arith, p) };
-  ordered = λ h j k l a s e d. omega arith;
-}
-
--- a place by itself is the first one where it is one,
-pub one_first : (rules least : List ℤ) (start h : ℕ) → BelowAt rules least (start + h) → FirstBelowAt (OnePlace start h) rules least (start + h)
-one_first rules least start h b = record { inside = refl; below = b; sooner = λ i l e c. omega arith }
-
--- and else there is none
-pub one_none : (rules least : List ℤ) (start h : ℕ) → (BelowAt rules least (start + h) → ⊥) → FirstBelow (OnePlace start h) rules least Nowhere
-one_none rules least start h n = λ i e b. n (rw e at b)

@@ -6,6 +6,7 @@ use Prim.Native.Nat.{ℕ, ◌≤◌}
 use native.Mathlib.Omega.{arith}
 use lib.IntN.{ℤ}
 use lib.ListN.{length, take}
+use Rattle.std.specs.Prelude.{Ok}
 use Rattle.words.specs.Change.{change, copying}
 use Rattle.words.specs.Lent.{Lent}
 use Rattle.places.specs.Numbering.{block_start}
@@ -13,8 +14,7 @@ use Rattle.rules.specs.declared.paper.Paper.TheVariants.{Sheet}
 use Rattle.rules.specs.Hidden.{hidden_in}
 use Rattle.rules.specs.Limits.{max_quantities}
 use Rattle.rules.specs.Refusing.{passed, AllMet}
-use Rattle.tables.specs.declared.reply.Reply.{Reply}
-use Rattle.tables.specs.declared.reply.Reply.TheVariants.{Done}
+use Rattle.tables.specs.Replies.{Reply}
 use Rattle.tables.specs.Tables.{table_size}
 use Rattle.tables.specs.Meaning.{TableSized, Satisfies, Satisfiable, BoundsWithin, NoneAbove}
 use Rattle.tables.proofs.Tests.{clash}
@@ -152,7 +152,7 @@ tight_keyed {n} {set} k = record {
 
 -- made, where the checks are passed
 pub tight_finished : (n set : ℕ) (t w t' w' : List ℤ) → AllMet (key_needs_then n set t (length w) passed) → NoneAbove (block_start n) t → KeyTried tight_key_of n set t w false t' w'
-    → TightKeyed n set t w Done t' w'
+    → TightKeyed n set t w (Ok tt) t' w'
 tight_finished n set t w t' w' p held d =
     tight_keyed
     (key_done tight_key_of TightKeyMade n set t w w' t' p (tight_rest (hidden_in set) n t) (tight_made n set t p.0.most p.0.room p.1.1.0.1 held) d)

@@ -1,8 +1,6 @@
 -- A rule of one table below the word of another: the first such place, where only some places count. With least bounds as these words it is the first rule that is broken.
-use Rattle.std.specs.Prelude.{true, ◌≡◌, List, ℕ, suc, ◌+◌, ◌≤◌, ◌<◌, ℤ, length, get_or, ◌<ℤ◌}
+use Rattle.std.specs.Prelude.{true, ◌≡◌, List, ℕ, suc, ◌+◌, ◌≤◌, ◌<◌, ℤ, length, get_or, ◌<ℤ◌, Option, Some, None}
 use Rattle.words.specs.Change.{word_at}
-use Rattle.places.specs.declared.Place.{Place}
-use Rattle.places.specs.declared.Place.TheVariants.{At, Nowhere}
 use Rattle.places.specs.Numbering.{block_start}
 use Rattle.rules.specs.Limits.{max_quantities}
 use Rattle.tables.specs.Tables.{has_rule}
@@ -21,9 +19,9 @@ pub record FirstBelowAt (In : ℕ → Type 0) (rules least : List ℤ) (k : ℕ)
   pub sooner : (i : ℕ) → i < k → In i → BelowAt rules least i → ⊥
 
 -- or there is none
-abbrev pub FirstBelow : (ℕ → Type 0) → List ℤ → List ℤ → Place → Type 0
-FirstBelow In rules least (At k) = FirstBelowAt In rules least k
-FirstBelow In rules least Nowhere = (i : ℕ) → In i → BelowAt rules least i → ⊥
+abbrev pub FirstBelow : (ℕ → Type 0) → List ℤ → List ℤ → Option ℕ → Type 0
+FirstBelow In rules least (Some k) = FirstBelowAt In rules least k
+FirstBelow In rules least None = (i : ℕ) → In i → BelowAt rules least i → ⊥
 
 -- ---- the places that count
 

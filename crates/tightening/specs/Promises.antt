@@ -7,7 +7,7 @@ use Rattle.rules.specs.Hidden.{hidden_in}
 use Rattle.rules.specs.Meaning.{Assignment}
 use Rattle.tables.specs.Places.{rule_at}
 use Rattle.tables.specs.Tables.{has_rule}
-use Rattle.tables.specs.declared.reply.Reply.{Reply}
+use Rattle.tables.specs.Replies.{Reply}
 use Rattle.tables.specs.Meaning.{Satisfies, Unsatisfiable, SheetAllows, NoneAbove, MetByAll, Breaks}
 use Rattle.keys.specs.Keys.{refuted}
 use Rattle.keys.specs.Meaning.{SheetAccepted}

@@ -1,7 +1,7 @@
 // The tightest table of a table that some integers satisfy: every quantity is paired with all others that rules name, the live ones, and nothing is cleared; then each term of two literals
 // gets the sum of their bounds alone.
 ghost use Rattle.std.specs.Prelude.{◌≡◌, ◌*◌, ◌≤◌, length};
-ghost use Rattle.keys.specs.Inner.{Fits, LiveAlone};
+ghost use Rattle.keys.specs.Inner.{Fits, LiveAlone, RowServes};
 ghost use Rattle.tightening.specs.Tightening.{strengthened};
 ghost use Rattle.tightening.specs.Promises.{Tightened};
 ghost use Rattle.tightening.specs.Inner.{RowsLent, AllPaired, Adding, LoneGatherable, LoneGathered};
@@ -12,6 +12,7 @@ use rules::sheet::Sheet;
 
 // Pairs every quantity of the table, whose rules name live ones alone, and answers whether a contradiction is met, at which it stops. The step on a quantity that
 // no rule names changes nothing, so only live ones are visited. The two rows are for the rules of the quantity at its turn: their words are free.
+// Kept: the rows stay two parameters. `keys::room::Rows` has a list too, which is lent by the caller here, and a struct for these two calls alone would be no plainer.
 fn pair_all(
     n: usize,
     table: &mut [i64],
@@ -22,12 +23,10 @@ fn pair_all(
     requires { Fits n table.old × LiveAlone n live.now table.old × RowsLent n plus.old minus.old }
     ensures { AllPaired n table.old result table.new }
 {
-    let mut turn = 0;
-    while turn < live.len() {
-        if pair::pair(n, table, live[turn], live, plus, minus) {
+    for &j in live {
+        if pair::pair(n, table, j, live, plus, minus) {
             return true;
         }
-        turn = turn + 1;
     }
     false
 }
@@ -37,13 +36,10 @@ fn gather_lone(n: usize, table: &[i64], live: &[usize], row: &mut [i64])
     requires { LoneGatherable n live.now table.now row.old }
     ensures { LoneGathered n live.now table.now row.new }
 {
-    let mut i = 0;
-    while i < live.len() {
-        let a = live[i];
+    for &a in live {
         let start = 2 * (a * a);
         row[2 * a] = table[start];
         row[2 * a + 1] = table[start + 1];
-        i = i + 1;
     }
 }
 
@@ -57,21 +53,17 @@ fn strengthen(n: usize, table: &mut [i64], live: &[usize], row: &mut [i64])
     pair::pair_blocks(n, table, live, row, row, Sheet::NO_RULE, Sheet::NO_RULE);
 }
 
-// Tightens the table with two rows lent: their words are free.
-fn tighten_in(
-    n: usize,
-    table: &mut [i64],
-    live: &[usize],
-    plus: &mut [i64],
-    minus: &mut [i64],
-) -> bool
-    requires { Fits n table.old × LiveAlone n live.now table.old × RowsLent n plus.old minus.old }
+// Does what `tighten` does, with rows of one size.
+fn tighten_in<const ROW: usize>(n: usize, table: &mut [i64], live: &[usize]) -> bool
+    requires { Fits n table.old × LiveAlone n live.now table.old × RowServes n ROW }
     ensures { Tightened n table.old result table.new }
 {
-    if pair_all(n, table, live, plus, minus) {
+    let mut plus = [0; ROW];
+    let mut minus = [0; ROW];
+    if pair_all(n, table, live, &mut plus, &mut minus) {
         return true;
     }
-    strengthen(n, table, live, plus);
+    strengthen(n, table, live, &mut plus);
     false
 }
 
@@ -82,16 +74,10 @@ pub fn tighten(n: usize, table: &mut [i64], live: &[usize]) -> bool
     ensures { Tightened n table.old result table.new }
 {
     if n <= room::SMALL {
-        let mut plus = [0; room::SMALL_ROW];
-        let mut minus = [0; room::SMALL_ROW];
-        return tighten_in(n, table, live, &mut plus, &mut minus);
+        tighten_in::<{ room::SMALL_ROW }>(n, table, live)
+    } else if n <= room::MIDDLE {
+        tighten_in::<{ room::MIDDLE_ROW }>(n, table, live)
+    } else {
+        tighten_in::<{ room::LARGE_ROW }>(n, table, live)
     }
-    if n <= room::MIDDLE {
-        let mut plus = [0; room::MIDDLE_ROW];
-        let mut minus = [0; room::MIDDLE_ROW];
-        return tighten_in(n, table, live, &mut plus, &mut minus);
-    }
-    let mut plus = [0; room::LARGE_ROW];
-    let mut minus = [0; room::LARGE_ROW];
-    tighten_in(n, table, live, &mut plus, &mut minus)
 }

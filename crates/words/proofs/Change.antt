@@ -2,17 +2,22 @@
 use mathlib.Core.Path.{◌≡◌, refl, sym, ◌∙◌, ap, ap₂}
 use mathlib.Core.List.{List, [], ◌∷◌, ◌++◌}
 use mathlib.Core.Logic.{◌≢◌}
-use mathlib.Core.Bool.{Bool, true, false}
-use Prim.Native.Nat.{ℕ, zero, suc, ◌+◌, ◌≤◌, ◌<◌}
+use mathlib.Core.Bool.{Bool, true, false, cond}
+use Prim.Native.Nat.{ℕ, zero, suc, ◌+◌, ◌-◌, ◌≤◌, ◌<◌, min}
 use native.Mathlib.Nat.{add-zero, zero-add}
 use native.Mathlib.Omega.{arith}
 use lib.Dec.{eqb, ltb}
 use lib.IntN.{ℤ, pos}
-use lib.ListN.{length, set, drop, replicate, length-set}
+use lib.ListN.{length, set, take, drop, replicate, length-set}
+use borrow.Rule.Slice.PartMut.{put_mid}
+use Rattle.std.proofs.Common.{length-append, length-drop}
+use Rattle.std.proofs.Math.ListN.{get_or-append}
+use Rattle.std.proofs.Math.Seq.{length-take-le}
+use Rattle.std.proofs.lemmas.List.{get_or-append_right, get_or-take, get_or-drop}
 use lib.Seq.{get_or-set_same, get_or-set_other, set_out, ext_get_or}
 use borrow.Author.Tests.{eqb-true, eqb-false, ltb-true, ltb-false, lt-ltb, le-ltb}
 use Rattle.integers.specs.Bound.{smaller}
-use Rattle.words.specs.Change.{word_at, change_from, change, starting_at, fill_from, lowered}
+use Rattle.words.specs.Change.{word_at, change_from, change, starting_at, copying, fill_from, lowered}
 
 -- ---- the first words changed
 
@@ -159,22 +164,9 @@ starting_on i j m f t h g =
     go k true e = rw e
     go k false e = rw (e, le-ltb k i (omega (arith, ltb-false k j e)))
 
--- past the end it does not matter how many words are to be changed
-pub change_end : (a b : ℕ) (f : ℕ → ℤ → ℤ) (t : List ℤ) → length t ≤ a → length t ≤ b → change a f t ≡ change b f t
-change_end a b f t h g = change_is b f t (change a f t) (change_length a f t)
-    (λ k p l. change_below a f t k (omega arith) l)
-    (λ k p l. let z : ⊥ = omega arith in absurd z)
-
 -- a fill begins at its first place
 pub fill_at : (from k : ℕ) (w v : ℤ) → from ≤ k → fill_from from w k v ≡ w
 fill_at from k w v h = rw (le-ltb k from h)
-
-pub fill_before : (from m : ℕ) (w : ℤ) (t : List ℤ) → m ≤ from → change m (fill_from from w) t ≡ t
-fill_before from m w t h = change_nothing m (fill_from from w) t (λ k p. rw (lt-ltb k from (omega arith)))
-
-pub fill_more : (from i : ℕ) (w : ℤ) (t : List ℤ) → from ≤ i → i < length t → set (change i (fill_from from w) t) i w ≡ change (suc i) (fill_from from w) t
-fill_more from i w t h l =
-    ap (λ (z : ℤ). set (change i (fill_from from w) t) i z) (sym (fill_at from i w (word_at t i) h)) ∙ change_more i (fill_from from w) t l
 
 -- a fill from the first place on is a run of one word, and the rest
 front_from : (i m : ℕ) (w : ℤ) (t : List ℤ) → m ≤ length t → change_from i m (fill_from 0 w) t ≡ replicate m w ++ drop m t
@@ -186,6 +178,87 @@ front_from i (suc m) w (v ∷ t) h = ap₂ ◌∷◌ (fill_at 0 i w v (omega ari
 pub fill_front : (m : ℕ) (w : ℤ) (t : List ℤ) → m ≤ length t → change m (fill_from 0 w) t ≡ replicate m w ++ drop m t
 unfolding change
 fill_front m w t h = front_from 0 m w t h
+
+-- ---- words written by the library's methods
+
+-- what stands at a place of a list whose first words are others
+module _ (k : ℕ) (u t : List ℤ) (same : length u ≡ k) where
+  front_at : (j : ℕ) → j < k → word_at (u ++ drop k t) j ≡ word_at u j
+  front_at j h = get_or-append u (drop k t) (pos 0) j (omega arith)
+
+  rest_at : (j : ℕ) → k ≤ j → word_at (u ++ drop k t) j ≡ word_at t j
+  rest_at j h =
+      let e : k + (j - k) ≡ j = omega arith in
+      get_or-append_right u (drop k t) k j (pos 0) same h ∙ get_or-drop k t (j - k) (pos 0) ∙ ap (word_at t) e
+
+-- as many of the first m words as both lists have, copied
+pub copied : (m k : ℕ) (s t u : List ℤ) → k ≡ min (min m (length t)) (length s) → u ≡ take k s → u ++ drop k t ≡ change m (copying s) t
+copied m k s t u e w = change_is m (copying s) t (u ++ drop k t) (simp (length-append, length-drop) (omega (arith, same))) below past
+  where
+    same : length u ≡ k
+    same = ap length w ∙ length-take-le k s (omega arith)
+
+    go : (j : ℕ) → j < m → j < length t → (b : Bool) → ltb j (length s) ≡ b → word_at (u ++ drop k t) j ≡ cond b (word_at s j) (word_at t j)
+    go j p l true q =
+        let h : j < k = omega (arith, ltb-true j (length s) q) in
+        front_at k u t same j h ∙ ap (λ (v : List ℤ). word_at v j) w ∙ get_or-take k s j (pos 0) h
+    go j p l false q = rest_at k u t same j (omega (arith, ltb-false j (length s) q))
+
+    below : (j : ℕ) → j < m → j < length t → word_at (u ++ drop k t) j ≡ copying s j (word_at t j)
+    below j p l = go j p l (ltb j (length s)) refl
+
+    past : (j : ℕ) → m ≤ j → j < length t → word_at (u ++ drop k t) j ≡ word_at t j
+    past j p l = rest_at k u t same j (omega arith)
+
+-- the words from a place on, up to another one or the end, set
+pub filled : (from to k : ℕ) (w : ℤ) (t u : List ℤ) → from < min to (length t) → k ≡ min to (length t) - from → length u ≡ length (take k (drop from t))
+    → ((j : ℕ) → j < length u → word_at u j ≡ w) → put_mid from k t u ≡ change to (fill_from from w) t
+filled from to k w t u h e s set_to = change_is to (fill_from from w) t (put_mid from k t u) size below past
+  where
+    rest : List ℤ
+    rest = drop from t
+
+    within_rest : k ≤ length rest
+    within_rest = omega (arith, length-drop from t)
+
+    many : length u ≡ k
+    many = s ∙ length-take-le k rest within_rest
+
+    front : length (take from t) ≡ from
+    front = length-take-le from t (omega arith)
+
+    size : length (put_mid from k t u) ≡ length t
+    size = simp (length-append, length-drop) (omega (arith, front, many))
+
+    before : (j : ℕ) → j < from → word_at (put_mid from k t u) j ≡ word_at t j
+    before j p = get_or-append (take from t) (u ++ drop k rest) (pos 0) j (omega (arith, front)) ∙ get_or-take from t j (pos 0) p
+
+    behind : (j : ℕ) → from ≤ j → word_at (put_mid from k t u) j ≡ word_at (u ++ drop k rest) (j - from)
+    behind j p = get_or-append_right (take from t) (u ++ drop k rest) from j (pos 0) front p
+
+    within : (j : ℕ) → from ≤ j → j < from + k → word_at (put_mid from k t u) j ≡ w
+    within j p q = behind j p ∙ front_at k u rest many (j - from) (omega arith) ∙ set_to (j - from) (omega (arith, many))
+
+    after : (j : ℕ) → from + k ≤ j → word_at (put_mid from k t u) j ≡ word_at t j
+    after j p =
+        let all : from + (j - from) ≡ j = omega arith in
+        behind j (omega arith) ∙ rest_at k u rest many (j - from) (omega arith) ∙ get_or-drop from t (j - from) (pos 0) ∙ ap (word_at t) all
+
+    go : (j : ℕ) → j < to → j < length t → (b : Bool) → ltb j from ≡ b → word_at (put_mid from k t u) j ≡ cond b (word_at t j) w
+    go j p l true q = before j (ltb-true j from q)
+    go j p l false q = within j (ltb-false j from q) (omega (arith, ltb-false j from q))
+
+    below : (j : ℕ) → j < to → j < length t → word_at (put_mid from k t u) j ≡ fill_from from w j (word_at t j)
+    below j p l = go j p l (ltb j from) refl
+
+    past : (j : ℕ) → to ≤ j → j < length t → word_at (put_mid from k t u) j ≡ word_at t j
+    past j p l = after j (omega arith)
+
+-- where there are none, nothing is set
+pub unfilled : (from to : ℕ) (w : ℤ) (t : List ℤ) → min to (length t) ≤ from → t ≡ change to (fill_from from w) t
+unfilled from to w t h = change_is to (fill_from from w) t t refl
+    (λ k p l. let q : k < from = omega arith in rw (lt-ltb k from q))
+    (λ k p l. refl)
 
 -- ---- one word by minimum
 

@@ -2,18 +2,16 @@
 use mathlib.Core.Path.{◌≡◌, refl, sym, ◌∙◌, ap}
 use mathlib.Core.Bool.{true}
 use mathlib.Core.List.{List}
-use mathlib.Core.Logic.{⊎_elim}
-use Prim.Native.Nat.{ℕ, ◌/◌, ◌%◌, ◌≤◌}
+use Prim.Native.Nat.{ℕ, ◌/◌, ◌%◌}
 use native.Mathlib.Omega.{arith}
 use lib.IntN.{ℤ, pos, neg_ℤ, ◌+ℤ◌}
-use lib.ListN.{length, get_or-eq_default}
 use Rattle.integers.specs.Bound.{opposite_bound, in_word, saturated}
 use Rattle.integers.proofs.Parts.{linear, positive_part, negative_part, parts_add, parts_neg, parts_opposite, saturated_word}
 use Rattle.words.specs.Change.{word_at}
 use Rattle.rules.specs.declared.rule.Rule.TheVariants.{Two}
 use Rattle.rules.specs.Literal.{quantity_of}
 use Rattle.rules.specs.Meaning.{Assignment, literal_value, term_value}
-use Rattle.rules.proofs.Literals.{sign_cases, value_plus, value_minus}
+use Rattle.rules.proofs.Literals.{value_plus, value_minus}
 use Rattle.tables.specs.Meaning.{assignment_of}
 use Rattle.elimination.proofs.Values.{quantity_word}
 use Rattle.worked.specs.Values.{term_word}
@@ -23,15 +21,7 @@ opposite_one : (w : ℤ) → opposite_bound w +ℤ pos 1 ≡ neg_ℤ w
 unfolding positive_part negative_part
 opposite_one w = omega (linear, parts_add (opposite_bound w) (pos 1), parts_opposite w, parts_neg w)
 
--- a literal whose quantity has no word is worth 0
-pub literal_past : (values : List ℤ) (x : ℕ) → length values ≤ x / 2 → pos 0 ≡ saturated (literal_value (assignment_of values) x)
-unfolding saturated
-literal_past values x h =
-    let none : assignment_of values (quantity_of x) ≡ pos 0 = quantity_word values x ∙ get_or-eq_default values (pos 0) h in
-    let σ = assignment_of values in
-    sym (ap saturated (⊎_elim (λ e. value_plus σ x e ∙ none) (λ e. value_minus σ x e ∙ ap neg_ℤ none) (sign_cases x)))
-
--- with + it is worth its word
+-- a literal with + is worth its quantity's word, 0 where it has none
 pub literal_plus : (values : List ℤ) (x : ℕ) → x % 2 ≡ 0 → in_word (word_at values (x / 2)) ≡ true
     → word_at values (x / 2) ≡ saturated (literal_value (assignment_of values) x)
 literal_plus values x e f =

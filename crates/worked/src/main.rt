@@ -16,18 +16,12 @@ mod texts;
 mod thesis;
 mod verdicts;
 
-// The examples of each source, all in the same words.
-fn run(rt: &impl Print, table: &mut [i64]) {
-    thesis::run(rt, table);
-    slides::run(rt, table);
-    scope::run(rt, table);
-}
-
 fn main(rt: HostRuntime) {
     numbering::run(&rt);
     methods::run(&rt);
-    let mut table = [0; sheet::PLACES];
-    run(&rt, &mut table);
+    thesis::run(&rt);
+    slides::run(&rt);
+    scope::run(&rt);
     verdicts::run(&rt);
     refusals::run(&rt);
     ranges::run(&rt);

@@ -1,5 +1,5 @@
 // The by-value methods of a rule, on document 01's numbers: the opposite, a doubled term halved, and sums over a literal.
-use crate::printing;
+use crate::printing::{Literal, Spelled};
 use rules::rule::Rule;
 
 // The literals over which sums are taken here.
@@ -21,32 +21,25 @@ pub(crate) fn run(rt: &impl Print) {
 
 // The opposite of a rule.
 fn print_opposite(rt: &impl Print, rule: Rule) {
-    printing::print_text(rt, b"the opposite of ");
-    printing::print_rule(rt, rule);
-    printing::print_text(rt, b" is ");
-    printing::print_rule(rt, rule.opposite());
-    printing::print_text(rt, b"\n");
+    let opposite = Spelled(rule.opposite());
+    let rule = Spelled(rule);
+    let _ = println!(rt; "the opposite of {rule} is {opposite}");
 }
 
 // A rule halved.
 fn print_half(rt: &impl Print, rule: Rule) {
-    printing::print_rule(rt, rule);
-    printing::print_text(rt, b" halved is ");
-    printing::print_rule(rt, rule.halved());
-    printing::print_text(rt, b"\n");
+    let half = Spelled(rule.halved());
+    let rule = Spelled(rule);
+    let _ = println!(rt; "{rule} halved is {half}");
 }
 
 // The sum of two rules over a literal of the first.
 fn print_sum(rt: &impl Print, first: Rule, second: Rule, literal: u32) {
-    printing::print_text(rt, b"the sum of ");
-    printing::print_rule(rt, first);
-    printing::print_text(rt, b" and ");
-    printing::print_rule(rt, second);
-    printing::print_text(rt, b" over ");
-    printing::print_literal(rt, literal);
-    printing::print_text(rt, b" is ");
-    printing::print_rule(rt, first.sum(second, literal));
-    printing::print_text(rt, b"\n");
+    let sum = Spelled(first.sum(second, literal));
+    let first = Spelled(first);
+    let second = Spelled(second);
+    let literal = Literal(literal);
+    let _ = println!(rt; "the sum of {first} and {second} over {literal} is {sum}");
 }
 
 // The opposite of t <= c is -t <= -c - 1, also where the term is doubled or there is none.

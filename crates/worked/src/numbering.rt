@@ -1,27 +1,21 @@
 // Prints the numbering of terms for three quantities, from place to term and back.
-use crate::printing;
-use places::Place;
+use crate::printing::Term;
+use tables::place;
 
 // The term of a place, and the place of that term.
-fn print_place(rt: &impl Print, place: u32) {
-    printing::print_number(rt, place as u64);
-    printing::print_text(rt, b" ");
-    let rule = tables::place::rule_at(place, 0);
-    printing::print_term(rt, rule);
-    let back = tables::place::place_of(rule);
-    if let Place::At(k) = back {
-        printing::print_text(rt, b" ");
-        printing::print_number(rt, k as u64);
-    }
-    printing::print_text(rt, b"\n");
+fn print_place(rt: &impl Print, k: u32) {
+    let rule = place::rule_at(k, 0);
+    let term = Term(rule);
+    let _ = match place::place_of(rule) {
+        Some(back) => println!(rt; "{k} {term} {back}"),
+        None => println!(rt; "{k} {term}"),
+    };
 }
 
 // Every place.
 pub(crate) fn run(rt: &impl Print) {
-    printing::print_text(rt, b"place term place\n");
-    let mut place: u32 = 0;
-    while place < 18 {
-        print_place(rt, place);
-        place = place + 1;
+    let _ = println!(rt; "place term place");
+    for k in 0..18 {
+        print_place(rt, k);
     }
 }

@@ -1,56 +1,47 @@
-// What this program prints to standard output: texts, numbers, and rules as document 01 spells them. No contract can say what is written, so
-// these functions are proved safe and ending, and what they print is compared.
+// How this program spells literals, terms and rules: as document 01 does. No contract can say what is written, so these are proved safe and ending, and what they
+// print is compared.
+use rules::literal;
 use rules::rule::Rule;
-
-// The bytes as they are. A write that fails is passed over, here and below: what is missing shows where the output is compared.
-pub(crate) fn print_text(rt: &impl Print, text: &[u8]) {
-    let _ = rt.write_all(text);
-}
-
-// A number in decimal.
-pub(crate) fn print_number(rt: &impl Print, k: u64) {
-    let _ = rt.print(k);
-}
-
-// A signed number in decimal.
-pub(crate) fn print_signed(rt: &impl Print, c: i64) {
-    if c < 0 {
-        print_text(rt, b"-");
-    }
-    print_number(rt, integers::magnitude(c));
-}
+use std::fmt;
 
 // A literal, as +1 or -3.
-pub(crate) fn print_literal(rt: &impl Print, x: u32) {
-    if x % 2 == 0 {
-        print_text(rt, b"+");
-    } else {
-        print_text(rt, b"-");
+#[derive(Clone, Copy)]
+pub(crate) struct Literal(pub u32);
+
+impl fmt::Display for Literal {
+    fn fmt<W: fmt::Write>(&self, f: &mut fmt::Formatter<W>) -> fmt::Result {
+        let sign = if self.0 % 2 == 0 { '+' } else { '-' };
+        let quantity = literal::quantity(self.0);
+        write!(f, "{sign}{quantity}")
     }
-    print_number(rt, rules::literal::quantity(x) as u64);
 }
 
 // The term of a rule, its literals in the rule's order; a bare rule has none.
-pub(crate) fn print_term(rt: &impl Print, rule: Rule) {
-    match rule {
-        Rule::One { literal, bound: _ } => {
-            print_literal(rt, literal);
+#[derive(Clone, Copy)]
+pub(crate) struct Term(pub Rule);
+
+impl fmt::Display for Term {
+    fn fmt<W: fmt::Write>(&self, f: &mut fmt::Formatter<W>) -> fmt::Result {
+        match self.0 {
+            Rule::One { literal, bound: _ } => write!(f, "{}", Literal(literal)),
+            Rule::Two {
+                first,
+                second,
+                bound: _,
+            } => write!(f, "{}{}", Literal(first), Literal(second)),
+            Rule::Nothing { bound: _ } => Ok(()),
         }
-        Rule::Two {
-            first,
-            second,
-            bound: _,
-        } => {
-            print_literal(rt, first);
-            print_literal(rt, second);
-        }
-        Rule::Nothing { bound: _ } => {}
     }
 }
 
 // A rule, as +1-5:7.
-pub(crate) fn print_rule(rt: &impl Print, rule: Rule) {
-    print_term(rt, rule);
-    print_text(rt, b":");
-    print_signed(rt, rule.bound());
+#[derive(Clone, Copy)]
+pub(crate) struct Spelled(pub Rule);
+
+impl fmt::Display for Spelled {
+    fn fmt<W: fmt::Write>(&self, f: &mut fmt::Formatter<W>) -> fmt::Result {
+        let term = Term(self.0);
+        let bound = self.0.bound();
+        write!(f, "{term}:{bound}")
+    }
 }

@@ -1,5 +1,6 @@
 // The refusals of marking two tables over 3 quantities, each by its number and what is returned beside it: 0, or for 6 the length needed. A refusal leaves the
 // assignment as it was, so its words are printed too.
+use crate::sheet::Example;
 use crate::{replies, sheet};
 use marking::mark;
 use rules::hidden::Set;
@@ -16,8 +17,9 @@ pub(crate) fn run(rt: &impl Print) {
     sizes(rt);
     lent(rt);
     limits(rt);
-    past_limit(rt, 1_000_000_001);
-    past_limit(rt, -1_000_000_001);
+    for bound in [1_000_000_001, -1_000_000_001] {
+        past_limit(rt, bound);
+    }
     hidden_named(rt);
     limits_last(rt);
     names_last(rt);
@@ -34,14 +36,14 @@ fn mark(
     values: &mut [i64],
 ) {
     let marking = mark::mark(n, hidden, paper, script, workspace, values);
-    replies::print_marking(rt, marking);
+    replies::print_marking(rt, &marking);
     replies::print_values(rt, values);
 }
 
 // Marks with enough lent for 3 quantities, after a heading.
 pub(crate) fn mark_after(
     rt: &impl Print,
-    heading: &[u8],
+    heading: &str,
     n: usize,
     hidden: Set,
     paper: &[i64],
@@ -57,15 +59,15 @@ pub(crate) fn mark_after(
 fn sizes(rt: &impl Print) {
     let table = [Sheet::NO_RULE; TABLE];
     let short = [Sheet::NO_RULE; TABLE - 1];
-    mark_after(rt, b"tables marked: n 0", 0, 0, &table, &table);
+    mark_after(rt, "tables marked: n 0", 0, 0, &table, &table);
     let large = [Sheet::NO_RULE; 2178];
-    mark_after(rt, b"n 33", 33, 0, &large, &large);
-    mark_after(rt, b"n 3, a sheet of 17 words", 3, 0, &short, &table);
-    mark_after(rt, b"n 3, a script of 17 words", 3, 0, &table, &short);
-    mark_after(rt, b"n 3, two tables of 18 words", 3, 0, &table, &table);
+    mark_after(rt, "n 33", 33, 0, &large, &large);
+    mark_after(rt, "n 3, a sheet of 17 words", 3, 0, &short, &table);
+    mark_after(rt, "n 3, a script of 17 words", 3, 0, &table, &short);
+    mark_after(rt, "n 3, two tables of 18 words", 3, 0, &table, &table);
     let paper = [3, Sheet::NO_RULE, 1_000_000_001];
     let script = [3, Sheet::NO_RULE, -5_000_000_001, -5_000_000_001];
-    mark_after(rt, b"n 1, tables of 3 and 4 words", 1, 0, &paper, &script);
+    mark_after(rt, "n 1, tables of 3 and 4 words", 1, 0, &paper, &script);
 }
 
 // 6: the workspace, then the assignment.
@@ -75,46 +77,46 @@ fn lent(rt: &impl Print) {
     let mut small = [0; WORKSPACE - 1];
     let mut values = [7; 3];
     let mut few = [7; 2];
-    sheet::head(rt, b"a workspace of 35 words");
+    sheet::head(rt, "a workspace of 35 words");
     mark(rt, 3, 0, &table, &table, &mut small, &mut values);
-    sheet::head(rt, b"an assignment of 2 words");
+    sheet::head(rt, "an assignment of 2 words");
     mark(rt, 3, 0, &table, &table, &mut workspace, &mut few);
-    sheet::head(rt, b"both");
+    sheet::head(rt, "both");
     mark(rt, 3, 0, &table, &table, &mut small, &mut few);
 }
 
 // 3: a hidden quantity past n, and none where sets and bounds are at their limits.
 fn limits(rt: &impl Print) {
     let table = [Sheet::NO_RULE; TABLE];
-    mark_after(rt, b"quantity 4 hidden", 3, 0b1000, &table, &table);
-    let mut bounds = [0; TABLE];
-    sheet::begin(rt, b"bounds at the limit", 3, &mut bounds);
-    sheet::put(rt, 3, &mut bounds, 1, 0, 1_000_000_000);
-    sheet::put(rt, 3, &mut bounds, 1, 2, -1_000_000_000);
-    mark_after(rt, b"quantity 3 hidden", 3, 0b100, &bounds, &bounds);
+    mark_after(rt, "quantity 4 hidden", 3, 0b1000, &table, &table);
+    let mut bounds = Example::begin(rt, "bounds at the limit", 3);
+    bounds.put(rt, 1, 0, 1_000_000_000);
+    bounds.put(rt, 1, 2, -1_000_000_000);
+    let bounds = &bounds.table;
+    mark_after(rt, "quantity 3 hidden", 3, 0b100, bounds, bounds);
 }
 
 // 3: a word past the limit in either table.
 fn past_limit(rt: &impl Print, bound: i64) {
     let table = [Sheet::NO_RULE; TABLE];
-    let mut past = [0; TABLE];
-    sheet::begin(rt, b"a bound past the limit", 3, &mut past);
-    sheet::put(rt, 3, &mut past, 2, 3, bound);
-    mark_after(rt, b"in the sheet", 3, 0, &past, &table);
-    mark_after(rt, b"in the script", 3, 0, &table, &past);
+    let mut past = Example::begin(rt, "a bound past the limit", 3);
+    past.put(rt, 2, 3, bound);
+    mark_after(rt, "in the sheet", 3, 0, &past.table, &table);
+    mark_after(rt, "in the script", 3, 0, &table, &past.table);
 }
 
 // 7: a script rule that names a hidden quantity, alone, second or first. The sheet's rules may, so one table serves as both.
 fn hidden_named(rt: &impl Print) {
-    let mut table = [0; TABLE];
-    sheet::begin(rt, b"a sheet and script that name 2", 3, &mut table);
-    sheet::put(rt, 3, &mut table, 2, 0, 1);
-    mark_after(rt, b"2 hidden", 3, 0b10, &table, &table);
-    mark_after(rt, b"1 and 3 hidden", 3, 0b101, &table, &table);
-    sheet::begin(rt, b"a sheet and script that name 1 and 2", 3, &mut table);
-    sheet::put(rt, 3, &mut table, 1, -2, 0);
-    mark_after(rt, b"2 hidden", 3, 0b10, &table, &table);
-    mark_after(rt, b"1 hidden", 3, 0b1, &table, &table);
+    let mut second = Example::begin(rt, "a sheet and script that name 2", 3);
+    second.put(rt, 2, 0, 1);
+    let table = &second.table;
+    mark_after(rt, "2 hidden", 3, 0b10, table, table);
+    mark_after(rt, "1 and 3 hidden", 3, 0b101, table, table);
+    let mut both = Example::begin(rt, "a sheet and script that name 1 and 2", 3);
+    both.put(rt, 1, -2, 0);
+    let table = &both.table;
+    mark_after(rt, "2 hidden", 3, 0b10, table, table);
+    mark_after(rt, "1 hidden", 3, 0b1, table, table);
 }
 
 // Where several apply: 1 before 6 before 3.
@@ -127,29 +129,22 @@ fn limits_last(rt: &impl Print) {
     let mut few = [7; 2];
     sheet::head(
         rt,
-        b"quantity 4 hidden, a script of 17 words, a workspace of 35, an assignment of 2",
+        "quantity 4 hidden, a script of 17 words, a workspace of 35, an assignment of 2",
     );
     mark(rt, 3, 0b1000, &table, &short, &mut small, &mut few);
-    sheet::head(rt, b"quantity 4 hidden and a workspace of 35 words");
+    sheet::head(rt, "quantity 4 hidden and a workspace of 35 words");
     mark(rt, 3, 0b1000, &table, &table, &mut small, &mut values);
-    sheet::head(rt, b"quantity 4 hidden and an assignment of 2 words");
+    sheet::head(rt, "quantity 4 hidden and an assignment of 2 words");
     mark(rt, 3, 0b1000, &table, &table, &mut workspace, &mut few);
 }
 
 // 3 before 7, in the script and in the sheet.
 fn names_last(rt: &impl Print) {
     let table = [Sheet::NO_RULE; TABLE];
-    let mut past = [0; TABLE];
-    sheet::begin(rt, b"a bound past the limit that names 2", 3, &mut past);
-    sheet::put(rt, 3, &mut past, 2, 0, 2_000_000_001);
-    mark_after(rt, b"2 hidden", 3, 0b10, &table, &past);
-    let mut script = [0; TABLE];
-    sheet::begin(
-        rt,
-        b"in the sheet, and a script that names 2",
-        3,
-        &mut script,
-    );
-    sheet::put(rt, 3, &mut script, 2, 0, 1);
-    mark_after(rt, b"2 hidden", 3, 0b10, &past, &script);
+    let mut past = Example::begin(rt, "a bound past the limit that names 2", 3);
+    past.put(rt, 2, 0, 2_000_000_001);
+    mark_after(rt, "2 hidden", 3, 0b10, &table, &past.table);
+    let mut script = Example::begin(rt, "in the sheet, and a script that names 2", 3);
+    script.put(rt, 2, 0, 1);
+    mark_after(rt, "2 hidden", 3, 0b10, &past.table, &script.table);
 }

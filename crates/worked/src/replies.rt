@@ -1,49 +1,48 @@
 // What this program prints of a marking: its number, what is returned beside it, and the words of the assignment.
-use crate::printing;
+use marking::verdict;
 use marking::verdict::Marking;
-use scripts::reply::{Subject, TextMarking};
+use rules::refusal;
+use scripts::reply;
+use scripts::reply::{PaperRefusal, Subject, TextMarking};
 
 // The number of a reply and what is returned beside it.
 fn print_number(rt: &impl Print, number: u32, value: usize) {
-    printing::print_text(rt, b"reply=");
-    printing::print_number(rt, number as u64);
-    printing::print_text(rt, b" value=");
-    printing::print_number(rt, value as u64);
-    printing::print_text(rt, b"\n");
+    let _ = println!(rt; "reply={number} value={value}");
 }
 
 // The reply of marking two tables.
-pub(crate) fn print_marking(rt: &impl Print, marking: Marking) {
-    print_number(rt, marking.number(), marking.value());
+pub(crate) fn print_marking(rt: &impl Print, marking: &Marking) {
+    print_number(
+        rt,
+        verdict::marking_number(marking),
+        refusal::value_of(marking),
+    );
 }
 
 // The paper that a refusal of a text is about.
 fn print_paper(rt: &impl Print, paper: Subject) {
-    match paper {
-        Subject::Sheet => printing::print_text(rt, b"paper=sheet\n"),
-        Subject::Script => printing::print_text(rt, b"paper=script\n"),
-        Subject::Both => printing::print_text(rt, b"paper=both\n"),
-    }
+    let name = match paper {
+        Subject::Sheet => "sheet",
+        Subject::Script => "script",
+        Subject::Both => "both",
+    };
+    let _ = println!(rt; "paper={name}");
 }
 
 // The reply of marking two texts, with the paper that a refusal is about.
-pub(crate) fn print_text_marking(rt: &impl Print, marking: TextMarking) {
-    print_number(rt, marking.number(), marking.value());
-    if let TextMarking::Refused { paper, refusal: _ } = marking {
+pub(crate) fn print_text_marking(rt: &impl Print, marking: &TextMarking) {
+    print_number(rt, reply::number(marking), reply::value(marking));
+    if let Err(PaperRefusal { paper, refusal: _ }) = *marking {
         print_paper(rt, paper);
     }
 }
 
 // The words of an assignment, joined by commas.
 pub(crate) fn print_values(rt: &impl Print, values: &[i64]) {
-    printing::print_text(rt, b"values=");
-    let mut k = 0;
-    while k < values.len() {
-        if 0 < k {
-            printing::print_text(rt, b",");
-        }
-        printing::print_signed(rt, values[k]);
-        k = k + 1;
+    let _ = print!(rt; "values=");
+    for (k, value) in values.iter().enumerate() {
+        let comma = if 0 < k { "," } else { "" };
+        let _ = print!(rt; "{comma}{value}");
     }
-    printing::print_text(rt, b"\n");
+    let _ = println!(rt; "");
 }

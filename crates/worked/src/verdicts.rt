@@ -1,6 +1,7 @@
 // Document 01, 'Sheets to try': sheet A's scripts marked as tables, and a sheet that allows nothing. Which integers show a verdict is left free, so they are
 // not printed: they are held against the rules that they are to meet and the one that they are to break.
-use crate::{meets, printing, replies, scope, sheet};
+use crate::sheet::Example;
+use crate::{meets, replies, scope, sheet};
 use marking::mark;
 use marking::verdict::{Marking, Verdict};
 use rules::rule::Rule;
@@ -10,13 +11,11 @@ const HIDDEN: u32 = 0b10;
 
 // Sheet A and its key as tables, and every script.
 pub(crate) fn run(rt: &impl Print) {
-    let mut paper = [0; sheet::PLACES];
-    sheet::begin(rt, b"document 01, sheet A marked: 2 hidden", 3, &mut paper);
+    let mut paper = Example::begin(rt, "document 01, sheet A marked: 2 hidden", 3);
     scope::rules_of_a(rt, &mut paper);
-    let mut key = [0; sheet::PLACES];
-    sheet::begin(rt, b"its key", 3, &mut key);
+    let mut key = Example::begin(rt, "its key", 3);
     scope::rules_of_a(rt, &mut key);
-    sheet::key(rt, 3, HIDDEN, &mut key);
+    key.key(rt, HIDDEN);
     equal(rt, &paper, &key);
     loose(rt, &paper, &key);
     tight(rt, &paper, &key);
@@ -25,64 +24,67 @@ pub(crate) fn run(rt: &impl Print) {
 }
 
 // The key's rules, one of them doubled.
-fn equal(rt: &impl Print, paper: &[i64], key: &[i64]) {
-    let mut script = [0; sheet::PLACES];
-    sheet::begin(rt, b"an equal script", 3, &mut script);
-    sheet::put(rt, 3, &mut script, 1, 1, 7);
-    sheet::put(rt, 3, &mut script, 1, 3, 5);
+fn equal(rt: &impl Print, paper: &Example, key: &Example) {
+    let mut script = Example::begin(rt, "an equal script", 3);
+    script.put(rt, 1, 1, 7);
+    script.put(rt, 1, 3, 5);
     mark(rt, paper, key, &script);
 }
 
 // A rule is forgotten.
-fn loose(rt: &impl Print, paper: &[i64], key: &[i64]) {
-    let mut script = [0; sheet::PLACES];
-    sheet::begin(rt, b"a loose script", 3, &mut script);
-    sheet::put(rt, 3, &mut script, 1, 0, 3);
+fn loose(rt: &impl Print, paper: &Example, key: &Example) {
+    let mut script = Example::begin(rt, "a loose script", 3);
+    script.put(rt, 1, 0, 3);
     mark(rt, paper, key, &script);
 }
 
 // A bound is too small.
-fn tight(rt: &impl Print, paper: &[i64], key: &[i64]) {
-    let mut script = [0; sheet::PLACES];
-    sheet::begin(rt, b"a tight script", 3, &mut script);
-    sheet::put(rt, 3, &mut script, 1, 0, 2);
-    sheet::put(rt, 3, &mut script, 1, 3, 5);
+fn tight(rt: &impl Print, paper: &Example, key: &Example) {
+    let mut script = Example::begin(rt, "a tight script", 3);
+    script.put(rt, 1, 0, 2);
+    script.put(rt, 1, 3, 5);
     mark(rt, paper, key, &script);
 }
 
 // Both, which is loose.
-fn loose_and_narrow(rt: &impl Print, paper: &[i64], key: &[i64]) {
-    let mut script = [0; sheet::PLACES];
-    sheet::begin(rt, b"a script too wide and too narrow", 3, &mut script);
-    sheet::put(rt, 3, &mut script, 1, 0, 2);
+fn loose_and_narrow(rt: &impl Print, paper: &Example, key: &Example) {
+    let mut script = Example::begin(rt, "a script too wide and too narrow", 3);
+    script.put(rt, 1, 0, 2);
     mark(rt, paper, key, &script);
 }
 
 // A script without rules for a sheet that allows nothing: loose, with no rule.
 fn no_rule(rt: &impl Print) {
-    let mut paper = [0; sheet::PLACES];
-    sheet::begin(rt, b"a sheet that allows nothing", 3, &mut paper);
-    sheet::put(rt, 3, &mut paper, 1, 0, 0);
-    sheet::put(rt, 3, &mut paper, -1, 0, -1);
-    let mut script = [0; sheet::PLACES];
-    sheet::begin(rt, b"a script without rules", 3, &mut script);
-    let mut workspace = [0; 36];
+    let mut paper = Example::begin(rt, "a sheet that allows nothing", 3);
+    paper.put(rt, 1, 0, 0);
+    paper.put(rt, -1, 0, -1);
+    let script = Example::begin(rt, "a script without rules", 3);
     let mut values = [7; 3];
-    let marking = mark::mark(3, HIDDEN, &paper, &script, &mut workspace, &mut values);
-    replies::print_marking(rt, marking);
-    if let Marking::Marked(verdict) = marking {
+    if let Ok(verdict) = marked(rt, &paper, &script, &mut values) {
         print_carried(rt, verdict);
         print_hidden(rt, &values);
     }
 }
 
-// Marks a script against sheet A, prints the reply and the rule that a verdict carries, and checks the integers that it comes with.
-fn mark(rt: &impl Print, paper: &[i64], key: &[i64], script: &[i64]) {
+// Marks a script against a sheet and prints the reply.
+fn marked(rt: &impl Print, paper: &Example, script: &Example, values: &mut [i64]) -> Marking {
     let mut workspace = [0; 36];
+    let marking = mark::mark(
+        3,
+        HIDDEN,
+        &paper.table,
+        &script.table,
+        &mut workspace,
+        values,
+    );
+    replies::print_marking(rt, &marking);
+    marking
+}
+
+// Marks a script against sheet A, prints the reply and the rule that a verdict carries, and checks the integers that it comes with.
+fn mark(rt: &impl Print, paper: &Example, key: &Example, script: &Example) {
     let mut values = [7; 3];
-    let marking = mark::mark(3, HIDDEN, paper, script, &mut workspace, &mut values);
-    replies::print_marking(rt, marking);
-    if let Marking::Marked(verdict) = marking {
+    if let Ok(verdict) = marked(rt, paper, script, &mut values) {
         print_carried(rt, verdict);
         check(rt, verdict, paper, key, script, &values);
     }
@@ -93,50 +95,41 @@ fn mark(rt: &impl Print, paper: &[i64], key: &[i64], script: &[i64]) {
 fn check(
     rt: &impl Print,
     verdict: Verdict,
-    paper: &[i64],
-    key: &[i64],
-    script: &[i64],
+    paper: &Example,
+    key: &Example,
+    script: &Example,
     values: &[i64],
 ) {
     match verdict {
         Verdict::Equal => replies::print_values(rt, values),
         Verdict::Loose(_) => {
-            sheet::head(rt, b"its integers on the script, then on the key");
-            meets::print_broken(rt, 3, script, values);
-            meets::print_broken(rt, 3, key, values);
+            sheet::head(rt, "its integers on the script, then on the key");
+            meets::print_broken(rt, script, values);
+            meets::print_broken(rt, key, values);
             print_hidden(rt, values);
         }
         Verdict::Tight(_) => {
-            sheet::head(rt, b"its integers on the sheet, then on the script");
-            meets::print_broken(rt, 3, paper, values);
-            meets::print_broken(rt, 3, script, values);
+            sheet::head(rt, "its integers on the sheet, then on the script");
+            meets::print_broken(rt, paper, values);
+            meets::print_broken(rt, script, values);
         }
     }
 }
 
-// The rule that a verdict carries; equal carries none.
+// The rule that a verdict carries, an empty value for none; equal carries no rule.
 fn print_carried(rt: &impl Print, verdict: Verdict) {
     match verdict {
         Verdict::Equal => {}
-        Verdict::Loose(rule) => print_rule(rt, rule),
-        Verdict::Tight(rule) => print_rule(rt, rule),
+        Verdict::Loose(Rule::Nothing { bound: _ }) | Verdict::Tight(Rule::Nothing { bound: _ }) => {
+            sheet::head(rt, "rule=")
+        }
+        Verdict::Loose(rule) | Verdict::Tight(rule) => sheet::print_rule(rt, "rule=", rule),
     }
-}
-
-// A rule that is carried; an empty value for none.
-fn print_rule(rt: &impl Print, rule: Rule) {
-    if let Rule::Nothing { bound: _ } = rule {
-        sheet::head(rt, b"rule=");
-        return;
-    }
-    sheet::print_rule(rt, b"rule=", rule);
 }
 
 // The word of quantity 2, the hidden one.
 fn print_hidden(rt: &impl Print, values: &[i64]) {
-    if 1 < values.len() {
-        printing::print_text(rt, b"hidden word=");
-        printing::print_signed(rt, values[1]);
-        printing::print_text(rt, b"\n");
+    if let Some(word) = values.get(1) {
+        let _ = println!(rt; "hidden word={word}");
     }
 }

@@ -3,6 +3,7 @@
 use mathlib.Core.Path.{◌≡◌, refl}
 use mathlib.Core.Bool.{Bool, true, false, cond}
 use mathlib.Core.List.{List, [], ◌∷◌}
+use Rattle.std.specs.Prelude.{Ok}
 use Prim.Native.Nat.{ℕ, suc, ◌+◌, ◌*◌, ◌^◌, ◌≤◌, ◌<◌}
 use native.Mathlib.Omega.{arith}
 use lib.IntN.{ℤ, pos, negsuc, nat_abs}
@@ -28,11 +29,10 @@ use Rattle.tables.specs.Meaning.{WordsWithin, KeyLike, BoundsWithin}
 use Rattle.tables.proofs.Places.{rule_at_bound, rule_at_has_place}
 use Rattle.lines.specs.Spelling.{Written, rule, line_within, cancelling}
 use Rattle.lines.specs.Lines.{accepted}
-use Rattle.reading.specs.declared.read.Reading.TheVariants.{Accepted}
 use Rattle.reading.specs.Texts.{rule_lines}
 use Rattle.reading.specs.Meaning.{ruled, lines_of, Fine, AllFine, Spells, Reads}
 use Rattle.reading.proofs.Means.{reads_check}
-use Rattle.reading.specs.Reading.{check_text, reply_to, read_reply, filled, read_table}
+use Rattle.reading.specs.Reading.{sheet_of, check_text, reply_to, read_reply, filled, read_table}
 use Rattle.writing.specs.Writing.{written_of, rules_at, table_rules, hidden_list, contents_of, written_text}
 use Rattle.writing.specs.Promises.{ReadBack, ReadAs}
 use Rattle.writing.proofs.Meanings.{front_word, Clean, table_back, AreWords}
@@ -153,7 +153,7 @@ module _ (n set : ℕ) (t : List ℤ) (some : 1 ≤ n) (most : n ≤ max_quantit
       checked : check_text Sheet (written_text n set t) ≡ accepted (contents_of n set t) []
       checked = reads_check Sheet (written_text n set t) (contents_of n set t) (sheet_reads within words)
 
-      reply : read_reply (written_text n set t) (length u) ≡ Accepted n set
+      reply : read_reply (written_text n set t) (length u) ≡ Ok (sheet_of n set)
       reply = rw (checked, le-ltb (length u) (block_start n) enough, hidden_back n set within)
 
   -- ---- as a script

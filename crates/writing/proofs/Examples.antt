@@ -3,6 +3,7 @@
 use mathlib.Core.Path.{◌≡◌, refl, ◌∙◌, ap}
 use mathlib.Core.Bool.{Bool, false, true, ◌||◌}
 use mathlib.Core.List.{List, [], ◌∷◌, ◌++◌}
+use Rattle.std.specs.Prelude.{Ok}
 use Prim.Native.Nat.{ℕ, zero, suc, ◌+◌, ◌<◌}
 use native.Mathlib.Omega.{arith}
 use lib.IntN.{ℤ, pos}
@@ -32,7 +33,6 @@ use Rattle.reading.specs.Texts.{Contents, lines_text, header_text, sheet_text}
 use Rattle.reading.specs.Reading.{check_text, read_reply, read_table, reading_returned}
 use Rattle.reading.proofs.Frauds.{reading}
 use Rattle.writing.specs.Writing.{written_text}
-use Rattle.writing.specs.declared.write.Writing.TheVariants.{Text}
 use Rattle.writing.specs.Promises.{FirstPast, line_at, ReadAs, TextWritten}
 use Rattle.writing.proofs.Frauds.{writing}
 
@@ -127,7 +127,7 @@ large_like = record {
 }
 
 -- so whatever bytes are written for it are refused as a sheet with 3 at line 4, and leave the table that they are read into
-pub large_past : (out : List ℕ) (m : ℕ) (out' : List ℕ) → TextWritten 3 2 large_key out (Text m) out' → (t : List ℤ)
+pub large_past : (out : List ℕ) (m : ℕ) (out' : List ℕ) → TextWritten 3 2 large_key out (Ok m) out' → (t : List ℤ)
     → (reading_returned (read_reply (take m out') (length t)) ≡ refused_as (OutOfLimit 4)) × (read_table (take m out') t ≡ t)
 large_past out m out' w t =
     let p = (w.made refl).read_past ((w.made refl).key_short large_like) 11 large_first.past t in
@@ -136,5 +136,5 @@ large_past out m out' w t =
     (rw line at p.reply, p.kept)
 
 -- and are accepted as a script, whose rule makes the key's table again
-pub large_script : (out : List ℕ) (m : ℕ) (out' : List ℕ) → TextWritten 3 2 large_key out (Text m) out' → ReadAs Script 3 2 large_key (take m out')
+pub large_script : (out : List ℕ) (m : ℕ) (out' : List ℕ) → TextWritten 3 2 large_key out (Ok m) out' → ReadAs Script 3 2 large_key (take m out')
 large_script out m out' w = (w.made refl).read_as Script large_like.within ((w.made refl).key_short large_like)

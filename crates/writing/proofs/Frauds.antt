@@ -4,6 +4,7 @@ use mathlib.Core.Path.{◌≡◌, refl, sym, ◌∙◌, ap}
 use mathlib.Core.Bool.{false}
 use mathlib.Core.Logic.{inl, inr}
 use mathlib.Core.List.{List, [], ◌∷◌, ◌++◌, append-nil}
+use Rattle.std.specs.Prelude.{Ok, Err}
 use Prim.Native.Nat.{ℕ, ◌≤◌, ◌<◌}
 use native.Mathlib.Omega.{arith}
 use lib.Dec.{eqb}
@@ -24,15 +25,13 @@ use Rattle.numerals.specs.Bytes.{bytes}
 use Rattle.numerals.specs.Decimal.{decimal_up_to, signed_decimal}
 use Rattle.numerals.proofs.Decimals.{up_to_enough}
 use Rattle.lines.specs.Spelling.{one, term_text, rule_text, list_text, value_text, line_text}
-use Rattle.reading.specs.declared.read.Reading.TheVariants.{Accepted}
-use Rattle.reading.specs.Reading.{read_reply, read_table}
+use Rattle.reading.specs.Reading.{sheet_of, read_reply, read_table}
 use Rattle.reading.specs.Texts.{Contents, lines_text, header_text, sheet_text}
 use Rattle.reading.proofs.Frauds.{spelling}
-use Rattle.writing.specs.declared.write.Writing.{Writing}
-use Rattle.writing.specs.declared.write.Writing.TheVariants.{Text, Refused}
-use Rattle.writing.specs.Writing.{written_of, rules_at, hidden_from, written_text, writing_returned, writing_number}
+use Rattle.tables.proofs.Tests.{refused_done}
+use Rattle.writing.specs.Writing.{Writing, written_of, rules_at, hidden_from, written_text, writing_returned, writing_number}
 use Rattle.writing.specs.Promises.{TextWritten}
-use Rattle.writing.proofs.Promised.{reply_text, refused_text, number_output, text_tells, refused_kept}
+use Rattle.writing.proofs.Promised.{reply_text, number_output, text_tells, refused_kept}
 
 -- ---- the key of sheet A
 
@@ -75,7 +74,7 @@ smallest_written = smallest_found ∙ smallest_spelled
 
 -- ---- frauds: the text
 
-module _ (out : List ℕ) (m : ℕ) (out' : List ℕ) (w : TextWritten 3 2 key_a out (Text m) out') where
+module _ (out : List ℕ) (m : ℕ) (out' : List ℕ) (w : TextWritten 3 2 key_a out (Ok m) out') where
   -- what is written, so many bytes as the reply says, is no list that differs from that text at some byte
   unlike : {s : List ℕ} (k : ℕ) → take m out' ≡ s → eqb (get_or s k 0) (get_or key_text_a k 0) ≡ false → ⊥
   unlike {s} k e h =
@@ -121,7 +120,7 @@ module _ (out : List ℕ) (m : ℕ) (out' : List ℕ) (w : TextWritten 3 2 key_a
   -- ---- the text read again
 
   -- into a table of 18 words, whatever these are, it gives the very table, its n and its hidden set
-  pub key_a_back : (t : List ℤ) → length t ≡ 18 → (read_reply (take m out') (length t) ≡ Accepted 3 2) × (read_table (take m out') t ≡ key_a)
+  pub key_a_back : (t : List ℤ) → length t ≡ 18 → (read_reply (take m out') (length t) ≡ Ok (sheet_of 3 2)) × (read_table (take m out') t ≡ key_a)
   unfolding block_start bound_limit in_limit words_in_limit
   key_a_back t e =
       let b = (w.made refl).back ((words_in_limit_within 18 (pos max_bound) key_a).0 refl) t (omega arith) in
@@ -131,9 +130,9 @@ module _ (out : List ℕ) (m : ℕ) (out' : List ℕ) (w : TextWritten 3 2 key_a
 -- ---- frauds: refusals
 
 -- a writer that refuses everything
-pub refuses_all : (out : List ℕ) (f : Refusal) (out' : List ℕ) → 52 ≤ length out → TextWritten 3 2 key_a out (Refused f) out' → ⊥
+pub refuses_all : (out : List ℕ) (f : Refusal) (out' : List ℕ) → 52 ≤ length out → TextWritten 3 2 key_a out (Err f) out' → ⊥
 unfolding writing spelling
-refuses_all out f out' h w = refused_text (w.reply ∙ sym (reply_text 3 2 key_a (length out) 52 refl refl refl h))
+refuses_all out f out' h w = refused_done (w.reply ∙ sym (reply_text 3 2 key_a (length out) 52 refl refl refl h))
 
 -- another refusal where the output is too short
 pub short_told : (out : List ℕ) (r : Writing) (out' : List ℕ) → length out < 52 → TextWritten 3 2 key_a out r out'
@@ -145,5 +144,5 @@ short_told out r out' h w =
 
 -- a refusal that has already changed the output, whatever the table
 pub refusal_changed : (n set : ℕ) (t : List ℤ) (out : List ℕ) (f : Refusal) (out' : List ℕ) → (out' ≡ out → ⊥)
-    → TextWritten n set t out (Refused f) out' → ⊥
+    → TextWritten n set t out (Err f) out' → ⊥
 refusal_changed n set t out f out' h w = h (w.bytes ∙ sym (refused_kept n set t out f w.reply))

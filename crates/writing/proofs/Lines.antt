@@ -1,7 +1,7 @@
 -- The line of a rule by the parts that are written one after the other, and how long they are. Assumes nothing.
-use mathlib.Core.Path.{◌≡◌, refl, ap}
+use mathlib.Core.Path.{◌≡◌, refl, sym, ◌∙◌, ap}
 use mathlib.Core.Bool.{Bool, true, false, cond}
-use mathlib.Core.List.{[], ◌∷◌, ◌++◌, append_assoc}
+use mathlib.Core.List.{List, [], ◌∷◌, ◌++◌, append_assoc}
 use Prim.Native.Nat.{ℕ, suc, ◌+◌, ◌*◌, ◌%◌, ◌^◌, ◌≤◌, ◌<◌}
 use native.Mathlib.Omega.{arith}
 use lib.Dec.{eqb}
@@ -15,25 +15,51 @@ use Rattle.numerals.proofs.Decimals.{decimal_width, signed-width}
 use Rattle.places.specs.Numbering.{is_one, higher_at, lower_at}
 use Rattle.rules.specs.declared.rule.Rule.{Rule}
 use Rattle.rules.specs.declared.rule.Rule.TheVariants.{One, Two, Nothing}
-use Rattle.rules.specs.Limits.{max_quantities}
+use Rattle.rules.specs.Limits.{max_quantities, max_rules}
 use Rattle.rules.specs.Literal.{quantity_of}
 use Rattle.rules.specs.Meaning.{bound_of}
 use Rattle.tables.specs.Places.{rule_at, HasPlace}
 use Rattle.lines.specs.Spelling.{rule_key, rule, term_text, rule_text, value_text, line_text}
-use Rattle.writing.specs.Writing.{literal_term, written_of, rule_line_text}
+use Rattle.writing.specs.Writing.{literal_term, written_of, rule_line_text, count_text}
 use Rattle.writing.specs.Inner.{bound_text, rule_value_text}
+
+-- ---- a key and a number
+
+-- a line of a key and a number, as it is written
+pub count-text : (key : List ℕ) (v : ℕ) → count_text key v ≡ key ++ decimal v ++ newline ∷ []
+unfolding count_text
+count-text key v = sym (append_assoc key (decimal v) (newline ∷ []))
+
+-- its length
+pub count_length : (key : List ℕ) (v : ℕ) → length (count_text key v) ≡ length key + length (decimal v) + 1
+unfolding count_text
+count_length key v = simp length-append (omega arith)
+
+-- a count of rules, and so one of quantities, has at most 4 digits
+pub numeral_short : (v : ℕ) → v ≤ max_rules → length (decimal v) ≤ 4
+numeral_short v h = decimal_width 3 v (omega arith)
 
 -- ---- a literal
 
 -- its sign and its quantity's number
-pub term-text : (x b : ℕ) → cond (eqb (x % 2) 1) minus plus ≡ b → term_text (literal_term x) ≡ (b ∷ []) ++ decimal (quantity_of x)
+pub term-text : (x : ℕ) {b q : ℕ} → q ≡ quantity_of x → cond (eqb (x % 2) 1) minus plus ≡ b
+    → term_text (literal_term x) ≡ (b ∷ []) ++ decimal q
 unfolding term_text
-term-text x b e = ap (λ (s : ℕ). s ∷ decimal (quantity_of x)) e
+term-text x e f = rw (f, e)
 
 -- one byte more than the number
 pub term_length : (x : ℕ) → length (term_text (literal_term x)) ≡ suc (length (decimal (quantity_of x)))
 unfolding term_text
 term_length x = refl
+
+-- a literal of 32 bits has at most 11
+pub literal_small : (x : ℕ) → x < 2 ^ 32 → length (term_text (literal_term x)) ≤ 11
+literal_small x h = omega (arith, term_length x, decimal_width 9 (quantity_of x) (omega arith))
+
+-- so it is with the number of a quantity that was told
+pub term_told : (x : ℕ) {q w : ℕ} → x < 2 ^ 32 → q ≡ quantity_of x → w ≡ length (decimal q)
+    → (1 + w ≡ length (term_text (literal_term x))) × (1 + w ≤ 11)
+term_told x h e f = let g = f ∙ ap (λ (k : ℕ). length (decimal k)) e in (omega (arith, g, term_length x), omega (arith, g, term_length x, literal_small x h))
 
 -- ---- a rule's value
 
@@ -97,10 +123,6 @@ word_width = 20
 pub word_short : (c : ℤ) → SFits w64 c → length (signed_decimal c) ≤ word_width
 word_short (pos v) f = signed-width 18 (pos v) (omega (arith, f.sfits))
 word_short (negsuc v) f = signed-width 18 (negsuc v) (omega (arith, f.sfits))
-
--- a literal of 32 bits has at most 11
-pub literal_small : (x : ℕ) → x < 2 ^ 32 → length (term_text (literal_term x)) ≤ 11
-literal_small x h = omega (arith, term_length x, decimal_width 9 (quantity_of x) (omega arith))
 
 -- a literal of a sheet has at most 3
 literal_short : (x : ℕ) → x < 2 * max_quantities → length (term_text (literal_term x)) ≤ 3

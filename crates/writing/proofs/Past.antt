@@ -3,6 +3,7 @@ use mathlib.Core.Path.{◌≡◌, refl, sym, ◌∙◌, ap, subst}
 use mathlib.Core.Bool.{Bool, true, false}
 use mathlib.Core.List.{List, [], ◌∷◌, ◌++◌, append_assoc}
 use mathlib.Core.Logic.{◌⊎◌, inl, inr}
+use Rattle.std.specs.Prelude.{Err}
 use Prim.Native.Nat.{ℕ, zero, suc, ◌+◌, ◌≤◌, ◌<◌}
 use native.Mathlib.Nat.{zero-add}
 use native.Mathlib.Omega.{arith}
@@ -32,7 +33,6 @@ use Rattle.tables.proofs.Places.{rule_at_bound, rule_at_has_place}
 use Rattle.tables.proofs.Tests.{clash}
 use Rattle.lines.specs.Spelling.{Written, rule, line_within}
 use Rattle.lines.specs.Lines.{refused}
-use Rattle.reading.specs.declared.read.Reading.TheVariants.{Refused}
 use Rattle.reading.specs.Texts.{rule_lines, lines_text}
 use Rattle.reading.specs.Meaning.{Opening, ruled, lines_of, AllFine, OutsideAt, outside_at}
 use Rattle.reading.specs.Reading.{read_reply, reading_returned}
@@ -217,5 +217,5 @@ written_past n set t some most within paper small k p =
 pub past_read : (n set : ℕ) (t : List ℤ) (s : List ℕ) → RefusedPast Sheet n set t s → (u : List ℤ) → ReadPast n set t s u
 past_read n set t s p u = record { refused = p; reply = ap reading_returned reply; kept = reading_kept s u (OutOfLimit (line_at t p.place)) reply }
   where
-    reply : read_reply s (length u) ≡ Refused (OutOfLimit (line_at t p.place))
+    reply : read_reply s (length u) ≡ Err (OutOfLimit (line_at t p.place))
     reply = reply_refused s (length u) (OutOfLimit (line_at t p.place)) ((text_means Sheet s (refused (OutOfLimit (line_at t p.place)))).1 p.fails)

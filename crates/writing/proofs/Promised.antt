@@ -3,6 +3,7 @@ use mathlib.Core.Path.{◌≡◌, refl, sym, ◌∙◌, ap}
 use mathlib.Core.Bool.{Bool, true, cond}
 use mathlib.Core.Logic.Iff
 use mathlib.Core.List.{List, ◌++◌}
+use Rattle.std.specs.Prelude.{Ok, Err}
 use Prim.Native.Nat.{ℕ, ◌≤◌, ◌<◌, ◌^◌}
 use native.Mathlib.Omega.{arith}
 use lib.Dec.{leb}
@@ -26,17 +27,13 @@ use Rattle.rules.specs.Refusing.{DecidedBy}
 use Rattle.rules.specs.Hidden.{set_within}
 use Rattle.rules.specs.Limits.{max_text}
 use Rattle.rules.proofs.Refusals.{refusal-number}
-use Rattle.tables.specs.declared.reply.Reply.{Reply}
-use Rattle.tables.specs.declared.reply.Reply.TheVariants.{Done}
-use Rattle.tables.specs.declared.reply.Reply.TheVariants.{Refused as NotDone}
 use Rattle.tables.specs.Tables.{serves}
 use Rattle.tables.specs.Meaning.{TableSized, KeyLike}
-use Rattle.tables.specs.Replies.{is_done, check}
+use Rattle.tables.specs.Replies.{Reply, is_done, check}
 use Rattle.tables.proofs.Sizes.{serves_sized}
+use Rattle.tables.proofs.Tests.{refused_done}
 use Rattle.tables.proofs.Refusing.{Tied, tied_done, tied_more, tied_decided, decided_as, number_done}
-use Rattle.writing.specs.declared.write.Writing.{Writing}
-use Rattle.writing.specs.declared.write.Writing.TheVariants.{Text, Refused}
-use Rattle.writing.specs.Writing.{written_text, write_checks, text_or, write_reply, written, writing_returned, writing_number, writing_value}
+use Rattle.writing.specs.Writing.{Writing, written_text, write_checks, text_or, write_reply, written, writing_returned, writing_number, writing_value}
 use Rattle.writing.specs.Promises.{write_needs, TextMade, TextWritten}
 use Rattle.writing.proofs.Meanings.{AreWords, words_clean, table_meaning}
 use Rattle.writing.proofs.Lengths.{longest_any}
@@ -51,28 +48,20 @@ use Rattle.writing.proofs.Numbers.{text-number, text-returned}
 -- by what its three tests say
 pub reply_tested : (n set : ℕ) (t : List ℤ) (room : ℕ) {a b c : Bool}
     → serves n (length t) ≡ a → set_within n set ≡ b → leb (length (written_text n set t)) room ≡ c
-    → text_or (check a Size (check b (OutOfLimit 0) (check c (TooShort (length (written_text n set t))) Done))) (length (written_text n set t))
+    → text_or (check a Size (check b (OutOfLimit 0) (check c (TooShort (length (written_text n set t))) (Ok tt)))) (length (written_text n set t))
     ≡ write_reply n set t room
 unfolding write_reply write_checks
 reply_tested n set t room e f g = rw (e, f, g)
 
 -- 6, where the output has no room for the text
 pub reply_short : (n set : ℕ) (t : List ℤ) (room needed : ℕ) → serves n (length t) ≡ true → set_within n set ≡ true
-    → needed ≡ length (written_text n set t) → room < needed → Refused (TooShort needed) ≡ write_reply n set t room
+    → needed ≡ length (written_text n set t) → room < needed → Err (TooShort needed) ≡ write_reply n set t room
 reply_short n set t room needed s w e l = rw e (reply_tested n set t room s w (lt-leb (length (written_text n set t)) room (rw e at l)))
 
 -- the text's length, where it has
 pub reply_text : (n set : ℕ) (t : List ℤ) (room end : ℕ) → serves n (length t) ≡ true → set_within n set ≡ true
-    → end ≡ length (written_text n set t) → end ≤ room → Text end ≡ write_reply n set t room
+    → end ≡ length (written_text n set t) → end ≤ room → Ok end ≡ write_reply n set t room
 reply_text n set t room end s w e l = rw e (reply_tested n set t room s w (le-leb (length (written_text n set t)) room (rw e at l)))
-
--- a refusal is not a text
-pub refused_text : {f : Refusal} {m : ℕ} → Refused f ≡ Text m → ⊥
-refused_text {f} e = refusal-number f (ap writing_number e)
-
--- texts of one reply have one length
-pub text_same : {m k : ℕ} → Text m ≡ Text k → m ≡ k
-text_same e = ap writing_value e
 
 -- ---- what it needs
 
@@ -96,18 +85,18 @@ reply_decided n set t room =
 -- ---- a reply that is no refusal
 
 -- passes the checks
-number_passed : (n set : ℕ) (t : List ℤ) (room : ℕ) → writing_number (write_reply n set t room) ≡ 0 → write_checks n set t room ≡ Done
+number_passed : (n set : ℕ) (t : List ℤ) (room : ℕ) → writing_number (write_reply n set t room) ≡ 0 → write_checks n set t room ≡ Ok tt
 unfolding write_reply
 number_passed n set t room e =
     (number_done (write_checks n set t room)).0 (sym (text-number (write_checks n set t room) (length (written_text n set t))) ∙ e)
 
 -- tells the text's length
-passed_text : (n set : ℕ) (t : List ℤ) (room : ℕ) → write_checks n set t room ≡ Done → write_reply n set t room ≡ Text (length (written_text n set t))
+passed_text : (n set : ℕ) (t : List ℤ) (room : ℕ) → write_checks n set t room ≡ Ok tt → write_reply n set t room ≡ Ok (length (written_text n set t))
 unfolding write_reply
 passed_text n set t room d = rw d
 
 pub number-text : (n set : ℕ) (t : List ℤ) (room : ℕ) → writing_number (write_reply n set t room) ≡ 0
-    → write_reply n set t room ≡ Text (length (written_text n set t))
+    → write_reply n set t room ≡ Ok (length (written_text n set t))
 number-text n set t room e = passed_text n set t room (number_passed n set t room e)
 
 -- and the text stands in front, before bytes that stay
@@ -117,7 +106,7 @@ unfolding written
 number_output n set t out e = rw (number_passed n set t (length out) e)
 
 -- the same of a text of this length
-pub text_tells : (n set : ℕ) (t : List ℤ) (out : List ℕ) (m : ℕ) → Text m ≡ write_reply n set t (length out)
+pub text_tells : (n set : ℕ) (t : List ℤ) (out : List ℕ) (m : ℕ) → Ok m ≡ write_reply n set t (length out)
     → (m ≡ length (written_text n set t)) × (take m (written n set t out) ≡ written_text n set t)
 text_tells n set t out m e = (size, front)
   where
@@ -125,7 +114,7 @@ text_tells n set t out m e = (size, front)
     zero = ap writing_number (sym e)
 
     size : m ≡ length (written_text n set t)
-    size = text_same (e ∙ number-text n set t (length out) zero)
+    size = ap writing_value (e ∙ number-text n set t (length out) zero)
 
     front : take m (written n set t out) ≡ written_text n set t
     front = rw (size, number_output n set t out zero) (take-append_seam (written_text n set t) (drop (length (written_text n set t)) out))
@@ -139,7 +128,7 @@ word_within w h = let p = word_to {z = w} (record { sfits = h }) in within_of (o
 
 -- what holds of it, the table's words being of 64 bits
 text_made : (n set : ℕ) (t : List ℤ) → TableSized n (length t) → set_within n set ≡ true → AreWords (block_start n) t
-    → TextMade n set t (Text (length (written_text n set t))) (written_text n set t)
+    → TextMade n set t (Ok (length (written_text n set t))) (written_text n set t)
 text_made n set t s w words = record {
   returned = refl;
   spelled = spells_words n set t s.some s.most words;
@@ -179,27 +168,27 @@ written_promised n set t out r out' e f words kept = record {
     decided = rw e (reply_decided n set t (length out))
 
 -- a refusal leaves the output as it was
-pub refused_kept : (n set : ℕ) (t : List ℤ) (out : List ℕ) (f : Refusal) → Refused f ≡ write_reply n set t (length out) → out ≡ written n set t out
+pub refused_kept : (n set : ℕ) (t : List ℤ) (out : List ℕ) (f : Refusal) → Err f ≡ write_reply n set t (length out) → out ≡ written n set t out
 unfolding write_reply written
 refused_kept n set t out f e = go (write_checks n set t (length out)) e
   where
-    go : (c : Reply) → Refused f ≡ text_or c (length (written_text n set t))
+    go : (c : Reply) → Err f ≡ text_or c (length (written_text n set t))
         → out ≡ cond (is_done c) (written_text n set t ++ drop (length (written_text n set t)) out) out
-    go Done e = absurd (refused_text e)
-    go (NotDone g) e = refl
+    go (Ok done) e = absurd (refused_done e)
+    go (Err g) e = refl
 
-pub promised_refused : (n set : ℕ) (t : List ℤ) (out : List ℕ) (f : Refusal) → Refused f ≡ write_reply n set t (length out)
-    → TextWritten n set t out (Refused f) out
+pub promised_refused : (n set : ℕ) (t : List ℤ) (out : List ℕ) (f : Refusal) → Err f ≡ write_reply n set t (length out)
+    → TextWritten n set t out (Err f) out
 promised_refused n set t out f e =
-    written_promised n set t out (Refused f) out e (refused_kept n set t out f e) (λ z. absurd (refusal-number f z)) (λ z. refl)
+    written_promised n set t out (Err f) out e (refused_kept n set t out f e) (λ z. absurd (refusal-number f z)) (λ z. refl)
 
 -- a text
-text_put : (n set : ℕ) (t : List ℤ) (out : List ℕ) (end : ℕ) (out' : List ℕ) → Text end ≡ write_reply n set t (length out)
+text_put : (n set : ℕ) (t : List ℤ) (out : List ℕ) (end : ℕ) (out' : List ℕ) → Ok end ≡ write_reply n set t (length out)
     → Spliced out 0 (written_text n set t) end out' → out' ≡ written n set t out
 text_put n set t out end out' e s =
     s.buffer ∙ splice_start out (written_text n set t) ∙ sym (number_output n set t out (ap writing_number (sym e)))
 
-pub promised_text : (n set : ℕ) (t : List ℤ) (out : List ℕ) (end : ℕ) (out' : List ℕ) → Text end ≡ write_reply n set t (length out)
-    → Spliced out 0 (written_text n set t) end out' → AreWords (block_start n) t → TextWritten n set t out (Text end) out'
+pub promised_text : (n set : ℕ) (t : List ℤ) (out : List ℕ) (end : ℕ) (out' : List ℕ) → Ok end ≡ write_reply n set t (length out)
+    → Spliced out 0 (written_text n set t) end out' → AreWords (block_start n) t → TextWritten n set t out (Ok end) out'
 promised_text n set t out end out' e s words =
-    written_promised n set t out (Text end) out' e (text_put n set t out end out' e s) (λ z. words) (λ z. absurd (z refl))
+    written_promised n set t out (Ok end) out' e (text_put n set t out end out' e s) (λ z. words) (λ z. absurd (z refl))

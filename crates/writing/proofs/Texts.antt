@@ -8,7 +8,7 @@ use native.Mathlib.Omega.{arith}
 use lib.Dec.{eqb}
 use lib.IntN.{ℤ, pos}
 use lib.ListN.{length, take, length-append}
-use lib.Seq.{take-suc, get_or-take, length-take-le}
+use lib.Seq.{take-suc, take-length, get_or-take, length-take-le}
 use lib.Signed.{mag}
 use borrow.Author.Tests.{eqb-true, eqb-false}
 use mir.Syntax.{w64}
@@ -17,10 +17,10 @@ use Rattle.places.specs.Numbering.{block_start}
 use Rattle.numerals.specs.Bytes.{newline}
 use Rattle.numerals.specs.Decimal.{decimal}
 use Rattle.rules.specs.declared.rule.Rule.{Rule}
-use Rattle.rules.specs.Limits.{max_quantities}
+use Rattle.rules.specs.Limits.{max_quantities, max_rules}
 use Rattle.tables.specs.Places.{rule_at}
-use Rattle.tables.specs.Tables.{has_rule}
-use Rattle.tables.proofs.Sizes.{small_square}
+use Rattle.tables.specs.Tables.{has_rule, table_size, serves}
+use Rattle.tables.proofs.Sizes.{small_square, small_start, serves_tells}
 use Rattle.tables.proofs.Places.{rule_at_bound, rule_at_has_place}
 use Rattle.words.specs.Change.{word_at}
 use Rattle.lines.specs.Spelling.{Written, rule, quantities_key, hidden_key, rules_key, list_text, value_text, line_text}
@@ -29,7 +29,7 @@ use Rattle.writing.specs.declared.write.Measure.{Measure}
 use Rattle.writing.specs.Writing.{written_of, rule_line_text, rules_at, hidden_list, count_text, table_rules, written_text}
 use Rattle.writing.specs.Promises.{max_line}
 use Rattle.writing.specs.Inner.{Measured, MeasuredMore, place_text, rules_text, head_text}
-use Rattle.writing.proofs.Lines.{word_width, place_line, word_short, line_short}
+use Rattle.writing.proofs.Lines.{count_length, word_width, place_line, word_short, line_short}
 use Rattle.writing.proofs.Meanings.{AreWords}
 
 -- ---- rules by place
@@ -130,6 +130,10 @@ text_longer k (suc m) t h l = go (eqb k (suc m)) refl (λ g. text_longer k m t g
     go true e g = rw (eqb-true k (suc m) e) (omega arith)
     go false e g = omega (arith, eqb-false k (suc m) e, text_more_length m t l, g (omega (arith, eqb-false k (suc m) e)))
 
+-- nor are those of fewer than all
+pub text_front : (k : ℕ) (t : List ℤ) → k ≤ length t → length (rules_text (take k t)) ≤ length (rules_text t)
+text_front k t h = rw (take-length t) at (text_longer k (length t) t h (omega arith))
+
 -- a place's line is short
 pub place_short : (k : ℕ) (w : ℤ) → k < block_start max_quantities → SFits w64 w → length (place_text k w) ≤ max_line
 unfolding place_text
@@ -205,16 +209,6 @@ pub head-text : (n set m : ℕ)
 unfolding head_text lines_text line_text value_text count_text
 head-text n set m = regroup quantities_key (decimal n) hidden_key (list_text (hidden_list n set)) rules_key (decimal m) (newline ∷ [])
 
--- a line of a key and a number, as it is written
-pub count-text : (key : List ℕ) (v : ℕ) → count_text key v ≡ key ++ decimal v ++ newline ∷ []
-unfolding count_text
-count-text key v = sym (append_assoc key (decimal v) (newline ∷ []))
-
--- its length
-pub count_length : (key : List ℕ) (v : ℕ) → length (count_text key v) ≡ length key + length (decimal v) + 1
-unfolding count_text
-count_length key v = simp length-append (omega arith)
-
 -- the keys and line ends of a header have 27 bytes
 pub head_length : (n set m : ℕ)
     → length (head_text n set m) ≡ 27 + length (decimal n) + length (list_text (hidden_list n set)) + length (decimal m)
@@ -227,20 +221,47 @@ pub written-text : (n set : ℕ) (t : List ℤ) → written_text n set t ≡ hea
 unfolding written_text sheet_text header_text head_text rules_text
 written-text n set t = refl
 
--- the same where the rules are measured
-pub written_parts : (n set m : ℕ) (t : List ℤ) {a : Measure} → m ≡ block_start n → Measured (take m t) a
-    → written_text n set t ≡ head_text n set a.rules ++ rules_text (take m t)
-written_parts n set m t {a} e f =
-    let c : a.rules ≡ length (table_rules n t) = rw e at f.counted in
-    rw (e, c) (written-text n set t)
+-- the places of a table that serves n quantities: they are in front, as many as n has, and no more than there can be
+pub record Front (n : ℕ) (t places : List ℤ) : Type 0 where
+  pub served : serves n (length t) ≡ true
+  pub most : n ≤ max_quantities
+  pub is : places ≡ take (block_start n) t
+  pub size : table_size n ≡ length places
+  pub inside : block_start n ≤ length t
+  pub few : length places ≤ block_start max_quantities
+  pub rules : length places ≤ max_rules
 
--- the length measured is the text's
-pub written_length : (n set m : ℕ) (t : List ℤ) {a : Measure} {h : ℕ} → m ≡ block_start n → Measured (take m t) a
-    → h ≡ length (head_text n set a.rules) → h + a.bytes ≡ length (written_text n set t)
-written_length n set m t {a} e f g =
-    omega (arith, ap length (written_parts n set m t e f), length-append (head_text n set a.rules) (rules_text (take m t)), f.measured)
-
--- a table over n quantities has no more places than one over as many as can be
-pub start_most : (n : ℕ) → n ≤ max_quantities → block_start n ≤ block_start max_quantities
+pub front_of : (n m : ℕ) (t : List ℤ) → serves n (length t) ≡ true → m ≡ table_size n → Front n t (take m t)
 unfolding block_start
-start_most n h = omega (arith, small_square n h)
+front_of n m t e f =
+    let s = serves_tells n (length t) e in
+    let g : m ≡ block_start n = f ∙ s.size in
+    let l : length (take m t) ≡ block_start n = length-take-le m t (omega (arith, g, s.room)) ∙ g in
+    record {
+      served = e;
+      most = s.most;
+      is = rw g;
+      size = s.size ∙ sym l;
+      inside = s.room;
+      few = omega (arith, l, small_square n s.most);
+      rules = omega (arith, l, small_start n s.most);
+    }
+
+module _ {n : ℕ} {t places : List ℤ} {a : Measure} (set : ℕ) (p : Front n t places) (m : Measured places a) where
+  -- what is measured of them is small
+  pub front_small : (a.rules ≤ length places) × (a.bytes ≤ max_line * length places)
+  front_small = measure_small (length places) places (rw (take-length places) m) (omega arith) p.few
+
+  -- they are words
+  pub front_words : AreWords (block_start n) t
+  front_words = measure_words (block_start n) t {a = a} (rw (← p.is) m) p.inside
+
+  -- the header with their count and their lines are the text
+  pub front_text : written_text n set t ≡ head_text n set a.rules ++ rules_text places
+  front_text =
+      let count : a.rules ≡ length (table_rules n t) = rw p.is at m.counted in
+      rw (p.is, count) (written-text n set t)
+
+  -- the length measured is the text's
+  pub front_length : {h : ℕ} → h ≡ length (head_text n set a.rules) → h + a.bytes ≡ length (written_text n set t)
+  front_length g = omega (arith, g, ap length front_text, length-append (head_text n set a.rules) (rules_text places), m.measured)

@@ -1,6 +1,6 @@
 -- What the writer promises: the reply and every byte, for every input; when it is refused; that the text is a spelling, what it means, and that it is
 -- read back as a sheet or a script, or refused by the reader where a bound is too large for it.
-use Rattle.std.specs.Prelude.{◌≡◌, true, ◌↔◌, List, ◌++◌, ℕ, ◌*◌, ◌+◌, ◌^◌, ◌≤◌, ℤ, pos, length, take, drop}
+use Rattle.std.specs.Prelude.{◌≡◌, true, Ok, ◌↔◌, List, ◌++◌, ℕ, ◌*◌, ◌+◌, ◌^◌, ◌≤◌, ℤ, pos, length, take, drop}
 use Rattle.integers.specs.Bound.{Within}
 use Rattle.words.specs.Change.{word_at}
 use Rattle.places.specs.Numbering.{block_start}
@@ -15,11 +15,9 @@ use Rattle.rules.specs.Meaning.{Assignment}
 use Rattle.tables.specs.Tables.{table_of}
 use Rattle.tables.specs.Meaning.{TableSized, HoldsRule, Satisfies, Satisfiable, MeetsAll, WordsWithin, KeyLike, BoundsWithin}
 use Rattle.lines.specs.Spelling.{written_rules}
-use Rattle.reading.specs.declared.read.Reading.TheVariants.{Accepted}
 use Rattle.reading.specs.Meaning.{Spells, Reads, FailsFor}
-use Rattle.reading.specs.Reading.{read_reply, read_table, reading_returned}
-use Rattle.writing.specs.declared.write.Writing.{Writing}
-use Rattle.writing.specs.Writing.{rules_at, table_rules, hidden_list, contents_of, written_text, write_reply, written, text_returned, writing_returned, writing_number, writing_value}
+use Rattle.reading.specs.Reading.{sheet_of, read_reply, read_table, reading_returned}
+use Rattle.writing.specs.Writing.{Writing, rules_at, table_rules, hidden_list, contents_of, written_text, write_reply, written, text_returned, writing_returned, writing_number, writing_value}
 
 -- ---- what writing needs
 
@@ -47,7 +45,7 @@ max_written = max_header + max_line * max_rules
 
 -- the text s of a table is read into t: n, the hidden set and the table's words come back, and words past them stay
 pub record ReadBack (n set : ℕ) (table : List ℤ) (s : List ℕ) (t : List ℤ) : Type 0 where
-  pub reply : read_reply s (length t) ≡ Accepted n set
+  pub reply : read_reply s (length t) ≡ Ok (sheet_of n set)
   pub words : read_table s t ≡ take (block_start n) table ++ drop (block_start n) t
 
 -- the text s of a table is accepted as a paper, with n, a list of the hidden set, and rules that make the table's words again

@@ -1,24 +1,24 @@
 -- The text of a table and a hidden set (document 01, 'Text'): the lower quantity first, rules in place order, absent places skipped, N being their count.
-use Rattle.std.specs.Prelude.{Bool, false, cond, List, [], ◌∷◌, ◌++◌, ℕ, zero, suc, ◌%◌, leb, eqb, ℤ, pos, length, take, drop}
+use Rattle.std.specs.Prelude.{Bool, false, cond, Result, Ok, Err, List, [], ◌∷◌, ◌++◌, ℕ, zero, suc, ◌%◌, leb, eqb, ℤ, pos, length, take, drop}
 use Rattle.places.specs.Numbering.{block_start}
 use Rattle.rules.specs.declared.rule.Rule.{Rule}
 use Rattle.rules.specs.declared.rule.Rule.TheVariants.{One, Two, Nothing}
+use Rattle.rules.specs.declared.refusal.Refusal.{Refusal}
 use Rattle.rules.specs.declared.refusal.Refusal.TheVariants.{Size, OutOfLimit, TooShort}
 use Rattle.rules.specs.Hidden.{hidden_in, set_within}
 use Rattle.rules.specs.Literal.{quantity_of}
 use Rattle.rules.specs.Refusal.{Returned, refused_as, refusal_value}
-use Rattle.tables.specs.declared.reply.Reply.{Reply}
-use Rattle.tables.specs.declared.reply.Reply.TheVariants.{Done}
-use Rattle.tables.specs.declared.reply.Reply.TheVariants.{Refused as NotDone}
 use Rattle.tables.specs.Places.{rule_at}
 use Rattle.tables.specs.Tables.{has_rule, serves}
-use Rattle.tables.specs.Replies.{is_done, check}
+use Rattle.tables.specs.Replies.{Reply, is_done, check}
 use Rattle.numerals.specs.Bytes.{newline}
 use Rattle.numerals.specs.Decimal.{decimal}
 use Rattle.lines.specs.Spelling.{Term, Written, rule_key, one, two, rule, line_text}
 use Rattle.reading.specs.Texts.{Contents, sheet_text}
-use Rattle.writing.specs.declared.write.Writing.{Writing}
-use Rattle.writing.specs.declared.write.Writing.TheVariants.{Text, Refused}
+
+-- what writing answers: how many bytes were written, or the refusal
+abbrev pub Writing : Type 0
+Writing = Result ℕ Refusal
 
 -- ---- rules
 
@@ -77,12 +77,12 @@ unfoldable pub write_checks : ℕ → ℕ → List ℤ → ℕ → Reply
 write_checks n set t room =
     check (serves n (length t)) Size
     (check (set_within n set) (OutOfLimit 0)
-    (check (leb (length (written_text n set t)) room) (TooShort (length (written_text n set t))) Done))
+    (check (leb (length (written_text n set t)) room) (TooShort (length (written_text n set t))) (Ok tt)))
 
 -- a text of m bytes where the checks pass, else their refusal
 abbrev pub text_or : Reply → ℕ → Writing
-text_or Done m = Text m
-text_or (NotDone f) m = Refused f
+text_or (Ok tt) m = Ok m
+text_or (Err f) m = Err f
 
 unfoldable pub write_reply : ℕ → ℕ → List ℤ → ℕ → Writing
 write_reply n set t room = text_or (write_checks n set t room) (length (written_text n set t))
@@ -97,13 +97,13 @@ text_returned m = record { number = 0; values = pos m ∷ [] }
 
 -- a reply as it is returned
 abbrev pub writing_returned : Writing → Returned
-writing_returned (Text m) = text_returned m
-writing_returned (Refused f) = refused_as f
+writing_returned (Ok m) = text_returned m
+writing_returned (Err f) = refused_as f
 
 abbrev pub writing_number : Writing → ℕ
 writing_number r = (writing_returned r).number
 
 -- what is returned beside the number as one number, 0 where there is none
 abbrev pub writing_value : Writing → ℕ
-writing_value (Text m) = m
-writing_value (Refused f) = refusal_value f
+writing_value (Ok m) = m
+writing_value (Err f) = refusal_value f

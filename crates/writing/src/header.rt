@@ -12,6 +12,7 @@ use rules::hidden;
 use rules::hidden::Set;
 
 // How many bytes quantity `j + 1` takes in the list, where the list of the quantities before it takes so many.
+#[tactic(auto, using(crate::proofs::Lines::numeral_short), unfolding(crate::specs::Inner::member_text))]
 fn member_width(set: Set, j: usize, before: usize) -> usize
     requires { (j < max_quantities) × (before ≡ length (list_text (hidden_list j set))) }
     ensures { result ≡ length (member_text set j) }
@@ -28,20 +29,20 @@ fn member_width(set: Set, j: usize, before: usize) -> usize
 }
 
 // How many bytes the numbers of the set's quantities take, joined by commas.
+#[tactic(auto, using(crate::proofs::ListTexts::list_more_length))]
 fn list_width(n: usize, set: Set) -> usize
     requires { n ≤ max_quantities }
     ensures { result ≡ length (list_text (hidden_list n set)) }
 {
     let mut total = 0;
-    let mut j = 0;
-    while j < n {
-        total = total + member_width(set, j, total);
-        j = j + 1;
+    for j in 0..n {
+        total += member_width(set, j, total);
     }
     total
 }
 
 // Writes quantity `j + 1` into a list that starts at `start` and goes to `at`, where the set has it; answers the cursor after it.
+#[tactic(auto, unfolding(crate::specs::Inner::member_text))]
 fn put_member(out: &mut [u8], start: usize, at: usize, set: Set, j: usize) -> usize
     requires j_lt_max_quantities { (j < max_quantities) × (at ≡ start + length (list_text (hidden_list j set))) }
     requires j_in_bounds { at + length (member_text set j) ≤ length out.old }
@@ -63,15 +64,14 @@ fn put_list(out: &mut [u8], at: usize, n: usize, set: Set) -> usize
     ensures { Spliced out.old at (list_text (hidden_list n set)) result out.new }
 {
     let mut next = at;
-    let mut j = 0;
-    while j < n {
+    for j in 0..n {
         next = put_member(out, at, next, set, j);
-        j = j + 1;
     }
     next
 }
 
 // How many bytes the header takes.
+#[tactic(auto, using(crate::proofs::Texts::head_length, crate::proofs::Lines::numeral_short, crate::proofs::Lengths::hidden_length))]
 pub(crate) fn header_width(n: usize, set: Set, count: usize) -> usize
     requires { (n ≤ max_quantities) × (count ≤ max_rules) }
     ensures { result ≡ length (head_text n set count) }
@@ -81,6 +81,7 @@ pub(crate) fn header_width(n: usize, set: Set, count: usize) -> usize
 }
 
 // Writes the header; answers the cursor after it.
+#[tactic(auto, using(crate::proofs::Lines::count_length, crate::proofs::Texts::head_length))]
 pub(crate) fn put_header(out: &mut [u8], n: usize, set: Set, count: usize) -> usize
     requires { (n ≤ max_quantities) × (length (head_text n set count) ≤ length out.old) }
     ensures { Spliced out.old 0 (head_text n set count) result out.new }

@@ -1,50 +1,34 @@
 // A table and a hidden set written as a text.
-ghost use Rattle.std.specs.Prelude.{◌≡◌, ◌+◌, ◌*◌, ◌≤◌, ◌<◌, length, take};
+ghost use Rattle.std.specs.Prelude.{◌≡◌, ◌+◌, ◌*◌, ◌≤◌, ◌<◌, length};
 ghost use Rattle.places.specs.Numbering.{block_start};
 ghost use Rattle.numerals.specs.Writing.{Spliced};
 ghost use Rattle.rules.specs.Limits.{max_quantities};
-ghost use Rattle.writing.specs.Writing.{writing_number, writing_value};
+ghost use Rattle.writing.specs.Writing.{writing_value};
 ghost use Rattle.writing.specs.Promises.{max_line, TextWritten};
 ghost use Rattle.writing.specs.Inner.{place_text, rules_text, Measured, MeasuredMore};
 
 use crate::{header, line};
+use rules::hidden;
 use rules::hidden::Set;
 use rules::refusal::Refusal;
 use rules::sheet::Sheet;
-use rules::{hidden, refusal};
 use tables::{place, table};
 
-#[derive(Clone, Copy)]
-pub enum Writing {
-    // how many bytes were written
-    Text { length: usize },
-    Refused { refusal: Refusal },
-}
+// how many bytes were written, or the refusal
+pub type Writing = Result<usize, Refusal>;
 
-impl Writing {
-    // Document 01's number of a refusal; 0 where the text is written.
-    pub fn number(self) -> u32
-        ensures { result ≡ writing_number self }
-    {
-        match self {
-            Writing::Text { length: _ } => 0,
-            Writing::Refused { refusal } => refusal::number(refusal),
-        }
-    }
-
-    // The text's length, or what is returned beside a refusal's number, the length needed; 0 where there is nothing.
-    pub fn value(self) -> usize
-        ensures { result ≡ writing_value self }
-    {
-        match self {
-            Writing::Text { length } => length,
-            Writing::Refused { refusal } => refusal::value(refusal),
-        }
+// The text's length, or what is returned beside a refusal's number, the length needed; 0 where there is nothing.
+pub fn value(answer: &Writing) -> usize
+    ensures { result ≡ writing_value answer.now }
+{
+    match answer {
+        Ok(length) => *length,
+        Err(refusal) => refusal.value(),
     }
 }
 
 // How many rules a table has, and how many bytes their lines take.
-#[derive(Clone, Copy)]
+#[derive(Clone, Copy, PartialEq, Eq, Debug)]
 struct Measure {
     rules: usize,
     bytes: usize,
@@ -66,17 +50,14 @@ impl Measure {
     }
 }
 
-// Measures the rules of the first `m` places.
-fn measured(table: &[i64], m: u32) -> Measure
-    requires { (m ≤ block_start max_quantities) × (m ≤ length table.now) }
-    ensures { Measured (take m table.now) result }
+// Measures the rules that a table's places hold.
+fn measured(places: &[i64]) -> Measure
+    requires { length places.now ≤ block_start max_quantities }
+    ensures { Measured places.now result }
 {
     let mut total = Measure { rules: 0, bytes: 0 };
-    let mut k = 0;
-    while k < m {
-        let w = table[k as usize];
-        total = total.with(k, w);
-        k = k + 1;
+    for (k, &w) in places.iter().enumerate() {
+        total = total.with(k as u32, w);
     }
     total
 }
@@ -92,44 +73,36 @@ fn put_place(out: &mut [u8], at: usize, k: u32, w: i64) -> usize
     at
 }
 
-// Writes the lines of the rules of the first `m` places; answers the cursor after them.
-fn put_rules(out: &mut [u8], from: usize, table: &[i64], m: u32) -> usize
-    requires { (m ≤ length table.now) × (from + length (rules_text (take m table.now)) ≤ length out.old) }
-    ensures { Spliced out.old from (rules_text (take m table.now)) result out.new }
+// Writes the lines of the rules that a table's places hold; answers the cursor after them.
+fn put_rules(out: &mut [u8], from: usize, places: &[i64]) -> usize
+    requires { (length places.now ≤ block_start max_quantities) × (from + length (rules_text places.now) ≤ length out.old) }
+    ensures { Spliced out.old from (rules_text places.now) result out.new }
 {
     let mut at = from;
-    let mut k = 0;
-    while k < m {
-        let w = table[k as usize];
-        at = put_place(out, at, k, w);
-        k = k + 1;
+    for (k, &w) in places.iter().enumerate() {
+        at = put_place(out, at, k as u32, w);
     }
     at
 }
 
 // Writes a table over `n` quantities and a hidden set at the start of the output. Any word but the no-rule word is printed as a bound.
+// Kept: n and the hidden set as two numbers, not a `Sheet`: document 01 lends them so, and the calls for C (`acornsled_write`) hand them on as they came.
 pub fn write(n: usize, set: Set, table: &[i64], out: &mut [u8]) -> Writing
     ensures { TextWritten n set table.now out.old result out.new }
 {
     if !table::serves(n, table.len()) {
-        return Writing::Refused {
-            refusal: Refusal::Size,
-        };
+        return Err(Refusal::Size);
     }
     if !hidden::is_within(set, n) {
-        return Writing::Refused {
-            refusal: Refusal::OutOfLimit { line: 0 },
-        };
+        return Err(Refusal::OutOfLimit { line: 0 });
     }
-    let m = table::size(n) as u32;
-    let rules = measured(table, m);
+    let places = &table[..table::size(n)];
+    let rules = measured(places);
     let needed = header::header_width(n, set, rules.rules) + rules.bytes;
     if out.len() < needed {
-        return Writing::Refused {
-            refusal: Refusal::TooShort { needed },
-        };
+        return Err(Refusal::TooShort { needed });
     }
     let body = header::put_header(out, n, set, rules.rules);
-    let end = put_rules(out, body, table, m);
-    Writing::Text { length: end }
+    let end = put_rules(out, body, places);
+    Ok(end)
 }

@@ -3,4 +3,4 @@ use Rattle.acornsled.proofs.Promised.{key_answer}
 use Rattle.acornsled.proofs.acornsled_key.Goals as goal
 
 pub returns : goal.returns
-returns c = key_answer _ _ _ _ _ _ _ _ _ c.key-reply.ensures c.number.ensures c.value.ensures
+returns c = key_answer _ _ _ _ _ _ _ _ _ c.key.ensures c.told.ensures.number c.told.ensures.value

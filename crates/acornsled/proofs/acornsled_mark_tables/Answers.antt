@@ -2,10 +2,8 @@
 use Rattle.acornsled.proofs.Tables.{tables_refused, tables_marked}
 use Rattle.acornsled.proofs.acornsled_mark_tables.Goals as goal
 
-pub returns-in_default : goal.returns-in_default
-returns-in_default c =
-    tables_refused _ _ _ _ _ _ _ _ _ _ _ _ _ c.mark-marked.ensures c.in_default.is c.number.ensures c.value.ensures
+pub returns-in-Ok : goal.returns-in-Ok
+returns-in-Ok c = tables_marked c.mark-marking.ensures c.in-Ok.is c.number.ensures c.value_of.ensures c.put_carried.ensures
 
-pub returns : goal.returns
-returns c =
-    tables_marked _ _ _ _ _ _ _ _ _ _ _ _ _ _ c.mark-marked.ensures c.in-Marked.is c.number-2.ensures c.value.ensures c.put_carried.ensures
+pub returns-in-Err : goal.returns-in-Err
+returns-in-Err c = tables_refused c.mark-marking.ensures c.in-Err.is c.number-in-Err.ensures c.value_of.ensures

@@ -3,4 +3,4 @@ use Rattle.acornsled.proofs.Promised.{step_answer}
 use Rattle.acornsled.proofs.acornsled_step.Goals as goal
 
 pub returns : goal.returns
-returns c = step_answer _ _ _ _ _ _ _ _ _ _ _ c.step-reply.ensures c.number.ensures c.value.ensures
+returns c = step_answer _ _ _ _ _ _ _ _ _ _ _ c.step.ensures c.told.ensures.number c.told.ensures.value

@@ -3,4 +3,4 @@ use Rattle.acornsled.proofs.Promised.{tight_answer}
 use Rattle.acornsled.proofs.acornsled_tight_key.Goals as goal
 
 pub returns : goal.returns
-returns c = tight_answer _ _ _ _ _ _ _ _ _ c.tight_key-reply.ensures c.number.ensures c.value.ensures
+returns c = tight_answer _ _ _ _ _ _ _ _ _ c.tight_key.ensures c.told.ensures.number c.told.ensures.value

@@ -1,5 +1,4 @@
--- `places::block` meets its contract. The loop's invariant: the present block starts at the place or before it; where the loop ends the next
--- one starts past it, so the block is the one found. The measure is what is left of the place. Assumes nothing.
+-- The search for a block: the present one starts at the place or before it. The measure is what is left of the place. Assumes nothing.
 use Prim.Native.Nat.{◌-◌, ◌*◌, ◌≤◌}
 use Rattle.places.proofs.block.Given as goal
 

@@ -1,46 +1,44 @@
 -- `pair::add_two` meets its contract: where all bounds are rules, both sums are put in. Assumes nothing.
-use mathlib.Core.Bool.{true}
 use mathlib.Core.Path.{◌≡◌}
+use mathlib.Core.Bool.{true}
+use mathlib.Core.List.{List}
+use Prim.Native.Nat.{ℕ}
 use lib.IntN.{ℤ, ◌+ℤ◌}
+use lib.ListN.{set}
 use mir.Syntax.{w64}
 use mir.Val.{SFits}
-use Rattle.integers.proofs.Parts.{word_value, held_value}
+use Rattle.std.proofs.Common.{rules}
+use Rattle.integers.specs.Bound.{smaller}
 use Rattle.words.specs.Change.{word_at}
+use Rattle.elimination.specs.declared.bounds.Bounds.{Bounds}
 use Rattle.elimination.specs.Hiding.{with_sum}
-use Rattle.elimination.specs.Inner.{FourAddable, all_held}
-use Rattle.elimination.proofs.Addable.{sum_fits, all_held_lem}
+use Rattle.elimination.specs.Inner.{BothAddable, both_held, two_paired}
+use Rattle.elimination.proofs.Addable.{sum_fits, both_tells}
 use Rattle.elimination.proofs.pair.add_two.Goals as goal
 
 -- the sum of two of the bounds fits
-sum_first : (a b c d : ℤ) → FourAddable a b c d → all_held a b c d ≡ true → SFits w64 (b +ℤ c)
-sum_first a b c d f e = let h = all_held_lem a b c d e in sum_fits b c f.second f.third h.second h.third
+plus_fits : (x y : Bounds) → BothAddable x → BothAddable y → both_held x ≡ true → both_held y ≡ true → SFits w64 (x.plus +ℤ y.minus)
+plus_fits x y a b e f = sum_fits x.plus y.minus a.plus b.minus (both_tells x e).0 (both_tells y f).1
 
-sum_second : (a b c d : ℤ) → FourAddable a b c d → all_held a b c d ≡ true → SFits w64 (a +ℤ d)
-sum_second a b c d f e = let h = all_held_lem a b c d e in sum_fits a d f.first f.fourth h.first h.fourth
+minus_fits : (x y : Bounds) → BothAddable x → BothAddable y → both_held x ≡ true → both_held y ≡ true → SFits w64 (x.minus +ℤ y.plus)
+minus_fits x y a b e f = sum_fits x.minus y.plus a.minus b.plus (both_tells x e).1 (both_tells y f).0
 
-pub overflow_add-minus_x : goal.overflow_add-minus_x
-overflow_add-minus_x c = rw (word_value c.ranges.minus_x, word_value c.ranges.plus_y) (sum_first _ _ _ _ c.requires.at_in_bounds.1 c.requires.minus_y_value)
+-- both sums are put in
+added : (t : List ℤ) (at : ℕ) (x y : Bounds) → both_held x ≡ true → both_held y ≡ true
+    → two_paired t at x y ≡ set t at (smaller (smaller (word_at t at) (x.minus +ℤ y.plus)) (x.plus +ℤ y.minus))
+unfolding with_sum
+added t at x y e f = let g = both_tells x e in let h = both_tells y f in rw (g.0, g.1, h.0, h.1)
 
-pub overflow_add-plus_x : goal.overflow_add-plus_x
-overflow_add-plus_x c = rw (word_value c.ranges.plus_x, word_value c.ranges.minus_y) (sum_second _ _ _ _ c.requires.at_in_bounds.1 c.requires.minus_y_value)
+pub overflow_add-x : goal.overflow_add-x
+overflow_add-x c = search (rules, minus_fits)
+
+pub overflow_add-x-2 : goal.overflow_add-x-2
+overflow_add-x-2 c = search (rules, plus_fits)
 
 pub returns : goal.returns
-unfolding with_sum
 returns c =
-    rw (
-      held_value c.minimum.type_inv,
-      c.minimum.ensures,
-      held_value {z = c.minimum-w.result} c.minimum-w.type_inv,
-      c.minimum-w.ensures,
-      word_value c.ranges.plus_x,
-      word_value c.ranges.minus_x,
-      word_value c.ranges.plus_y,
-      word_value c.ranges.minus_y,
-      word_value (sum_first _ _ _ _ c.requires.at_in_bounds.1 c.requires.minus_y_value),
-      word_value (sum_second _ _ _ _ c.requires.at_in_bounds.1 c.requires.minus_y_value),
-      held_value {z = word_at c.args.table.now c.args.at} c.minimum-arg-1.given,
-      (all_held_lem _ _ _ _ c.requires.minus_y_value).first,
-      (all_held_lem _ _ _ _ c.requires.minus_y_value).second,
-      (all_held_lem _ _ _ _ c.requires.minus_y_value).third,
-      (all_held_lem _ _ _ _ c.requires.minus_y_value).fourth,
-    )
+    let held = c.requires.held in
+    let addable = c.requires.addable in
+    let first = minus_fits c.args.x c.args.y addable.1 addable.2 held.0 held.1 in
+    let second = plus_fits c.args.x c.args.y addable.1 addable.2 held.0 held.1 in
+    rw (added c.args.table.now c.args.at c.args.x c.args.y held.0 held.1) (search rules)

@@ -1,6 +1,5 @@
--- `pair::pair_blocks` meets its contract. The loop's invariant: the sums are put in at every place before the block of the quantity of place i in the list, or of all n
--- quantities where the list has ended. The measure is the quantities left. Assumes nothing.
-use mathlib.Core.Path.{◌≡◌, refl, ◌∙◌}
+-- `pair::pair_blocks` meets its contract. Assumes nothing.
+use mathlib.Core.Path.{◌≡◌, ◌∙◌}
 use Prim.Native.Nat.{suc, ◌<◌}
 use native.Mathlib.Numerals.{add-one}
 use native.Mathlib.Omega.{arith}
@@ -8,19 +7,19 @@ use lib.ListN.{get_or, get_or-eq_default}
 use mir.Syntax.{w64}
 use mir.Val.{to_z, of_z}
 use Rattle.integers.proofs.Parts.{word_value}
+use Rattle.std.proofs.Common.{rules}
 use Rattle.words.specs.Change.{word_at, change, starting_at}
 use Rattle.words.proofs.Change.{change_on}
 use Rattle.places.specs.Numbering.{block_start}
 use Rattle.places.proofs.Numbering.{block_start_mono}
 use Rattle.elimination.specs.Hiding.{pairing}
 use Rattle.elimination.specs.Inner.{among}
-use Rattle.elimination.proofs.Addable.{adds_held}
 use Rattle.elimination.proofs.Rows.{row_part}
 use Rattle.elimination.proofs.Blocks.{inside_same, blocks_first, blocks_next}
 use Rattle.elimination.proofs.pair.pair_blocks.Goals as goal
 
 pub loop-i-init : goal.loop-i-init
-loop-i-init c = (omega arith, refl, blocks_first c.args.live.now c.requires.listed.rising _ _ _ _ _ _)
+loop-i-init c = blocks_first c.args.live.now c.requires.listed.rising _ _ _ _ _ _
 
 pub pair_block-requires : goal.pair_block-requires
 pair_block-requires c =
@@ -37,15 +36,9 @@ pair_block-requires c =
         plus_row = row_part (suc b) c.args.n live c.args.plus.now below c.requires.plus_row;
         minus_row = row_part (suc b) c.args.n live c.args.minus.now below c.requires.minus_row;
       };
-      plus_alone = adds_held c.args.p c.ranges.p c.requires.plus_alone;
-      minus_alone = adds_held c.args.m c.ranges.m c.requires.minus_alone;
+      plus_alone = search rules;
+      minus_alone = search rules;
     }
-
-pub overflow_add-i : goal.overflow_add-i
-overflow_add-i c = omega arith
-
-pub loop-i-smaller : goal.loop-i-smaller
-loop-i-smaller c = omega arith
 
 pub loop-i-preserved : goal.loop-i-preserved
 loop-i-preserved c =
@@ -60,21 +53,14 @@ loop-i-preserved c =
     let f = pairing (among live) plus minus p m in
     let b = get_or live l.i 0 in
     let e : get_or live l.i n ≡ b = inside_same live l.i n 0 (omega arith) in
-    let before : l.table ≡ change (block_start b) f t = rw (← e) l.invariant.2 in
+    let before : l.table ≡ change (block_start b) f t = rw (← e) l.invariant in
     let own : change (block_start (suc b)) (starting_at (block_start b) f) l.table ≡ change (block_start (suc b)) f t =
-    rw before (change_on (block_start b) (block_start (suc b)) f t (block_start_mono (omega arith))) in (
-      omega arith,
-      c.pair_block.auto.table ∙ l.invariant.1,
-      rw (add-one l.i)
-          (c.pair_block.ensures.words.table ∙ own
-          ∙ blocks_next live c.requires.listed.rising plus minus p m n l.i t (omega arith) (c.requires.listed.below l.i (omega arith))),
-    )
-
-pub shape_of-table : goal.shape_of-table
-shape_of-table c = c.loop-i.invariant.1
+    rw before (change_on (block_start b) (block_start (suc b)) f t (block_start_mono (omega arith))) in
+    rw (add-one l.i)
+    (c.pair_block.ensures.words.table ∙ own ∙ blocks_next live c.requires.listed.rising plus minus p m n l.i t (omega arith) (c.requires.listed.below l.i (omega arith)))
 
 pub returns : goal.returns
 returns c =
     let l = c.loop-i in
     let e : get_or c.args.live.now l.i c.args.n ≡ c.args.n = get_or-eq_default c.args.live.now c.args.n {n = l.i} (omega arith) in
-    record { table = l.invariant.2 ∙ rw (e, word_value c.ranges.p, word_value c.ranges.m) }
+    record { table = l.invariant ∙ rw (e, word_value c.ranges.p, word_value c.ranges.m) }

@@ -1,8 +1,6 @@
--- `pair::pair_blocks` meets its contract. The loop's invariant: the sums are put in at every place before the block of the quantity of place i in the list, or of all n
--- quantities where the list has ended. The measure is the quantities left. Assumes nothing.
+-- The loop of `pair::pair_blocks`: the sums are put in at every place before the block of the quantity of place i in the list, or of all n quantities where the list has ended. Assumes nothing.
 use mathlib.Core.Path.{◌≡◌}
-use Prim.Native.Nat.{◌-◌, ◌≤◌}
-use lib.ListN.{length, get_or}
+use lib.ListN.{get_or}
 use Rattle.words.specs.Change.{word_at, change}
 use Rattle.places.specs.Numbering.{block_start}
 use Rattle.elimination.specs.Hiding.{pairing}
@@ -11,8 +9,4 @@ use Rattle.elimination.proofs.pair.pair_blocks.Given as goal
 
 abbrev pub invariant-loop-i : goal.invariant-loop-i
 invariant-loop-i l =
-    (l.i ≤ length l.live) × (length l.table ≡ length l.initial.table)
-    × (l.table ≡ change (block_start (get_or l.live l.i l.n)) (pairing (among l.live) (word_at l.plus) (word_at l.minus) l.p l.m) l.initial.table)
-
-abbrev pub decreases-loop-i : goal.decreases-loop-i
-decreases-loop-i l = length l.live - l.i
+    l.table ≡ change (block_start (get_or l.live l.i l.n)) (pairing (among l.live) (word_at l.plus) (word_at l.minus) l.p l.m) l.initial.table

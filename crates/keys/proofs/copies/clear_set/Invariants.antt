@@ -1,12 +1,8 @@
--- `copies::clear_set` meets its contract. The loop's invariant: the places of the members passed are cleared. The measure is the quantities left. Assumes nothing.
+-- `copies::clear_set` meets its contract. The loop's invariant: the places of the members passed are cleared. Assumes nothing.
 use mathlib.Core.Path.{◌≡◌}
-use Prim.Native.Nat.{◌-◌, ◌≤◌}
 use Rattle.rules.specs.Hidden.{hidden_in}
 use Rattle.keys.proofs.KeyCopies.{cleared_up_to}
 use Rattle.keys.proofs.copies.clear_set.Given as goal
 
 abbrev pub invariant-loop-j : goal.invariant-loop-j
-invariant-loop-j l = (l.j ≤ l.n) × (l.table ≡ cleared_up_to (hidden_in l.set) l.n l.j l.initial.table)
-
-abbrev pub decreases-loop-j : goal.decreases-loop-j
-decreases-loop-j l = l.n - l.j
+invariant-loop-j l = l.table ≡ cleared_up_to (hidden_in l.set) l.n l.j l.initial.table

@@ -1,6 +1,5 @@
--- `key::hide_members` meets its contract. The loop's invariant: of the first j quantities those of the set are hidden, and no contradiction was met. The measure is the quantities left.
--- Assumes nothing.
-use mathlib.Core.Path.{◌≡◌, refl, ◌∙◌}
+-- `key::hide_members` meets its contract. The loop's invariant: of the first j quantities those of the set are hidden, and no contradiction was met. Assumes nothing.
+use mathlib.Core.Path.{◌≡◌}
 use native.Mathlib.Numerals.{add-one}
 use native.Mathlib.Omega.{arith}
 use Rattle.rules.specs.Hidden.{hidden_in}
@@ -9,80 +8,34 @@ use Rattle.keys.proofs.Hiding.{hide_ready, hide_gone, member_next, member_clear,
 use Rattle.keys.proofs.key.hide_members.Goals as goal
 
 pub loop-j-init : goal.loop-j-init
-loop-j-init c =
-    (omega arith, refl, refl, refl, refl, hide_none (hidden_in c.args.set) c.args.n c.args.table.now, λ i h e. let z : ⊥ = omega arith in absurd z)
+loop-j-init g c = record { table = hide_none (hidden_in c.args.set) c.args.n c.args.table.now; none = λ i h e. absurd (omega arith) }
 
 pub hide_member-requires : goal.hide_member-requires
-hide_member-requires c =
+hide_member-requires g c =
     let l = c.loop-j in
-    let r = c.requires.1 in
     let t = c.args.table.now in
-    rw l.invariant.5 (record {
-      turn = record {
-        ready = hide_ready _ c.args.set l.j t c.requires.0 c.loop-j-test.true;
-        rows = record {
-          list_room = omega (arith, r.list_room, l.invariant.2);
-          plus_room = omega (arith, r.plus_room, l.invariant.3);
-          minus_room = omega (arith, r.minus_room, l.invariant.4);
-        };
-      };
-      gone = hide_gone _ c.args.set l.j t c.requires.0.sums.room l.invariant.0;
-    })
-
-pub shape_of-table-then-hide_member : goal.shape_of-table-then-hide_member
-shape_of-table-then-hide_member c = c.hide_member.auto.table ∙ c.loop-j.invariant.1
-
-pub shape_of-list-then-hide_member : goal.shape_of-list-then-hide_member
-shape_of-list-then-hide_member c = c.hide_member.auto.list ∙ c.loop-j.invariant.2
-
-pub shape_of-plus-then-hide_member : goal.shape_of-plus-then-hide_member
-shape_of-plus-then-hide_member c = c.hide_member.auto.plus ∙ c.loop-j.invariant.3
-
-pub shape_of-minus-then-hide_member : goal.shape_of-minus-then-hide_member
-shape_of-minus-then-hide_member c = c.hide_member.auto.minus ∙ c.loop-j.invariant.4
+    let ready = hide_ready _ c.args.set l.j t c.requires.0 c.loop-j-test.true in
+    let gone = hide_gone _ c.args.set l.j t c.requires.0.sums.room (omega arith) in
+    (omega arith, (rw l.invariant.table (record { ready = ready; gone = gone }), c.requires.1))
 
 pub returns-then-hide_member : goal.returns-then-hide_member
-returns-then-hide_member c =
+returns-then-hide_member g c =
     let l = c.loop-j in
     let s = c.args in
-    set_clash s.n s.set s.table.now c.requires.0 l.j l.table _ _ c.loop-j-test.true l.invariant.5 c.hide_member.ensures
-    c.if-hide_member.true
-
-pub overflow_add-j : goal.overflow_add-j
-overflow_add-j c = omega arith
-
-pub loop-j-smaller : goal.loop-j-smaller
-loop-j-smaller c = omega arith
+    set_clash s.n s.set s.table.now c.requires.0 l.j l.table _ _ c.loop-j-test.true l.invariant.table c.hide_member.ensures c.if-hide_member.true
 
 pub loop-j-preserved : goal.loop-j-preserved
-loop-j-preserved c =
+loop-j-preserved g c =
     let l = c.loop-j in
     let s = c.args in
-    let t = s.table.now in (
-      omega arith,
-      c.hide_member.auto.table ∙ l.invariant.1,
-      c.hide_member.auto.list ∙ l.invariant.2,
-      c.hide_member.auto.plus ∙ l.invariant.3,
-      c.hide_member.auto.minus ∙ l.invariant.4,
-      rw (add-one l.j) (member_next _ s.set t c.requires.0 l.j l.table _ _ c.loop-j-test.true l.invariant.5 c.hide_member.ensures),
-      rw (add-one l.j)
-          (member_clear _ s.set t c.requires.0 l.j l.table _ _ c.loop-j-test.true l.invariant.5 c.hide_member.ensures c.if-hide_member.false l.invariant.6),
-    )
-
-pub shape_of-table : goal.shape_of-table
-shape_of-table c = c.loop-j.invariant.1
-
-pub shape_of-list : goal.shape_of-list
-shape_of-list c = c.loop-j.invariant.2
-
-pub shape_of-plus : goal.shape_of-plus
-shape_of-plus c = c.loop-j.invariant.3
-
-pub shape_of-minus : goal.shape_of-minus
-shape_of-minus c = c.loop-j.invariant.4
+    let t = s.table.now in
+    rw (add-one l.j) (record {
+      table = member_next _ s.set t c.requires.0 l.j l.table _ _ c.loop-j-test.true l.invariant.table c.hide_member.ensures;
+      none = member_clear _ s.set t c.requires.0 l.j l.table _ _ c.loop-j-test.true l.invariant.table c.hide_member.ensures c.if-hide_member.false l.invariant.none;
+    })
 
 pub returns : goal.returns
-returns c =
+returns g c =
     let l = c.loop-j in
     let e : l.j ≡ c.args.n = omega arith in
-    set_hidden c.args.n c.args.set c.args.table.now c.requires.0 _ (rw e at l.invariant.5) (rw e at l.invariant.6)
+    set_hidden c.args.n c.args.set c.args.table.now c.requires.0 _ (rw e at l.invariant.table) (rw e at l.invariant.none)

@@ -1,46 +1,42 @@
--- `rule::rule_line` meets its contract: its answer by the line's form is that of the line. Assumes nothing.
-use mathlib.Core.Path.{◌≡◌, sym, ◌∙◌, ap}
-use lib.ListN.{drop}
-use Rattle.integers.proofs.Parts.{held_value}
-use Rattle.lines.specs.declared.spelled.Spelled.{Spelled}
-use Rattle.lines.specs.declared.spelled.Spelled.TheVariants.{One, Two, Malformed}
-use Rattle.lines.specs.Lines.{rule_line, rule_judged}
-use Rattle.lines.specs.Answers.{rule_answer}
-use Rattle.lines.specs.Inner.{form_answer}
-use Rattle.lines.proofs.Answered.{rule_answered}
-use Rattle.lines.proofs.RuleLimits.{form_judged}
-use Rattle.lines.proofs.rule.rule_line.Lts as lts
-use Rattle.lines.proofs.rule.rule_line.Tie as tie
-use Rattle.lines.proofs.rule.rule_line.Reads as reads
+-- `rule::rule_line` meets its contract: the form, its limits, and then whether its terms cancel. Assumes nothing.
+use mathlib.Core.Path.{sym, ◌∙◌}
+use Rattle.std.proofs.lemmas.Result.{err_from_is_err_and}
+use Rattle.integers.proofs.Parts.{word_value}
+use Rattle.rules.proofs.Words.{narrow_value}
+use Rattle.lines.proofs.RuleLimits.{small_narrow, small_word, form_small, bits_zero, bits_other, form_words, rule_malformed, rule_outside, rule_cancels, rule_accepted}
 use Rattle.lines.proofs.rule.rule_line.Goals as goal
 
-abbrev After-spelled_at-form : Type 0
-After-spelled_at-form = lts.After-spelled_at tie.the-claims reads.Pre reads.Post
+pub returns-in_err-found : goal.returns-in_err-found
+returns-in_err-found c = let a = c.args in
+    let p = err_from_is_err_and c.from_residual.result c.from_residual.ensures.1 in
+    rw (p.1, p.2) (rule_malformed a.s.now a.at a.n a.limit a.line _ c.spelled_at.ensures c.requires.0 c.requires.1 _ c.in_err-found.ensures)
 
--- the answer by the form that was read
-judged_form : (c : After-spelled_at-form) → let a = c.args in
-    (f : Spelled) → c.spelled_at-form.result ≡ f
-    → form_answer a.n a.limit a.line f
-    ≡ rule_answer a.s.now (rule_judged a.n a.limit a.line (drop a.at a.s.now))
-unfolding rule_judged
-judged_form c f e = let a = c.args in
-    ap (form_answer a.n a.limit a.line) (sym e ∙ c.spelled_at-form.ensures)
-    ∙ form_judged a.n a.limit a.line a.s.now (rule_line (drop a.at a.s.now)) c.requires.0 c.requires.1
+pub returns-then-not-is_within : goal.returns-then-not-is_within
+returns-then-not-is_within c = let a = c.args in
+    rule_outside a.s.now a.at a.n a.limit a.line _ c.spelled_at.ensures c.requires.0 c.requires.1 c.in_ok-found.found c.in_ok-found.ensures
+    (sym c.is_within.ensures ∙ c.if-not-is_within.true)
 
-pub returns-in-One : goal.returns-in-One
-returns-in-One c = rule_answered _ _ _
-    (rw (c.one.ensures, held_value {z = c.in-One.bound} c.in-One.known_told-1-own.given.0.1, held_value {z = c.in-One.term} c.in-One.known_told-1-own.given.1.1.0.1)
-    (judged_form c.before.before.before (One c.in-One.bound c.in-One.next c.in-One.term) c.in-One.is))
+pub returns-then-form-second-eq0 : goal.returns-then-form-second-eq0
+returns-then-form-second-eq0 c = let a = c.args in let it = c.in_ok-found.found in
+    let within = sym c.is_within.ensures ∙ c.if-not-is_within.false in
+    let small = form_small a.n a.limit it.value c.requires.0 within in
+    let words = form_words a.s.now _ _ a.line it c.spelled_at.ensures c.in_ok-found.ensures in
+    rule_cancels a.s.now a.at a.n a.limit a.line _ c.spelled_at.ensures c.requires.0 c.requires.1 it c.in_ok-found.ensures within
+    (bits_zero words.0 (small_word _ small.second) small.sum (rw c.unwrap_or-second.ensures at c.if-form-second-eq0.true))
 
-pub returns-in-Two : goal.returns-in-Two
-returns-in-Two c = rule_answered _ _ _ (rw (
-  c.two.ensures,
-  held_value {z = c.in-Two.bound} c.in-Two.known_told-in-Two-1-own.given.0.1,
-  held_value {z = c.in-Two.first} c.in-Two.known_told-in-Two-1-own.given.1.1.0.1,
-  held_value {z = c.in-Two.second} c.in-Two.known_told-in-Two-1-own.given.1.1.1.0.1,
-)
-    (judged_form c.before.before.before (Two c.in-Two.bound c.in-Two.next c.in-Two.first c.in-Two.second) c.in-Two.is))
-
-pub returns-in-Malformed : goal.returns-in-Malformed
-unfolding form_answer
-returns-in-Malformed c = rule_answered _ _ _ (c.malformed.ensures ∙ judged_form c.before.before.before Malformed c.in-Malformed.is)
+pub returns : goal.returns
+returns c = let a = c.args in let it = c.in_ok-found.found in
+    let within = sym c.is_within.ensures ∙ c.if-not-is_within.false in
+    let small = form_small a.n a.limit it.value c.requires.0 within in
+    let words = form_words a.s.now _ _ a.line it c.spelled_at.ensures c.in_ok-found.ensures in
+    rule_accepted a.s.now a.at a.n a.limit a.line _ c.spelled_at.ensures c.requires.0 c.requires.1 it c.in_ok-found.ensures within
+    (bits_other words.0 (small_word _ small.second) (rw c.unwrap_or-second.ensures at c.if-form-second-eq0.false))
+    c.new.result
+    (rw (
+      c.unwrap_or-second.ensures,
+      word_value words.0,
+      narrow_value (small_narrow _ small.first),
+      word_value (small_word _ small.second),
+      narrow_value (small_narrow _ small.second),
+      word_value words.1,
+    ) at c.new.ensures.reply)

@@ -17,10 +17,6 @@ pub returns-then-eliminate : goal.returns-then-eliminate
 returns-then-eliminate c =
     reduced_none _ _ _ _ _ _ _ c.requires c.size-m.ensures c.copy.ensures _ _ c.eliminate.ensures c.if-eliminate.true
 
-pub copy_key-requires : goal.copy_key-requires
-copy_key-requires c =
-    (c.requires.hides.most, omega (arith, c.requires.room, c.eliminate.auto.table, c.copy.auto.t))
-
 pub offset_bounds-workspace-m : goal.offset_bounds-workspace-m
 offset_bounds-workspace-m c =
     omega (arith, size_known _ _ c.requires.hides.most c.size-m.ensures, small_start _ c.requires.hides.most)

@@ -1,6 +1,6 @@
--- `doubled::split` meets its contract. The loop's invariant: the words passed are taken apart, and the other words and bytes stay. The measure is what is left. Assumes nothing.
+-- The words passed are taken apart, and the other words and bytes stay. Assumes nothing.
 use mathlib.Core.List.{List}
-use Prim.Native.Nat.{ℕ, ◌-◌, ◌≤◌}
+use Prim.Native.Nat.{ℕ}
 use lib.IntN.{ℤ, pos}
 use Rattle.integers.specs.Bound.{bit}
 use Rattle.words.specs.Change.{word_at}
@@ -16,7 +16,7 @@ abbrev pub mark_at : List ℤ → ℕ → ℕ
 mark_at t k = bit (split_word (word_at t k)).mark
 
 abbrev pub invariant-loop-i : goal.invariant-loop-i
-invariant-loop-i l = (l.i ≤ l.m) × DoneTo (pos 0) l.i (bound_at l.initial.table) l.initial.table l.table × DoneTo 0 l.i (mark_at l.initial.table) l.initial.marks l.marks
-
-abbrev pub decreases-loop-i : goal.decreases-loop-i
-decreases-loop-i l = l.m - l.i
+invariant-loop-i l = record {
+  words : DoneTo (pos 0) l.i (bound_at l.initial.table) l.initial.table l.table;
+  bytes : DoneTo 0 l.i (mark_at l.initial.table) l.initial.marks l.marks;
+}

@@ -7,9 +7,6 @@ use Rattle.numerals.proofs.Keys.{digit_range}
 use Rattle.numerals.proofs.Values.{capped_below, capped_above}
 use Rattle.numerals.proofs.read.with_digit.Goals as goal
 
-pub overflow_sub-result : goal.overflow_sub-result
-overflow_sub-result c = omega (arith, digit_range c.args.b c.requires)
-
 pub returns-then-v : goal.returns-then-v
 returns-then-v c = let a = c.args in
     sym (capped_below (10 * a.v + (a.b - digit_zero)) (omega (arith, digit_range a.b c.requires)) ∙ omega arith)

@@ -1,10 +1,10 @@
 -- `write::put_number` meets its contract. The loop's invariant: with the digits of the rest before the cursor the buffer is the one that is
--- asked for. The measure is the cursor. Assumes nothing.
-use mathlib.Core.Path.{◌≡◌, refl, sym, ◌∙◌, ap}
+-- asked for. Assumes nothing.
+use mathlib.Core.Path.{◌≡◌, sym, ◌∙◌, ap}
 use mathlib.Core.List.{List}
 use Prim.Native.Nat.{ℕ, suc, ◌+◌, ◌-◌, ◌/◌, ◌%◌, ◌≤◌, ◌<◌}
 use native.Mathlib.Omega.{arith}
-use lib.ListN.{length, set, length-set}
+use lib.ListN.{length, set}
 use Rattle.numerals.specs.Bytes.{digit_zero}
 use Rattle.numerals.specs.Writing.{splice}
 use Rattle.numerals.proofs.Decimals.{last_digits, last_none, last_more, last_length, decimal_last}
@@ -23,41 +23,19 @@ turn out at i rest h l =
     ∙ splice_before out at ds (digit_zero + rest % 10) (omega arith)
     ∙ ap (splice out at) (sym (last_more k rest) ∙ ap (λ (j : ℕ). last_digits j rest) count)
 
-pub overflow_add-end : goal.overflow_add-end
-overflow_add-end c = omega arith
-
 pub loop-i-init : goal.loop-i-init
 loop-i-init c =
     let digits = decimal_last (c.args.at + c.width.result - c.args.at) c.args.v (omega arith) in
-    (omega arith, omega arith, refl, ap (splice c.args.out.now c.args.at) (sym digits))
-
-pub overflow_sub-i : goal.overflow_sub-i
-overflow_sub-i c = omega arith
-
-pub overflow_cast-out : goal.overflow_cast-out
-overflow_cast-out c = omega arith
-
-pub overflow_add-out : goal.overflow_add-out
-overflow_add-out c = omega arith
-
-pub bounds-out-i : goal.bounds-out-i
-bounds-out-i c = omega arith
-
-pub loop-i-smaller : goal.loop-i-smaller
-loop-i-smaller c = omega arith
+    (omega arith, omega arith, ap (splice c.args.out.now c.args.at) (sym digits))
 
 pub loop-i-preserved : goal.loop-i-preserved
 loop-i-preserved c =
-    let e = turn c.loop-i.out c.args.at c.loop-i.i c.loop-i.rest (omega arith) (omega arith) in
-    (omega arith, omega arith, rw length-set c.loop-i.invariant.2, e ∙ c.loop-i.invariant.3)
-
-pub shape_of-out : goal.shape_of-out
-shape_of-out c = c.loop-i.invariant.2
+    (omega arith, omega arith, turn c.loop-i.out c.args.at c.loop-i.i c.loop-i.rest (omega arith) (omega arith) ∙ c.loop-i.invariant.2)
 
 pub returns : goal.returns
 returns c =
     let none : c.loop-i.i - c.args.at ≡ 0 = omega arith in
     record {
       cursor = omega arith;
-      buffer = sym (splice_none c.loop-i.out c.args.at) ∙ rw (none, last_none c.loop-i.rest) at c.loop-i.invariant.3;
+      buffer = sym (splice_none c.loop-i.out c.args.at) ∙ rw (none, last_none c.loop-i.rest) at c.loop-i.invariant.2;
     }

@@ -9,9 +9,7 @@ pub overflow_add-result : goal.overflow_add-result
 overflow_add-result c = omega (arith, decimal_width 19 c.magnitude.result (omega arith))
 
 pub returns-then-c-lt0 : goal.returns-then-c-lt0
-returns-then-c-lt0 c =
-    omega (arith, ap length (word_below c.ranges.c c.if-c-lt0.true c.magnitude.ensures))
+returns-then-c-lt0 c = omega (arith, ap length (word_below c.ranges.c c.if-c-lt0.true c.magnitude.ensures))
 
-pub returns : goal.returns
-returns c =
-    c.width-2.ensures ∙ sym (ap length (word_above c.ranges.c c.if-c-lt0.false c.magnitude-2.ensures))
+pub returns-else-c-lt0 : goal.returns-else-c-lt0
+returns-else-c-lt0 c = c.width-digits.ensures ∙ sym (ap length (word_above c.ranges.c c.if-c-lt0.false c.magnitude.ensures))

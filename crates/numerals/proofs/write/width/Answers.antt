@@ -1,20 +1,7 @@
--- `write::width` meets its contract. The loop's invariant: the digits passed and those of the rest are those of the number. The measure is
--- the rest. Assumes nothing.
-use native.Mathlib.Omega.{arith}
-use Rattle.numerals.proofs.Decimals.{digit_width, more_width, decimal_width}
+-- `write::width` meets its contract: one digit more than the power of ten that the number reaches. Assumes nothing.
+use Rattle.numerals.proofs.Decimals.{power_width}
 use Rattle.numerals.proofs.write.width.Goals as goal
 
-pub loop-rest-init : goal.loop-rest-init
-loop-rest-init c = omega arith
-
-pub overflow_add-k : goal.overflow_add-k
-overflow_add-k c = omega (arith, decimal_width 19 c.args.v (omega arith))
-
-pub loop-rest-smaller : goal.loop-rest-smaller
-loop-rest-smaller c = omega arith
-
-pub loop-rest-preserved : goal.loop-rest-preserved
-loop-rest-preserved c = omega (arith, more_width c.loop-rest.rest (omega arith))
-
 pub returns : goal.returns
-returns c = omega (arith, digit_width c.loop-rest.rest (omega arith))
+returns c = rw c.unwrap_or-above_one.ensures
+    (power_width c.args.v c.checked_ilog10.result c.checked_ilog10.ensures.none c.checked_ilog10.ensures.power_le c.checked_ilog10.ensures.next_power_gt)

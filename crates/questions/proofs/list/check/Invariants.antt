@@ -1,10 +1,12 @@
--- `list::check` meets its contract. The loop's invariant: the questions so far are in their limits, and the flag says whether one of them is +q-q. Assumes nothing.
-use Prim.Native.Nat.{◌-◌, ◌≤◌}
+-- The invariant of `list::check`: the questions so far are in their limits, and the flag says whether one of them is +q-q. Assumes nothing.
+use Rattle.std.proofs.Common.{length}
+use Rattle.std.specs.Slice.Iter.{chunks_exact_rest, chunks_exact_size}
+use Rattle.questions.proofs.Cutting.{Left}
 use Rattle.questions.proofs.Listing.{Checked}
 use Rattle.questions.proofs.list.check.Given as goal
 
-abbrev pub invariant-loop-i : goal.invariant-loop-i
-invariant-loop-i l = (l.i ≤ l.m) × Checked l.n l.questions l.i l.cancels
-
-abbrev pub decreases-loop-i : goal.decreases-loop-i
-decreases-loop-i l = l.m - l.i
+abbrev pub invariant-loop-question : goal.invariant-loop-question
+invariant-loop-question l = record {
+  left : Left l.questions (chunks_exact_rest l.question-iterator) (chunks_exact_size l.question-iterator) (length l.yielded);
+  checked : Checked l.n l.questions (length l.yielded) l.cancels;
+}

@@ -1,59 +1,35 @@
 -- `check::check_filling` meets its contract: a header that is refused ends it with its refusal, and after another the lines of the rules decide. Assumes
 -- nothing.
-use mathlib.Core.Path.{◌≡◌, ◌∙◌}
-use mathlib.Core.Bool.{false}
-use mathlib.Core.List.{List}
-use Prim.Native.Nat.{ℕ, ◌<◌}
-use Rattle.numerals.specs.Decimal.{cap}
-use Rattle.rules.specs.declared.paper.Paper.{Paper}
-use Rattle.rules.specs.Limits.{bound_limit}
-use Rattle.reading.specs.Promises.{RulesFilled}
-use Rattle.reading.proofs.Limits.{limit_told, unsigned, cap_casts, cap_value}
+use mathlib.Core.Path.{refl, ◌∙◌}
+use Rattle.std.proofs.lemmas.Result.{err_from_is_err_and}
+use Rattle.reading.proofs.Limits.{limit_told, cap_casts, cap_value}
 use Rattle.reading.proofs.FillingOnce.{header_refused, text_filled}
-use Rattle.reading.proofs.CheckedHeaders.{HeaderFound, header_found}
+use Rattle.reading.proofs.CheckedHeaders.{header_found}
 use Rattle.reading.proofs.Checking.{rules_checked}
-use Rattle.reading.proofs.check.check_filling.Lts as lts
-use Rattle.reading.proofs.check.check_filling.Tie as tie
-use Rattle.reading.proofs.check.check_filling.Reads as reads
 use Rattle.reading.proofs.check.check_filling.Goals as goal
 
-abbrev In-Passed : Type 0
-In-Passed = lts.Past-After-known_told tie.the-claims reads.Pre reads.Post
-
-abbrev After-bound_limit-limit : Type 0
-After-bound_limit-limit = lts.After-bound_limit tie.the-claims reads.Pre reads.Post
-
--- the text, and what its header tells where it passed
-abbrev text_of : In-Passed → List ℕ
-text_of c = c.args.s.now
-
-found : (c : In-Passed) → HeaderFound (text_of c) c.in-Passed.quantities c.in-Passed.hidden c.in-Passed.rules c.in-Passed.body
-found c = header_found (text_of c) _ _ _ _ _ c.check_header-header.ensures c.in-Passed.is
-
--- the limit of bounds
-abbrev paper_of : In-Passed → Paper
-paper_of c = c.args.paper
-
-abbrev limit_of : In-Passed → ℕ
-limit_of c = bound_limit (paper_of c) c.in-Passed.quantities c.in-Passed.hidden
-
-below : (c : In-Passed) → limit_of c < cap
-below c = limit_told (paper_of c) c.in-Passed.quantities c.in-Passed.hidden (found c).high
-
-limit_is : (c : After-bound_limit-limit) → unsigned c.bound_limit-limit.result ≡ limit_of c.before
-limit_is c = cap_value _ _ c.bound_limit-limit.ensures (below c.before)
-
-pub returns-in_default : goal.returns-in_default
-returns-in_default c = let a = c.args in
-    header_refused a.paper a.s.now _ _ _ c.check_header-header.ensures c.in_default.is
+pub returns-in_err-header : goal.returns-in_err-header
+returns-in_err-header c =
+    let p = err_from_is_err_and c.from_residual.result c.from_residual.ensures.1 in
+    rw (p.1, p.2) (header_refused c.args.paper c.args.s.now _ _ _ c.in_err-header.ensures refl)
 
 pub overflow_cast-limit : goal.overflow_cast-limit
-overflow_cast-limit c = cap_casts _ _ c.bound_limit-limit.ensures (below c.before.before)
+overflow_cast-limit c =
+    let h = c.in_ok-header.header in
+    cap_casts _ _ c.bound_limit-limit.ensures (limit_told c.args.paper h.quantities h.hidden (header_found c.args.s.now _ h c.in_ok-header.ensures refl).high)
 
 pub check_rules-requires : goal.check_rules-requires
-check_rules-requires c = let h = found c.before.before.before in (h.low, h.high, rw (limit_is c.before.before) (below c.before.before.before), h.few)
+check_rules-requires c =
+    let h = c.in_ok-header.header in
+    let found = header_found c.args.s.now _ h c.in_ok-header.ensures refl in
+    let below = limit_told c.args.paper h.quantities h.hidden found.high in
+    (found.low, found.high, rw (cap_value _ _ c.bound_limit-limit.ensures below) below, found.few)
 
 pub returns : goal.returns
-returns c = let p : RulesFilled false c.in-Passed.quantities c.in-Passed.hidden (limit_of c.before.before.before.before.before) c.in-Passed.rules c.in-Passed.body (text_of c.before.before.before.before.before) _ _ _ = rw (limit_is c.before.before.before.before) at c.check_rules.ensures in
-    text_filled (paper_of c.before.before.before.before.before) (text_of c.before.before.before.before.before) c.in-Passed.quantities c.in-Passed.hidden c.in-Passed.rules c.in-Passed.body _ _ _ (found c.before.before.before.before.before).high
-    (p.reply ∙ rules_checked (text_of c.before.before.before.before.before) c.in-Passed.quantities c.in-Passed.hidden c.in-Passed.rules c.in-Passed.body (found c.before.before.before.before.before) (paper_of c.before.before.before.before.before)) p
+returns c =
+    let a = c.args in
+    let h = c.in_ok-header.header in
+    let found = header_found a.s.now _ h c.in_ok-header.ensures refl in
+    let limit = cap_value _ _ c.bound_limit-limit.ensures (limit_told a.paper h.quantities h.hidden found.high) in
+    let p = rw limit at c.check_rules.ensures in
+    text_filled a.paper a.s.now h _ _ _ found.high (p.reply ∙ rules_checked a.s.now h found a.paper) p

@@ -10,22 +10,22 @@ use Rattle.reports.proofs.key.print_key.Goals as goal
 
 pub slice_bounds-print_table-end : goal.slice_bounds-print_table-end
 slice_bounds-print_table-end c =
-    sym (length-take-le _ _ (table_read c.read-reading.ensures c.in-Accepted.is c.size-m.ensures).enough)
+    sym (length-take-le _ _ (table_read c.read.ensures c.in-Ok.is c.size-m.ensures).enough)
 
 pub print_table-requires : goal.print_table-requires
 print_table-requires c =
-    (sheet-table (table_read c.read-reading.ensures c.in-Accepted.is c.size-m.ensures), omega arith)
+    (sheet-table (table_read c.read.ensures c.in-Ok.is c.size-m.ensures), omega arith)
 
 pub put_refusal-requires : goal.put_refusal-requires
 put_refusal-requires c =
-    let f = text_fails c.read-reading.ensures c.in-Refused.is (omega arith) in
-    omega (arith, refusal_length Sheet c.args.text.now c.in-Refused.refusal f)
+    let f = text_fails c.read.ensures c.in-Err.is (omega arith) in
+    omega (arith, refusal_length Sheet c.args.text.now c.in-Err.refusal f)
 
-pub returns-in-Accepted : goal.returns-in-Accepted
-returns-in-Accepted c =
-    printed (report_table (table_read c.read-reading.ensures c.in-Accepted.is c.size-m.ensures)) c.print_table.ensures
+pub returns-in-Ok : goal.returns-in-Ok
+returns-in-Ok c =
+    printed (report_table (table_read c.read.ensures c.in-Ok.is c.size-m.ensures)) c.print_table.ensures
 
-pub returns-in-Refused : goal.returns-in-Refused
-returns-in-Refused c =
-    let f = text_fails c.read-reading.ensures c.in-Refused.is (omega arith) in
+pub returns-in-Err : goal.returns-in-Err
+returns-in-Err c =
+    let f = text_fails c.read.ensures c.in-Err.is (omega arith) in
     printed (report_refused _ _ f) c.put_refusal.ensures

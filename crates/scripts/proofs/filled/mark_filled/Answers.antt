@@ -21,8 +21,8 @@ front_long (suc k) (x ∷ t) h = omega (arith, front_long k t (omega arith))
 front_whole : (k m : ℕ) (t : List ℤ) → m ≡ k → k ≤ length (take k t) → m ≡ length (take m t)
 front_whole k m t e h = sym (length-take-le m t (rw e (front_long k t h)))
 
-pub slice_bounds-any_names_hidden-end : goal.slice_bounds-any_names_hidden-end
-slice_bounds-any_names_hidden-end c =
+pub slice_bounds-script_table-end : goal.slice_bounds-script_table-end
+slice_bounds-script_table-end c =
     front_whole _ _ _ (size_known _ _ c.requires.sized.most c.size-m.ensures) c.requires.sized.script_room
 
 pub any_names_hidden-requires : goal.any_names_hidden-requires
@@ -38,16 +38,12 @@ returns-then-any_names_hidden c =
       visible = λ e. clash (sym e ∙ told ∙ c.if-any_names_hidden.true) refl;
     }
 
-pub slice_bounds-verdict-end : goal.slice_bounds-verdict-end
-slice_bounds-verdict-end c =
+pub slice_bounds-sheet_table-end : goal.slice_bounds-sheet_table-end
+slice_bounds-sheet_table-end c =
     front_whole _ _ _ (size_known _ _ c.requires.sized.most c.size-m.ensures) c.requires.sized.sheet_room
 
-pub slice_bounds-verdict-end-2 : goal.slice_bounds-verdict-end-2
-slice_bounds-verdict-end-2 c =
-    front_whole _ _ _ (size_known _ _ c.requires.sized.most c.size-m.ensures) c.requires.sized.script_room
-
-pub verdict-requires : goal.verdict-requires
-verdict-requires c =
+pub verdict-verdict-requires : goal.verdict-verdict-requires
+verdict-verdict-requires c =
     let e = size_known _ _ c.requires.sized.most c.size-m.ensures in
     let told = sym (rw e at c.any_names_hidden.ensures.reply) in
     rw e (filled_accepted c.requires (told ∙ c.if-any_names_hidden.false))
@@ -58,5 +54,5 @@ returns c =
     let told = sym (rw e at c.any_names_hidden.ensures.reply) in
     record {
       named = λ d. clash refl (sym d ∙ told ∙ c.if-any_names_hidden.false);
-      visible = λ d. record { verdict = c.verdict.result; reply = refl; given = rw e at c.verdict.ensures.given };
+      visible = λ d. record { verdict = c.verdict-verdict.result; reply = refl; given = rw e at c.verdict-verdict.ensures.given };
     }

@@ -1,99 +1,65 @@
--- `below::first_in_block` meets its contract. The loop's invariant: neither the run of the block's quantity alone nor those with the first h lower ones have a place that is
--- looked for. The measure is the lower quantities left. Assumes nothing.
+-- `below::first_in_block` meets its contract. The loop's invariant: neither the run of the block's quantity alone nor those with the lower ones passed have a place that is
+-- looked for. Assumes nothing.
 use mathlib.Core.Path.{◌≡◌}
-use Prim.Native.Nat.{suc, ◌<◌}
+use Prim.Native.Nat.{suc}
 use native.Mathlib.Numerals.{add-one}
 use native.Mathlib.Omega.{arith}
-use lib.ListN.{get_or}
+use lib.ListN.{get_or, take, length}
+use lib.Seq.{length-take-le}
 use Rattle.places.specs.Numbering.{block_start}
 use Rattle.places.proofs.Numbering.{block_start_suc}
-use Rattle.rules.specs.Limits.{max_quantities}
 use Rattle.tables.proofs.Sizes.{small_square}
-use Rattle.elimination.proofs.Lists.{rising_above}
-use Rattle.tightening.proofs.FirstBelow.{passed_none, passed_more, passed_all, first_found, block_parts}
-use Rattle.tightening.proofs.below.first_in_block.Lts as lts
-use Rattle.tightening.proofs.below.first_in_block.Tie as tie
-use Rattle.tightening.proofs.below.first_in_block.Reads as reads
+use Rattle.tightening.proofs.FirstBelow.{passed_none, passed_more, passed_all, first_at, lower_live, block_parts}
 use Rattle.tightening.proofs.below.first_in_block.Goals as goal
 
-abbrev In-loop-h : Type 0
-In-loop-h = lts.In-loop tie.the-claims reads.Pre reads.Post goal.the-invariant-loop-h goal.the-decreases-loop-h
-
-pub offset_bounds-live-i : goal.offset_bounds-live-i
-offset_bounds-live-i c = omega arith
-
-pub bounds-live-i : goal.bounds-live-i
-bounds-live-i c = omega arith
-
-pub overflow_mul-start : goal.overflow_mul-start
-overflow_mul-start c = omega (arith, small_square (get_or c.args.live.now c.args.i 0) (omega arith))
-
-pub overflow_mul-start-2 : goal.overflow_mul-start-2
-overflow_mul-start-2 c = omega (arith, small_square (get_or c.args.live.now c.args.i 0) (omega arith))
-
-pub first_of-alone-requires : goal.first_of-alone-requires
+pub first_of-requires : goal.first_of-requires
 unfolding block_start
-first_of-alone-requires c =
+first_of-requires c =
     let b = get_or c.args.live.now c.args.i 0 in
-    record { rules_room = omega (arith, c.requires.rules_room, block_start_suc b); least_room = omega (arith, c.requires.least_room, block_start_suc b) }
+    record { rules_room = omega (arith, block_start_suc b); least_room = omega (arith, block_start_suc b) }
 
-pub returns-in_default : goal.returns-in_default
+pub returns-in-Some : goal.returns-in-Some
 unfolding block_start
-returns-in_default c =
-    let live = c.args.live.now in
-    first_found _ _ _ _ _ (block_parts c.args.i live c.requires.rising c.requires.some) 0 _ _ (omega arith) (passed_none _ _ _) c.in_default.is c.first_of-alone.ensures
+returns-in-Some c =
+    first_at _ _ _ _ _ (block_parts c.args.i c.args.live.now c.requires.rising c.requires.some) 0 _ (omega arith) (passed_none _ _ _) c.in-Some.ensures
 
-pub loop-h-init : goal.loop-h-init
+pub loop-a-init : goal.loop-a-init
 unfolding block_start
-loop-h-init c =
-    (omega arith, passed_more _ _ _ 0 _ (passed_none _ _ _) c.in-Nowhere.is c.first_of-alone.ensures)
+loop-a-init c = passed_more _ _ _ 0 _ (passed_none _ _ _) c.in_default.is c.first_of.ensures
 
--- the quantity of the run looked at is lower than the block's
-lower : (c : In-loop-h) → let live = c.args.live.now in (get_or live c.loop-h.h 0 < get_or live c.args.i 0) × (get_or live c.args.i 0 < max_quantities)
-lower c = (rising_above c.args.live.now c.requires.rising c.loop-h.h c.args.i c.loop-h-test.true c.requires.some, c.requires.most)
+pub overflow_mul-a : goal.overflow_mul-a
+overflow_mul-a c =
+    let l = lower_live c.args.i c.loop-a.a-index c.args.live.now c.requires.rising c.requires.some c.loop-a-test.true in
+    omega arith
 
-pub overflow_add-start : goal.overflow_add-start
-overflow_add-start c = omega (arith, small_square (get_or c.args.live.now c.args.i 0) (omega arith))
+pub overflow_add-start-in-loop-a : goal.overflow_add-start-in-loop-a
+overflow_add-start-in-loop-a c =
+    let l = lower_live c.args.i c.loop-a.a-index c.args.live.now c.requires.rising c.requires.some c.loop-a-test.true in
+    omega (arith, small_square (get_or c.args.live.now c.args.i 0) (omega arith))
 
-pub offset_bounds-live-h : goal.offset_bounds-live-h
-offset_bounds-live-h c = omega arith
-
-pub bounds-live-h : goal.bounds-live-h
-bounds-live-h c = omega arith
-
-pub overflow_mul-live : goal.overflow_mul-live
-overflow_mul-live c = omega (arith, lower c.before.before)
-
-pub overflow_add-start-in-loop-h : goal.overflow_add-start-in-loop-h
-overflow_add-start-in-loop-h c =
-    omega (arith, lower c.before.before, small_square (get_or c.args.live.now c.args.i 0) (omega arith))
-
-pub first_of-found-requires : goal.first_of-found-requires
+pub first_of-requires-in-loop-a : goal.first_of-requires-in-loop-a
 unfolding block_start
-first_of-found-requires c =
+first_of-requires-in-loop-a c =
     let b = get_or c.args.live.now c.args.i 0 in
-    let a = lower c.before.before in
-    record { rules_room = omega (arith, a, c.requires.rules_room, block_start_suc b); least_room = omega (arith, a, c.requires.least_room, block_start_suc b) }
+    let l = lower_live c.args.i c.loop-a.a-index c.args.live.now c.requires.rising c.requires.some c.loop-a-test.true in
+    record { rules_room = omega (arith, block_start_suc b); least_room = omega (arith, block_start_suc b) }
 
-pub returns-in_default-found : goal.returns-in_default-found
+pub returns-in-Some-first_of : goal.returns-in-Some-first_of
 unfolding block_start
-returns-in_default-found c =
-    let live = c.args.live.now in
-    first_found _ _ _ _ _ (block_parts c.args.i live c.requires.rising c.requires.some) (suc c.loop-h.h) _ _ (omega arith) c.loop-h.invariant.1 c.in_default-found.is
-    c.first_of-found.ensures
+returns-in-Some-first_of c =
+    let l = lower_live c.args.i c.loop-a.a-index c.args.live.now c.requires.rising c.requires.some c.loop-a-test.true in
+    first_at _ _ _ _ _ (block_parts c.args.i c.args.live.now c.requires.rising c.requires.some) (suc c.loop-a.a-index) _ (omega arith) c.loop-a.invariant
+    (rw l.1 at c.in-Some-first_of.ensures)
 
-pub overflow_add-h : goal.overflow_add-h
-overflow_add-h c = omega arith
-
-pub loop-h-smaller : goal.loop-h-smaller
-loop-h-smaller c = omega arith
-
-pub loop-h-preserved : goal.loop-h-preserved
+pub loop-a-preserved : goal.loop-a-preserved
 unfolding block_start
-loop-h-preserved c =
-    (omega arith, rw (add-one c.loop-h.h) (passed_more _ _ _ (suc c.loop-h.h) _ c.loop-h.invariant.1 c.in-Nowhere-found.is c.first_of-found.ensures))
+loop-a-preserved c =
+    let l = lower_live c.args.i c.loop-a.a-index c.args.live.now c.requires.rising c.requires.some c.loop-a-test.true in
+    rw (add-one c.loop-a.a-index)
+    (passed_more _ _ _ (suc c.loop-a.a-index) _ c.loop-a.invariant c.in_default-first_of.is (rw l.1 at c.first_of-in-loop-a.ensures))
 
 pub returns : goal.returns
 returns c =
-    let e : c.loop-h.h ≡ c.args.i = omega arith in
-    passed_all _ _ _ _ _ (block_parts c.args.i c.args.live.now c.requires.rising c.requires.some) (rw e at c.loop-h.invariant.1)
+    let e : length (take c.args.i c.args.live.now) ≡ c.args.i = length-take-le _ _ (omega arith) in
+    let d : c.loop-a.a-index ≡ c.args.i = omega arith in
+    passed_all _ _ _ _ _ (block_parts c.args.i c.args.live.now c.requires.rising c.requires.some) (rw d at c.loop-a.invariant)

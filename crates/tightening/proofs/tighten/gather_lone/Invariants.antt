@@ -1,14 +1,7 @@
--- `tighten::gather_lone` meets its contract. The loop's invariant: the bounds of the quantities passed are gathered, and the row keeps its length. The measure is
--- what is left of the list. Assumes nothing.
-use mathlib.Core.Path.{◌≡◌}
-use Prim.Native.Nat.{◌-◌, ◌≤◌}
-use lib.ListN.{length}
+-- `tighten::gather_lone` meets its contract. The loop's invariant: the bounds of the quantities passed are gathered. Assumes nothing.
 use Rattle.elimination.specs.Hiding.{lone_word}
 use Rattle.elimination.proofs.Rows.{FilledTo}
 use Rattle.tightening.proofs.tighten.gather_lone.Given as goal
 
-abbrev pub invariant-loop-i : goal.invariant-loop-i
-invariant-loop-i l = (l.i ≤ length l.live) × (length l.row ≡ length l.initial.row) × FilledTo l.i l.live (lone_word l.table) l.row
-
-abbrev pub decreases-loop-i : goal.decreases-loop-i
-decreases-loop-i l = length l.live - l.i
+abbrev pub invariant-loop-a : goal.invariant-loop-a
+invariant-loop-a l = FilledTo l.a-index l.live (lone_word l.table) l.row

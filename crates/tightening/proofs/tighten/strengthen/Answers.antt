@@ -4,26 +4,16 @@ use native.Mathlib.Omega.{arith}
 use Rattle.tables.proofs.Tests.{clash}
 use Rattle.elimination.specs.Inner.{Row}
 use Rattle.tightening.proofs.Strengthening.{lone_adds, strengthening_paired}
-use Rattle.tightening.proofs.tighten.strengthen.Lts as lts
-use Rattle.tightening.proofs.tighten.strengthen.Tie as tie
-use Rattle.tightening.proofs.tighten.strengthen.Reads as reads
 use Rattle.tightening.proofs.tighten.strengthen.Goals as goal
-
-abbrev After-gather_lone : Type 0
-After-gather_lone = lts.After-gather_lone tie.the-claims reads.Pre reads.Post
-
--- the words of the row that was gathered add
-row : (c : After-gather_lone) → Row c.args.n c.args.live.now c.gather_lone.new.row
-row c =
-    lone_adds _ _ _ _ c.requires.0 (omega (arith, c.gather_lone.auto.row, c.requires.2)) c.gather_lone.ensures
 
 pub pair_blocks-requires : goal.pair_blocks-requires
 pair_blocks-requires c =
+    let row : Row c.args.n c.args.live.now c.gather_lone.new.row = lone_adds _ _ _ _ c.requires.0 (omega arith) c.gather_lone.ensures in
     record {
       listed = c.requires.1.listed;
       room = c.requires.0.room;
-      plus_row = row c.before.before.before;
-      minus_row = row c.before.before.before;
+      plus_row = row;
+      minus_row = row;
       plus_alone = λ q. clash q refl;
       minus_alone = λ q. clash q refl;
     }

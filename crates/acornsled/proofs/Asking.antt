@@ -13,6 +13,7 @@ use Rattle.tables.proofs.Refusing.{decided_as}
 use Rattle.questions.specs.declared.reply.Answers.{Answers}
 use Rattle.questions.specs.Replies.{Asked, asked_returned, asked_number, asked_value, answers_after}
 use Rattle.questions.specs.Promises.{QuestionsAsked}
+use Rattle.questions.proofs.Told.{value_told}
 use Rattle.acornsled.specs.Promises.{TellsRefusal, AskAnswer}
 use Rattle.acornsled.proofs.Promised.{number}
 
@@ -21,17 +22,12 @@ asked_told : (x : Asked) (f : Refusal) → TellsRefusal (asked_number x) (asked_
 asked_told (Ok a) f = (λ e. absurd (refusal-number f (sym e.0)), λ e. absurd (refusal-number f (sym (ap number e))))
 asked_told (Err g) f = (λ e. ap refused_as (same_refusal_value g f e.0 e.1), λ e. let d = same_refusal g f e in (rw d, rw d))
 
--- its line or length is that of an answer that may be refused
-asked-value : (x : Asked) → answer_value x ≡ asked_value x
-asked-value (Ok a) = refl
-asked-value (Err f) = refl
-
 module _ {n : ℕ} {t list w : List ℤ} {before : ℕ} {w' : List ℤ} {asked : Asked} (q : QuestionsAsked n t list w asked w') where
   -- refused: the answers stay
   pub ask_refused : {f : Refusal} {r v : ℕ} → asked ≡ Err f → r ≡ refusal_number f → v ≡ answer_value asked → AskAnswer n t list w before r v w' before
   ask_refused {f} {r} {v} e k h =
       let d : r ≡ asked_number asked = k ∙ sym (ap asked_number e) in
-      let g : v ≡ asked_value asked = h ∙ asked-value asked in
+      let g : v ≡ asked_value asked = h ∙ value_told asked in
       record {
         number = d ∙ ap asked_number q.reply;
         value = g ∙ ap asked_value q.reply;
@@ -57,4 +53,4 @@ module _ {n : ℕ} {t list w : List ℤ} {before : ℕ} {w' : List ℤ} {asked :
       }
 
   pub ask_answered : {a : Answers} {v : ℕ} → asked ≡ Ok a → v ≡ answer_value asked → AskAnswer n t list w before 0 v w' a.bits
-  ask_answered {v = v} e h = answered_as 0 v e (sym (ap asked_number e)) (h ∙ asked-value asked)
+  ask_answered {v = v} e h = answered_as 0 v e (sym (ap asked_number e)) (h ∙ value_told asked)

@@ -47,8 +47,10 @@ use Rattle.scripts.proofs.OwnRoom.{same_reply}
 use Rattle.reading.specs.Reading.{Reading, read_reply, reading_returned, reading_number, reading_value}
 use Rattle.reading.specs.Meaning.{Readable, rules_of, RefusedFor, AcceptedAs}
 use Rattle.reading.specs.Promises.{ReadInto}
+use Rattle.reading.proofs.Told.{value_told}
 use Rattle.writing.specs.Writing.{Writing, writing_returned, writing_number, writing_value}
 use Rattle.writing.specs.Promises.{TextWritten}
+use Rattle.writing.proofs.Told.{number_told}
 use Rattle.bank.specs.Banking.{bank_reply}
 use Rattle.bank.specs.Meaning.{BankRefusedFor, BankAcceptedAs}
 use Rattle.bank.specs.Promises.{BankRead}
@@ -112,17 +114,12 @@ assignment_answer n t w u w' u' reply r v k e d = record {
 
 -- ---- reading
 
--- a reply's line or length is that of an answer that may be refused
-reading-value : (x : Reading) → answer_value x ≡ reading_value x
-reading-value (Ok sheet) = refl
-reading-value (Err f) = refl
-
 -- a text that is refused leaves n and the hidden set
 pub reading_refused : {reply : Reading} {n set r v : ℕ} {f : Refusal} → reply ≡ Err f → r ≡ refusal_number f → v ≡ answer_value reply
     → ReadingTold reply n set r v n set
 reading_refused {reply} {n} {set} q e d = record {
   number = e ∙ sym (ap reading_number q);
-  value = d ∙ reading-value reply;
+  value = d ∙ value_told reply;
   count = sym (ap (count_read n) q);
   hidden = sym (ap (set_read set) q);
 }
@@ -132,7 +129,7 @@ pub reading_accepted : {reply : Reading} {n set v : ℕ} {sheet : Header} → re
     → ReadingTold reply n set 0 v sheet.quantities sheet.hidden
 reading_accepted {reply} {n} {set} q d = record {
   number = sym (ap reading_number q);
-  value = d ∙ reading-value reply;
+  value = d ∙ value_told reply;
   count = sym (ap (count_read n) q);
   hidden = sym (ap (set_read set) q);
 }
@@ -172,13 +169,9 @@ bank_answer s t t' n set n' set' reply r v k e =
 
 -- ---- writing
 
-writing-number : (x : Writing) → answer_number x ≡ writing_number x
-writing-number (Ok m) = refl
-writing-number (Err f) = refl
-
 pub write_answer : (n set : ℕ) (t : List ℤ) (out out' : List ℕ) (reply : Writing) (r v : ℕ) → TextWritten n set t out reply out'
     → r ≡ answer_number reply → v ≡ writing_value reply → WriteAnswer n set t out r v out'
-write_answer n set t out out' reply r v k c d = let e : r ≡ writing_number reply = c ∙ writing-number reply in record {
+write_answer n set t out out' reply r v k c d = let e : r ≡ writing_number reply = c ∙ number_told reply in record {
   number = e ∙ ap writing_number k.reply;
   value = d ∙ ap writing_value k.reply;
   decided = rw (e, d) (decided_as k.decided (writing_told reply) Iff.rfl);

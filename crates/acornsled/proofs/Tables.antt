@@ -23,6 +23,7 @@ use Rattle.marking.specs.Verdicts.{Marking, verdict_number, carried_words, marki
 use Rattle.marking.specs.Meaning.{mark_needs}
 use Rattle.marking.specs.Promises.{TablesMarked}
 use Rattle.marking.proofs.Carried.{verdict_from, verdict_refusal, words_values, loose_words}
+use Rattle.marking.proofs.Told.{value_told}
 use Rattle.acornsled.specs.Promises.{TellsRefusal, rule_given, MarkTablesAnswer}
 use Rattle.acornsled.proofs.Promised.{number, means_told}
 
@@ -88,20 +89,15 @@ tables_answer n set sheet script w u rule w' u' rule' reply r v m e d c = record
   never = rw e (marked_never reply m);
 }
 
--- a reply's line or length is that of an answer that may be refused
-marking-value : (x : Marking) → answer_value x ≡ marking_value x
-marking-value (Ok v) = refl
-marking-value (Err f) = refl
-
 module _ {n set : ℕ} {sheet script w u rule w' u' : List ℤ} {reply : Marking} (m : TablesMarked n set sheet script w u reply w' u') where
   -- a refusal leaves the rule's words
   pub tables_refused : {f : Refusal} {r v : ℕ} → reply ≡ Err f → r ≡ refusal_number f → v ≡ answer_value reply
       → MarkTablesAnswer n set sheet script w u rule r v w' u' rule
   tables_refused {f} {r} {v} q e d =
-      tables_answer n set sheet script w u rule w' u' rule reply r v m (e ∙ sym (ap marking_number q)) (d ∙ marking-value reply) (sym (ap (rule_given rule) q))
+      tables_answer n set sheet script w u rule w' u' rule reply r v m (e ∙ sym (ap marking_number q)) (d ∙ value_told reply) (sym (ap (rule_given rule) q))
 
   -- a verdict gives those of the rule that it carries
   pub tables_marked : {rule' : List ℤ} {verdict : Verdict} {r v : ℕ} → reply ≡ Ok verdict → r ≡ verdict_number verdict → v ≡ answer_value reply
       → rule' ≡ carried_words rule verdict → MarkTablesAnswer n set sheet script w u rule r v w' u' rule'
   tables_marked {rule'} {verdict} {r} {v} q e d c =
-      tables_answer n set sheet script w u rule w' u' rule' reply r v m (e ∙ sym (ap marking_number q)) (d ∙ marking-value reply) (c ∙ sym (ap (rule_given rule) q))
+      tables_answer n set sheet script w u rule w' u' rule' reply r v m (e ∙ sym (ap marking_number q)) (d ∙ value_told reply) (c ∙ sym (ap (rule_given rule) q))

@@ -10,7 +10,7 @@ pub fn are_marks(marks: &[u8], m: usize) -> bool
 }
 
 // Copies the first `m` bytes.
-// Kept: beside `words::copy`, which takes lists of any lengths: each is one call of the library, and one function for both would be no plainer.
+// Kept: beside `words::copy`, which takes lists of any lengths, of words: this is one call of the library, and one function for both would be no plainer.
 pub fn copy(to: &mut [u8], from: &[u8], m: usize)
     requires { (m ≤ length to.old) × (m ≤ length from.now) }
     ensures { BytesCopied m from.now to.old to.new }

@@ -16,6 +16,7 @@ pub mod CheckedTexts
 pub mod Replies
 pub mod Numbers
 pub mod Promised
+pub mod Told
 pub mod RuleLines
 pub mod OrderedLines
 pub mod CheckedHeaders

@@ -5,6 +5,7 @@ use mathlib.Core.Logic.{◌≢◌}
 use mathlib.Core.Bool.{Bool, true, false, cond}
 use Prim.Native.Nat.{ℕ, zero, suc, ◌+◌, ◌-◌, ◌≤◌, ◌<◌, min}
 use native.Mathlib.Nat.{add-zero, zero-add}
+use native.Mathlib.Numerals.{add-one}
 use native.Mathlib.Omega.{arith}
 use lib.Dec.{eqb, ltb}
 use lib.IntN.{ℤ, pos}
@@ -191,24 +192,23 @@ module _ (k : ℕ) (u t : List ℤ) (same : length u ≡ k) where
       let e : k + (j - k) ≡ j = omega arith in
       get_or-append_right u (drop k t) k j (pos 0) same h ∙ get_or-drop k t (j - k) (pos 0) ∙ ap (word_at t) e
 
--- as many of the first m words as both lists have, copied
-pub copied : (m k : ℕ) (s t u : List ℤ) → k ≡ min (min m (length t)) (length s) → u ≡ take k s → u ++ drop k t ≡ change m (copying s) t
-copied m k s t u e w = change_is m (copying s) t (u ++ drop k t) (simp (length-append, length-drop) (omega (arith, same))) below past
+-- of the first m words as many as both lists have are copied: one more,
+pub copied_more : (k : ℕ) (s t u : List ℤ) → u ≡ change k (copying s) t → k < length t → k < length s → set u k (word_at s k) ≡ change (k + 1) (copying s) t
+copied_more k s t u e l h = rw (e, add-one k) (rw (lt-ltb k (length s) h) at (change_more k (copying s) t l))
+
+-- and all
+pub copied : (m k : ℕ) (s t : List ℤ) → k ≡ min (min m (length t)) (length s) → change k (copying s) t ≡ change m (copying s) t
+copied m k s t e = change_is m (copying s) t (change k (copying s) t) (change_length k (copying s) t) below past
   where
-    same : length u ≡ k
-    same = ap length w ∙ length-take-le k s (omega arith)
+    go : (j : ℕ) → j < m → j < length t → (b : Bool) → ltb j k ≡ b → word_at (change k (copying s) t) j ≡ copying s j (word_at t j)
+    go j p l true q = change_below k (copying s) t j (ltb-true j k q) l
+    go j p l false q = change_past k (copying s) t j (ltb-false j k q) ∙ rw (le-ltb j (length s) (omega (arith, ltb-false j k q)))
 
-    go : (j : ℕ) → j < m → j < length t → (b : Bool) → ltb j (length s) ≡ b → word_at (u ++ drop k t) j ≡ cond b (word_at s j) (word_at t j)
-    go j p l true q =
-        let h : j < k = omega (arith, ltb-true j (length s) q) in
-        front_at k u t same j h ∙ ap (λ (v : List ℤ). word_at v j) w ∙ get_or-take k s j (pos 0) h
-    go j p l false q = rest_at k u t same j (omega (arith, ltb-false j (length s) q))
+    below : (j : ℕ) → j < m → j < length t → word_at (change k (copying s) t) j ≡ copying s j (word_at t j)
+    below j p l = go j p l (ltb j k) refl
 
-    below : (j : ℕ) → j < m → j < length t → word_at (u ++ drop k t) j ≡ copying s j (word_at t j)
-    below j p l = go j p l (ltb j (length s)) refl
-
-    past : (j : ℕ) → m ≤ j → j < length t → word_at (u ++ drop k t) j ≡ word_at t j
-    past j p l = rest_at k u t same j (omega arith)
+    past : (j : ℕ) → m ≤ j → j < length t → word_at (change k (copying s) t) j ≡ word_at t j
+    past j p l = change_past k (copying s) t j (omega arith)
 
 -- the words from a place on, up to another one or the end, set
 pub filled : (from to k : ℕ) (w : ℤ) (t u : List ℤ) → from < min to (length t) → k ≡ min to (length t) - from → length u ≡ length (take k (drop from t))

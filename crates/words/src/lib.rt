@@ -32,5 +32,8 @@ pub fn copy(t: &mut [i64], from: &[i64], m: usize)
     ensures { t.new ≡ change m (copying from.now) t.old }
 {
     let end = m.min(t.len()).min(from.len());
-    t[..end].copy_from_slice(&from[..end]);
+    // Kept: a loop, since the library's `copy_from_slice` has the archive for C need `memmove` from outside, where it needs `memcpy` and `memset` alone (docs/HOSTS.md).
+    for i in 0..end {
+        t[i] = from[i];
+    }
 }

@@ -13,5 +13,6 @@ pub mod TightLengths
 pub mod Past
 pub mod Numbers
 pub mod Promised
+pub mod Told
 pub mod Frauds
 pub mod Examples
